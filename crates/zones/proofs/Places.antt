@@ -1,0 +1,126 @@
+-- What stands at each place of a square after an operation that sets places.
+-- Assumes nothing.
+use Prim.Native.Nat.{ℕ, zero, suc, _+_, _*_, _/_, _%_, _<_, _≤_}
+use mathlib.Core.Path.{_≡_, refl, sym, ap, _∙_, subst}
+use mathlib.Core.Bool.{Bool, true, false, cond}
+use mathlib.Core.List.{List}
+use lib.ListN.{length, getD, set, length-set, length-replicate, getD-replicate}
+use lib.Seq.{getD-set-same, getD-set-other}
+use native.Mathlib.Omega.{arith}
+use native.Mathlib.Decide.{ℕ-discrete, decLt}
+use native.Mathlib.Nat.{not-suc-le-zero}
+use Rattle.zones.specs.declared.pair.Pair.{Pair}
+use Rattle.zones.specs.declared.zone.Work.{Work}
+use Rattle.zones.specs.Fractions.{noLimit}
+use Rattle.zones.specs.Pairs.{zeroPair, atMost, smallerOf}
+use Rattle.zones.specs.Zones.{Limits, pairAt, entry, firstWork, lowerAt, raiseLimits, home, resetPlaces, resetOf}
+
+-- ---- one place set
+module _ (z : List Pair) (i j : ℕ) (q : Pair) (j< : j < 9) where
+  pub set-at : i * 9 + j < length z → pairAt (set z (i * 9 + j) q) i j ≡ q
+  unfolding pairAt
+  set-at h = getD-set-same z (i * 9 + j) q zeroPair h
+
+  pub set-off : (a b : ℕ) → b < 9 → (a ≡ i → b ≡ j → ⊥) → pairAt (set z (i * 9 + j) q) a b ≡ pairAt z a b
+  unfolding pairAt
+  set-off a b hb f = getD-set-other z (i * 9 + j) (a * 9 + b) q zeroPair (λ e. f (omega arith) (omega arith))
+
+-- ---- the first zone
+pub first-at : (a b : ℕ) → a < 9 → b < 9 → entry firstWork a b ≡ zeroPair
+unfolding firstWork pairAt
+first-at a b ha hb = getD-replicate 81 (a * 9 + b) zeroPair zeroPair (omega arith)
+
+pub first-size : length (firstWork .zone) ≡ 81
+unfolding firstWork
+first-size = length-replicate 81 zeroPair
+
+-- ---- one comparison
+module _ (w : Work) (i j : ℕ) (q : Pair) (size : length (w .zone) ≡ 81) where
+  pub lower-size : length (lowerAt i j q w .zone) ≡ 81
+  unfolding lowerAt
+  lower-size = length-set (w .zone) (i * 9 + j) (smallerOf (entry w i j) q .pair) ∙ size
+
+  pub lower-at : i < 9 → j < 9 → entry (lowerAt i j q w) i j ≡ smallerOf (entry w i j) q .pair
+  unfolding lowerAt
+  lower-at hi hj = set-at (w .zone) i j (smallerOf (entry w i j) q .pair) hj (omega arith)
+
+  pub lower-off : (a b : ℕ) → b < 9 → j < 9 → (a ≡ i → b ≡ j → ⊥) → entry (lowerAt i j q w) a b ≡ entry w a b
+  unfolding lowerAt
+  lower-off a b hb hj f = set-off (w .zone) i j (smallerOf (entry w i j) q .pair) hj a b hb f
+
+  -- what holds of the entry that is lowered and of every other holds of each
+  pub lower-place : i < 9 → j < 9 → (P : ℕ → ℕ → Pair → Type 0) → P i j (smallerOf (entry w i j) q .pair) → (a b : ℕ) → b < 9 → P a b (entry w a b) → P a b (entry (lowerAt i j q w) a b)
+  lower-place hi hj P p a b hb o = go (ℕ-discrete a i) (ℕ-discrete b j)
+    where
+      off : (a ≡ i → b ≡ j → ⊥) → P a b (entry (lowerAt i j q w) a b)
+      off g = rw (lower-off a b hb hj g) o
+
+      go : Dec (a ≡ i) → Dec (b ≡ j) → P a b (entry (lowerAt i j q w) a b)
+      go (yes y) (yes z) = rw (y, z, lower-at hi hj) p
+      go (yes y) (no z) = off (λ g k. z k)
+      go (no y) z = off (λ g k. y g)
+
+-- ---- each (clock, 0) put to (hi, 1): whatever loop makes it, this is all that the theory uses
+pub record RaisedBy (c : ℕ) (L : Limits) (w w′ : Work) : Type 0 where
+  pub size : length (w′ .zone) ≡ 81
+  pub fraction : w′ .fraction ≡ w .fraction
+  pub column : (x : ℕ) → 0 < x → x < suc c → entry w′ x 0 ≡ atMost (L .hi x)
+  pub rest : (a b : ℕ) → b < 9 → (0 < a → a < suc c → 0 < b) → entry w′ a b ≡ entry w a b
+
+raised-next : (L : Limits) (c : ℕ) (w u : Work) → suc c < 9 → RaisedBy c L w u → RaisedBy (suc c) L w (record { zone = set (u .zone) (suc c * 9 + 0) (atMost (L .hi (suc c))); fraction = u .fraction })
+raised-next L c w u h r = record {
+  size = length-set (u .zone) (suc c * 9 + 0) q ∙ r .size;
+  fraction = r .fraction;
+  column = λ x px hx. at x px hx (ℕ-discrete x (suc c));
+  rest = λ a b hb f. set-off (u .zone) (suc c) 0 q (omega arith) a b hb (λ e g. absurd (omega (arith, f (omega arith) (omega arith)))) ∙ r .rest a b hb (λ p g. f p (omega arith));
+}
+  where
+    q : Pair
+    q = atMost (L .hi (suc c))
+
+    at : (x : ℕ) → 0 < x → x < suc (suc c) → Dec (x ≡ suc c) → pairAt (set (u .zone) (suc c * 9 + 0) (atMost (L .hi (suc c)))) x 0 ≡ atMost (L .hi x)
+    at x px hx (yes e) = rw e (set-at (u .zone) (suc c) 0 q (omega arith) (omega (arith, r .size)))
+    at x px hx (no f) = set-off (u .zone) (suc c) 0 q (omega arith) x 0 (omega arith) (λ e g. f e) ∙ r .column x px (omega arith)
+
+pub raised-by : (L : Limits) (w : Work) → length (w .zone) ≡ 81 → (c : ℕ) → c < 9 → RaisedBy c L w (raiseLimits L c w)
+unfolding raiseLimits
+raised-by L w size zero h = record { size = size; fraction = refl; column = λ x px hx. absurd (omega arith); rest = λ a b hb f. refl }
+raised-by L w size (suc c) h = raised-next L c w (raiseLimits L c w) h (raised-by L w size c (omega arith))
+
+-- ---- reset
+pub record ResetBy (n : ℕ) (R : ℕ → Bool) (w w′ : Work) : Type 0 where
+  pub size : length (w′ .zone) ≡ 81
+  pub fraction : w′ .fraction ≡ w .fraction
+  pub at : (a b : ℕ) → a < n → b < 9 → entry w′ a b ≡ entry w (home R a) (home R b)
+
+record PlacesDone (R : ℕ → Bool) (y : List Pair) (k : ℕ) (z : List Pair) : Type 0 where
+  size : length z ≡ 81
+  done : (m : ℕ) → m < k → getD z m zeroPair ≡ pairAt y (home R (m / 9)) (home R (m % 9))
+
+places-next : (R : ℕ → Bool) (y : List Pair) (k : ℕ) (u : List Pair) → k < 81 → PlacesDone R y k u → PlacesDone R y (suc k) (set u k (pairAt y (home R (k / 9)) (home R (k % 9))))
+places-next R y k u h d = record { size = length-set u k q ∙ d .size; done = λ m hm. at m hm (ℕ-discrete m k) }
+  where
+    q : Pair
+    q = pairAt y (home R (k / 9)) (home R (k % 9))
+
+    at : (m : ℕ) → m < suc k → Dec (m ≡ k) → getD (set u k (pairAt y (home R (k / 9)) (home R (k % 9)))) m zeroPair ≡ pairAt y (home R (m / 9)) (home R (m % 9))
+    at m hm (yes e) = rw e (getD-set-same u k q zeroPair (omega (arith, d .size)))
+    at m hm (no f) = getD-set-other u k m q zeroPair f ∙ d .done m (omega arith)
+
+places-done : (R : ℕ → Bool) (y z : List Pair) → length z ≡ 81 → (k : ℕ) → k ≤ 81 → PlacesDone R y k (resetPlaces R y k z)
+unfolding resetPlaces
+places-done R y z size zero h = record { size = size; done = λ m hm. absurd (not-suc-le-zero hm) }
+places-done R y z size (suc k) h = places-next R y k (resetPlaces R y k z) h (places-done R y z size k (omega arith))
+
+pub reset-by : (n : ℕ) → n ≤ 9 → (R : ℕ → Bool) (w : Work) → length (w .zone) ≡ 81 → ResetBy n R w (resetOf n R w)
+unfolding resetOf pairAt
+reset-by n n≤ R w size = record { size = d .size; fraction = refl; at = at }
+  where
+    d : PlacesDone R (w .zone) (n * 9) (resetPlaces R (w .zone) (n * 9) (w .zone))
+    d = places-done R (w .zone) (w .zone) size (n * 9) (omega arith)
+
+    at : (a b : ℕ) → a < n → b < 9 → entry (resetOf n R w) a b ≡ entry w (home R a) (home R b)
+    at a b ha hb =
+        let x : (a * 9 + b) / 9 ≡ a = omega arith in
+        let y : (a * 9 + b) % 9 ≡ b = omega arith in
+        d .done (a * 9 + b) (omega arith) ∙ (λ i. entry w (home R (x i)) (home R (y i)))

@@ -1,0 +1,31 @@
+-- Assumes nothing.
+use borrow.Author.Needs.{needs}
+use lib.IntN.{pos, negℤ, _-ℤ_, +ℤ-idl}
+use mathlib.Core.Path.{_≡_, _∙_}
+use mir.Syntax.{w64}
+use mir.Val.{SFits}
+use mir.Facts.{toZ-ofZ, toZ-pos}
+use native.Mathlib.Omega.{arith}
+use Rattle.zones.specs.Integers.{abs-fits, abs-minus}
+use Rattle.zones.proofs.Choices.{pair-is}
+use Rattle.zones.proofs.pair.Pair.at_least.Statement.{statement}
+use Rattle.zones.proofs.pair.Pair.at_least.Tie as tie
+use Rattle.zones.proofs.pair.Pair.at_least.Reads as reads
+use Rattle.zones.proofs.pair.Pair.at_least.Lts as lts
+
+cast-t2 : tie.Need-cast-t2
+cast-t2 c = search needs
+
+sub-t3 : tie.Need-sub-t3
+sub-t3 c =
+    let n = c .args .lo in
+    rw (toZ-pos w64 {n = n} (omega arith)) (abs-fits w64 (pos 0 -ℤ pos n) (omega (arith, abs-minus (pos 0) (pos n))))
+
+returns : tie.Need-returns
+returns c =
+    let n = c .args .lo in
+    let g : SFits w64 (pos 0 -ℤ pos n) = abs-fits w64 (pos 0 -ℤ pos n) (omega (arith, abs-minus (pos 0) (pos n))) in
+    rw (toZ-pos w64 {n = n} (omega arith)) (pair-is 1 (toZ-ofZ g ∙ +ℤ-idl (negℤ (pos n))))
+
+pub at-least-spec : {M : Type 1} → statement M
+at-least-spec = tie.close (tie.spec cast-t2 sub-t3 returns)

@@ -1,0 +1,19 @@
+-- Assumes nothing.
+use borrow.Author.Needs.{needs}
+use mir.Syntax.{w64}
+use mir.Facts.{toZ-pos}
+use native.Mathlib.Omega.{arith}
+use Rattle.zones.proofs.Choices.{pair-is}
+use Rattle.zones.proofs.pair.Pair.at_most.Statement.{statement}
+use Rattle.zones.proofs.pair.Pair.at_most.Tie as tie
+use Rattle.zones.proofs.pair.Pair.at_most.Reads as reads
+use Rattle.zones.proofs.pair.Pair.at_most.Lts as lts
+
+cast-t2 : tie.Need-cast-t2
+cast-t2 c = search needs
+
+returns : tie.Need-returns
+returns c = pair-is 1 (toZ-pos w64 {n = c .args .hi} (omega arith))
+
+pub at-most-spec : {M : Type 1} → statement M
+at-most-spec = tie.close (tie.spec cast-t2 returns)

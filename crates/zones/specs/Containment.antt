@@ -1,0 +1,41 @@
+-- "if each pair is the smaller or equal beside that of a kept zone of its location .., it is dropped and that test's thresholds lower the fraction", "a zone to be kept has an error count above 65,535".
+-- A place k of a square of n indices is row k / 9 and column k % 9; it counts if its column is below n.
+use Prim.Native.Nat.{ℕ, zero, suc, _*_, _%_}
+use mathlib.Core.Bool.{Bool, true, false, cond}
+use mathlib.Core.List.{List}
+use lib.Dec.{ltb}
+use lib.ListN.{getD}
+use Rattle.zones.specs.declared.fraction.Fraction.{Fraction}
+use Rattle.zones.specs.declared.pair.Pair.{Pair}
+use Rattle.zones.specs.Fractions.{loweredBy}
+use Rattle.zones.specs.Pairs.{zeroPair, isLess, thresholdOf}
+
+abbrev pub placeOf : List Pair → ℕ → Pair
+placeOf z k = getD z k zeroPair
+
+-- each pair of z among the first k places is the smaller or equal beside y's
+unfoldable pub withinTo : ℕ → ℕ → List Pair → List Pair → Bool
+withinTo n zero z y = true
+withinTo n (suc k) z y = cond (ltb (k % 9) n) (cond (isLess (placeOf y k) (placeOf z k)) false (withinTo n k z y)) (withinTo n k z y)
+
+abbrev pub within : ℕ → List Pair → List Pair → Bool
+within n z y = withinTo n (n * 9) z y
+
+-- the fraction after a test that holds: z's pairs were chosen
+unfoldable pub loweredTo : ℕ → ℕ → List Pair → List Pair → Fraction → Fraction
+loweredTo n zero z y f = f
+loweredTo n (suc k) z y f = cond (ltb (k % 9) n) (loweredBy (loweredTo n k z y f) (thresholdOf (placeOf z k) (placeOf y k))) (loweredTo n k z y f)
+
+abbrev pub loweredWithin : ℕ → List Pair → List Pair → Fraction → Fraction
+loweredWithin n z y f = loweredTo n (n * 9) z y f
+
+unfoldable pub larger : ℕ → ℕ → ℕ
+larger a b = cond (ltb a b) b a
+
+-- the largest error count among the first k places
+unfoldable pub countTo : ℕ → ℕ → List Pair → ℕ
+countTo n zero z = 0
+countTo n (suc k) z = cond (ltb (k % 9) n) (larger (countTo n k z) (placeOf z k .p)) (countTo n k z)
+
+abbrev pub largestCount : ℕ → List Pair → ℕ
+largestCount n z = countTo n (n * 9) z

@@ -1,0 +1,69 @@
+-- How large the numbers get, with the bounds as parameters: document 01's and those of a later scale differ only in `scale` and `counts`.
+use Prim.Native.Nat.{ℕ, _*_, _≤_, _<_, _^_}
+use lib.IntN.{pos, natAbs}
+use lib.Signed.{_≤ℤ_}
+use Rattle.zones.specs.declared.fraction.Fraction.{Fraction}
+use Rattle.zones.specs.declared.pair.Pair.{Pair}
+use Rattle.zones.specs.declared.zone.Work.{Work}
+use Rattle.zones.specs.Integers.{up, down}
+use Rattle.zones.specs.Zones.{entry}
+
+-- "lo and hi run from 0 to 1,000,000"
+abbrev pub scale : ℕ
+scale = 1000000
+
+-- "an error count above 65,535" is not kept
+abbrev pub counts : ℕ
+counts = 65535
+
+-- |m| ≤ C and p ≤ P
+pub record Bounded (C P : ℕ) (a : Pair) : Type 0 where
+  pub m : natAbs (a .m) ≤ C
+  pub p : a .p ≤ P
+
+-- n ≤ N and d ≤ D
+pub record Narrow (N D : ℕ) (f : Fraction) : Type 0 where
+  pub n : f .n ≤ N
+  pub d : f .d ≤ D
+
+-- pairs whose sums and differences fit 64 bits, and fractions whose products do
+abbrev pub Small : Pair → Type 0
+Small = Bounded (2 ^ 60) (2 ^ 60)
+
+abbrev pub widest : ℕ
+widest = 4294967295
+
+abbrev pub Fits32 : Fraction → Type 0
+Fits32 = Narrow widest widest
+
+-- ---- inside a reduction: a sum of at most K entries of the square that it began with, and no larger than one
+pub record Spread (C P K : ℕ) (a : Pair) : Type 0 where
+  pub high : up (a .m) ≤ C
+  pub deep : down (a .m) ≤ K * C
+  pub p : a .p ≤ K * P
+
+-- a reduction of nine indices that begins with |m| ≤ C and p ≤ P has thresholds up to 19 C / 1 and 1 / 18 P: these are within N and D
+pub record Room (N D C P : ℕ) : Type 0 where
+  pub n : 19 * C ≤ N
+  pub d : 18 * P ≤ D
+  pub one : 0 < C
+  pub count : 0 < P
+
+-- ---- what the code asks. The third reduction of a step begins with error counts of up to 100 times a kept zone's
+abbrev pub stepCounts : ℕ
+stepCounts = 100 * counts
+
+-- a reduction among n indices
+pub record Ready (w : Work) (n : ℕ) : Type 0 where
+  pub n≤ : n ≤ 9
+  pub bounded : (a b : ℕ) → a < n → b < n → Bounded scale stepCounts (entry w a b)
+  pub fraction : Fits32 (w .fraction)
+  pub diagonal : (a : ℕ) → a < n → pos 0 ≤ℤ entry w a a .m
+
+-- one round of it, by the middle index k
+pub record RoundReady (w : Work) (n k : ℕ) : Type 0 where
+  pub n≤ : n ≤ 9
+  pub k< : k < n
+  pub spread : (a b : ℕ) → a < n → b < n → Spread scale stepCounts 9 (entry w a b)
+  pub fraction : Fits32 (w .fraction)
+  pub diagonal : pos 0 ≤ℤ entry w k k .m

@@ -1,0 +1,108 @@
+use crate::fraction::Fraction;
+ghost use mathlib.Core.Path.{_≡_};
+ghost use lib.Signed.{_≤ℤ_};
+ghost use Rattle.zones.specs.Pairs.{zeroPair, atMost, atLeast, sumOf, isLess, thresholdOf, smallerOf};
+ghost use Rattle.zones.specs.Ranges.{Small};
+
+// A pair stands for m + p × error.
+pub struct Pair {
+    pub m: i64,
+    pub p: u64,
+}
+
+// The smaller of two pairs, and the comparison's threshold.
+pub struct Choice {
+    pub pair: Pair,
+    pub threshold: Fraction,
+}
+
+impl Pair {
+    // What each entry of the first zone is.
+    pub fn zero() -> Pair
+        ensures { λ r. ⌜ r ≡ zeroPair ⌝ }
+    {
+        Pair { m: 0, p: 0 }
+    }
+
+    // An upper limit hi, loosened by the error.
+    pub fn at_most(hi: u32) -> Pair
+        ensures { λ r. ⌜ r ≡ atMost hi ⌝ }
+    {
+        Pair { m: hi as i64, p: 1 }
+    }
+
+    // A lower limit lo, as a bound on 0 less the clock.
+    pub fn at_least(lo: u32) -> Pair
+        ensures { λ r. ⌜ r ≡ atLeast lo ⌝ }
+    {
+        Pair {
+            m: 0 - (lo as i64),
+            p: 1,
+        }
+    }
+
+    // Entry by entry.
+    pub fn sum(self, o: Pair) -> Pair
+        requires { ⌜ Small self × Small o ⌝ }
+        ensures { λ r. ⌜ r ≡ sumOf self o ⌝ }
+    {
+        Pair {
+            m: self.m + o.m,
+            p: self.p + o.p,
+        }
+    }
+
+    // Whether this pair is the smaller: the smaller m, and at equal m the smaller p.
+    pub fn is_less(self, o: Pair) -> bool
+        ensures { λ r. ⌜ r ≡ isLess self o ⌝ }
+    {
+        let a = self.m;
+        let b = o.m;
+        let p = self.p;
+        let r = o.p;
+        if a < b {
+            return true;
+        }
+        if b < a {
+            return false;
+        }
+        p < r
+    }
+
+    // The threshold of a comparison in which this pair was chosen and o was not.
+    pub fn threshold(self, o: Pair) -> Fraction
+        requires { ⌜ Small self × Small o × (self .m ≤ℤ o .m) ⌝ }
+        ensures { λ r. ⌜ r ≡ thresholdOf self o ⌝ }
+    {
+        let a = self.m;
+        let b = o.m;
+        let p = self.p;
+        let r = o.p;
+        if r < p {
+            Fraction {
+                n: (b - a) as u64,
+                d: p - r,
+            }
+        } else {
+            Fraction { n: 1, d: 0 }
+        }
+    }
+
+    // The smaller of this pair, which is there, and o.
+    pub fn smaller(self, o: Pair) -> Choice
+        requires { ⌜ Small self × Small o ⌝ }
+        ensures { λ r. ⌜ r ≡ smallerOf self o ⌝ }
+    {
+        if o.is_less(self) {
+            Choice {
+                pair: o,
+                threshold: o.threshold(self),
+            }
+        } else {
+            Choice {
+                pair: self,
+                threshold: self.threshold(o),
+            }
+        }
+    }
+}
