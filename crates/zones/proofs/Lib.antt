@@ -7,3 +7,6 @@ pub mod Progress
 pub mod Closure
 pub mod Size
 pub mod Ranges
+pub mod Lowest
+pub mod Inside
+pub mod Limits

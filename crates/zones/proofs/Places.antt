@@ -6,6 +6,7 @@ use mathlib.Core.Bool.{Bool, true, false, cond}
 use mathlib.Core.List.{List}
 use lib.ListN.{length, getD, set, length-set, length-replicate, getD-replicate}
 use lib.Seq.{getD-set-same, getD-set-other}
+use native.Mathlib.Numerals.{add-one}
 use native.Mathlib.Omega.{arith}
 use native.Mathlib.Decide.{ℕ-discrete, decLt}
 use native.Mathlib.Nat.{not-suc-le-zero}
@@ -88,6 +89,31 @@ raised-by L w size zero h = record { size = size; fraction = refl; column = λ x
 raised-by L w size (suc c) h = raised-next L c w (raiseLimits L c w) h (raised-by L w size c (omega arith))
 
 -- ---- reset
+module _ (R : ℕ → Bool) where
+  pub home-stays : (a : ℕ) → R a ≡ false → home R a ≡ a
+  unfolding home
+  home-stays a e = rw e
+
+  pub home-goes : (a : ℕ) → R a ≡ true → home R a ≡ 0
+  unfolding home
+  home-goes a e = rw e
+
+  pub home-zero : home R 0 ≡ 0
+  unfolding home
+  home-zero = go (R 0)
+    where
+      go : (c : Bool) → _≡_ {A = ℕ} (cond c 0 0) 0
+      go true = refl
+      go false = refl
+
+  pub home-below : (n a : ℕ) → a < n → home R a < n
+  unfolding home
+  home-below n a h = go (R a)
+    where
+      go : (c : Bool) → cond c 0 a < n
+      go true = omega arith
+      go false = h
+
 pub record ResetBy (n : ℕ) (R : ℕ → Bool) (w w′ : Work) : Type 0 where
   pub size : length (w′ .zone) ≡ 81
   pub fraction : w′ .fraction ≡ w .fraction
@@ -124,3 +150,13 @@ reset-by n n≤ R w size = record { size = d .size; fraction = refl; at = at }
         let x : (a * 9 + b) / 9 ≡ a = omega arith in
         let y : (a * 9 + b) % 9 ≡ b = omega arith in
         d .done (a * 9 + b) (omega arith) ∙ (λ i. entry w (home R (x i)) (home R (y i)))
+
+-- one place more, as the code counts it
+pub reset-next : (R : ℕ → Bool) (y : List Pair) (k : ℕ) (z : List Pair) {u : List Pair} {a b : ℕ} → u ≡ resetPlaces R y k z → a ≡ home R (k / 9) → b ≡ home R (k % 9) →
+    set u k (getD y (a * 9 + b) zeroPair) ≡ resetPlaces R y (k + 1) z
+unfolding resetPlaces pairAt
+reset-next R y k z e f g = rw add-one (λ i. set (e i) k (getD y (f i * 9 + g i) zeroPair))
+
+pub reset-all : (n : ℕ) (R : ℕ → Bool) (w : Work) {k : ℕ} {u : List Pair} → k ≡ n * 9 → u ≡ resetPlaces R (w .zone) k (w .zone) → record { zone = u; fraction = w .fraction } ≡ resetOf n R w
+unfolding resetOf
+reset-all n R w e f = λ i. record { zone = (f ∙ ap (λ (x : ℕ). resetPlaces R (w .zone) x (w .zone)) e) i; fraction = w .fraction }

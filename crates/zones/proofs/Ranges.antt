@@ -5,7 +5,7 @@ use mathlib.Core.Path.{_≡_, refl, sym, ap, _∙_, subst}
 use mathlib.Core.Bool.{Bool, true, false}
 use mathlib.Core.Logic.{⊎-elim}
 use lib.ListN.{length}
-use lib.IntN.{ℤ, pos, natAbs}
+use lib.IntN.{ℤ, pos, negℤ, natAbs}
 use lib.Signed.{_≤ℤ_}
 use native.Mathlib.Omega.{arith}
 use native.Mathlib.Nat.{mul-le-mul-right}
@@ -13,13 +13,14 @@ use Rattle.zones.specs.declared.fraction.Fraction.{Fraction}
 use Rattle.zones.specs.declared.pair.Pair.{Pair}
 use Rattle.zones.specs.declared.pair.Choice.{Choice}
 use Rattle.zones.specs.declared.reduction.Reduced.{Reduced}
+use Rattle.zones.specs.declared.zone.Bounds.{Bounds}
 use Rattle.zones.specs.declared.zone.Work.{Work}
-use Rattle.zones.specs.Integers.{up, down, abs-law, abs-gap}
+use Rattle.zones.specs.Integers.{up, down, abs-law, abs-gap, neg-law}
 use Rattle.zones.specs.Fractions.{loweredBy}
-use Rattle.zones.specs.Pairs.{sumOf, smallerOf, thresholdOf}
-use Rattle.zones.specs.Zones.{entry, lowerAt}
+use Rattle.zones.specs.Pairs.{atMost, atLeast, sumOf, smallerOf, thresholdOf}
+use Rattle.zones.specs.Zones.{entry, lowerAt, upperMet}
 use Rattle.zones.specs.Reductions.{relaxed, rowSteps, roundSteps, afterMiddle, reduceSteps}
-use Rattle.zones.specs.Ranges.{Bounded, Narrow, Small, Fits32, Spread, Room, scale, stepCounts, widest, Ready, RoundReady}
+use Rattle.zones.specs.Ranges.{Bounded, Narrow, Small, Fits32, Spread, Room, scale, stepCounts, lastCounts, widest, Ready, RoundReady, LimitsReady}
 use Rattle.zones.proofs.Choices.{less-shows, not-less-shows, threshold-cases, smaller-cases, lowered-cases}
 use Rattle.zones.proofs.Rounds.{RowDone, row-done, row-same, reads-at, reads-to, reads-from, RoundDone, round-done, middle, still, round-same}
 use Rattle.zones.proofs.Progress.{Alive, along, after-live, after-empty}
@@ -35,10 +36,17 @@ pub threshold-narrow : (N D : ℕ) (a b : Pair) → 0 < N → a .m ≤ℤ b .m �
 threshold-narrow N D a b z l h k =
     threshold-cases a b (Narrow N D) (λ t. record { n = omega (arith, abs-gap (a .m) (b .m) l); d = omega arith }) (λ t. record { n = z; d = omega arith })
 
+pub smaller-bounded : (C P : ℕ) (a b : Pair) → Bounded C P a → Bounded C P b → Bounded C P (smallerOf a b .pair)
+smaller-bounded C P a b h k = smaller-cases a b (λ c. Bounded C P (c .pair)) (λ e. k) (λ e. h)
+
 pub bounded-spread : (C P : ℕ) {a : Pair} → Bounded C P a → Spread C P 1 a
 bounded-spread C P {a} h = record { high = omega (arith, h .m, abs-law (a .m)); deep = omega (arith, h .m, abs-law (a .m)); p = omega (arith, h .p) }
 
 module _ (N D C P : ℕ) (room : Room N D C P) where
+  pub chosen-narrow : (a b : Pair) → Bounded C P a → Bounded C P b → a .m ≤ℤ b .m → Narrow N D (thresholdOf a b)
+  chosen-narrow a b h k l =
+      threshold-narrow N D a b (omega (arith, room .n, room .one)) l (omega (arith, room .n, h .m, k .m, abs-law (a .m), abs-law (b .m))) (omega (arith, room .d, h .p))
+
   pub choice-narrow : (a x y : Pair) → Spread C P 9 a → Spread C P 9 x → Spread C P 9 y → Narrow N D (smallerOf a (sumOf x y) .threshold)
   choice-narrow a x y h k l =
       let u = sum-up x y in
@@ -47,6 +55,10 @@ module _ (N D C P : ℕ) (room : Room N D C P) where
       smaller-cases a (sumOf x y) (λ c. Narrow N D (c .threshold))
       (λ e. threshold-narrow N D (sumOf x y) a (omega (arith, room .n, room .one)) (less-shows (sumOf x y) a e .0) (omega (arith, room .n)) (omega (arith, room .d)))
       (λ e. threshold-narrow N D a (sumOf x y) (omega (arith, room .n, room .one)) (not-less-shows a (sumOf x y) e .0) (omega (arith, room .n)) (omega (arith, room .d)))
+
+  -- two pairs of a square, or a limit
+  pub both-narrow : (a b : Pair) → Bounded C P a → Bounded C P b → Narrow N D (smallerOf a b .threshold)
+  both-narrow a b h k = smaller-cases a b (λ c. Narrow N D (c .threshold)) (λ e. chosen-narrow b a k h (less-shows b a e .0)) (λ e. chosen-narrow a b h k (not-less-shows a b e .0))
 
   -- ---- a round: what its steps read is as it was when it began
   module _ (n k : ℕ) (w : Work) (size : length (w .zone) ≡ 81) (n≤ : n ≤ 9) (k< : k < n) (diagonal : pos 0 ≤ℤ entry w k k .m)
@@ -120,6 +132,12 @@ module _ (N D C P : ℕ) (room : Room N D C P) where
             rw (after-live n k r e) (whole-narrow n k (r .work) (a .size) n≤ h (a .diagonal k h) (spread-at k h e) q)
 
 -- ---- what the code asks
+pub bounded-small : {a : Pair} → Bounded scale lastCounts a → Small a
+bounded-small h = record { m = omega (arith, h .m); p = omega (arith, h .p) }
+
+pub step-small : {a : Pair} → Bounded scale stepCounts a → Small a
+step-small h = record { m = omega (arith, h .m); p = omega (arith, h .p) }
+
 pub spread-small : {a : Pair} → Spread scale stepCounts 9 a → Small a
 spread-small {a} h = record { m = omega (arith, h .high, h .deep, abs-law (a .m)); p = omega (arith, h .p) }
 
@@ -131,6 +149,26 @@ sum-small a b h k = record {
 
 pub here : Room widest widest scale stepCounts
 here = record { n = omega arith; d = omega arith; one = omega arith; count = omega arith }
+
+pub last-here : Room widest widest scale lastCounts
+last-here = record { n = omega arith; d = omega arith; one = omega arith; count = omega arith }
+
+-- a limit on the scale is met
+pub most-bounded : (hi : ℕ) → hi ≤ scale → Bounded scale stepCounts (atMost hi)
+most-bounded hi h = record { m = omega (arith, abs-law (pos hi)); p = omega arith }
+
+pub least-bounded : (lo : ℕ) → lo ≤ scale → Bounded scale stepCounts (atLeast lo)
+least-bounded lo h = record { m = omega (arith, abs-law (negℤ (pos lo)), neg-law (pos lo)); p = omega arith }
+
+pub upper-ready : (b : Bounds) (lo hi : ℕ) (absent : Bool) → LimitsReady b lo hi absent → absent ≡ false → LimitsReady (upperMet hi b) lo 0 false
+unfolding upperMet
+upper-ready b lo hi absent r e = record {
+  upper = smaller-bounded scale stepCounts (b .upper) (atMost hi) (r .upper) (most-bounded hi (r .hi≤ e));
+  lower = r .lower;
+  fraction = lowered-narrow widest widest _ _ (r .fraction) (both-narrow widest widest scale stepCounts here (b .upper) (atMost hi) (r .upper) (most-bounded hi (r .hi≤ e)));
+  lo≤ = r .lo≤;
+  hi≤ = λ z. omega arith;
+}
 
 -- as the code counts: v is the zone after k middle indices
 module _ (n : ℕ) (w : Work) (size : length (w .zone) ≡ 81) (r : Ready w n) where

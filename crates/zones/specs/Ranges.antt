@@ -1,12 +1,16 @@
 -- How large the numbers get, with the bounds as parameters: document 01's and those of a later scale differ only in `scale` and `counts`.
 use Prim.Native.Nat.{ℕ, _*_, _≤_, _<_, _^_}
+use mathlib.Core.Path.{_≡_}
+use mathlib.Core.Bool.{Bool, false}
+use mathlib.Core.List.{List}
 use lib.IntN.{pos, natAbs}
 use lib.Signed.{_≤ℤ_}
 use Rattle.zones.specs.declared.fraction.Fraction.{Fraction}
 use Rattle.zones.specs.declared.pair.Pair.{Pair}
+use Rattle.zones.specs.declared.zone.Bounds.{Bounds}
 use Rattle.zones.specs.declared.zone.Work.{Work}
 use Rattle.zones.specs.Integers.{up, down}
-use Rattle.zones.specs.Zones.{entry}
+use Rattle.zones.specs.Zones.{pairAt, entry}
 
 -- "lo and hi run from 0 to 1,000,000"
 abbrev pub scale : ℕ
@@ -67,3 +71,24 @@ pub record RoundReady (w : Work) (n k : ℕ) : Type 0 where
   pub spread : (a b : ℕ) → a < n → b < n → Spread scale stepCounts 9 (entry w a b)
   pub fraction : Fits32 (w .fraction)
   pub diagonal : pos 0 ≤ℤ entry w k k .m
+
+-- a clock's limits to be met
+pub record LimitsReady (b : Bounds) (lo hi : ℕ) (absent : Bool) : Type 0 where
+  pub upper : Bounded scale stepCounts (b .upper)
+  pub lower : Bounded scale stepCounts (b .lower)
+  pub fraction : Fits32 (b .fraction)
+  pub lo≤ : lo ≤ scale
+  pub hi≤ : absent ≡ false → hi ≤ scale
+
+-- two zones to be compared; the error counts are those after a step's last reduction
+abbrev pub lastCounts : ℕ
+lastCounts = 1000 * counts
+
+abbrev pub AllBounded : ℕ → ℕ → ℕ → List Pair → Type 0
+AllBounded C P n z = (a b : ℕ) → a < n → b < n → Bounded C P (pairAt z a b)
+
+pub record Comparable (z y : List Pair) (n : ℕ) (f : Fraction) : Type 0 where
+  pub n≤ : n ≤ 9
+  pub new : AllBounded scale lastCounts n z
+  pub old : AllBounded scale lastCounts n y
+  pub fraction : Fits32 f

@@ -6,6 +6,7 @@ use lib.ListN.{getD, set, replicate}
 use Rattle.zones.specs.declared.fraction.Fraction.{Fraction}
 use Rattle.zones.specs.declared.pair.Pair.{Pair}
 use Rattle.zones.specs.declared.pair.Choice.{Choice}
+use Rattle.zones.specs.declared.zone.Bounds.{Bounds}
 use Rattle.zones.specs.declared.zone.Work.{Work}
 use Rattle.zones.specs.Fractions.{noLimit, loweredBy}
 use Rattle.zones.specs.Pairs.{zeroPair, atMost, atLeast, smallerOf}
@@ -44,6 +45,26 @@ meetUpper x hi absent w = cond absent w (lowerAt x 0 (atMost hi) w)
 unfoldable pub meetClock : ℕ → ℕ → ℕ → Bool → Work → Work
 meetClock x lo hi absent w = lowerAt 0 x (atLeast lo) (meetUpper x hi absent w)
 
+-- the same of the clock's two entries alone, (x, 0) and (0, x), with the running fraction
+unfoldable pub upperMet : ℕ → Bounds → Bounds
+upperMet hi b =
+    record {
+      upper = smallerOf (b .upper) (atMost hi) .pair;
+      lower = b .lower;
+      fraction = loweredBy (b .fraction) (smallerOf (b .upper) (atMost hi) .threshold);
+    }
+
+unfoldable pub lowerMet : ℕ → Bounds → Bounds
+lowerMet lo b =
+    record {
+      upper = b .upper;
+      lower = smallerOf (b .lower) (atLeast lo) .pair;
+      fraction = loweredBy (b .fraction) (smallerOf (b .lower) (atLeast lo) .threshold);
+    }
+
+unfoldable pub boundsMet : ℕ → ℕ → Bool → Bounds → Bounds
+boundsMet lo hi absent b = lowerMet lo (cond absent b (upperMet hi b))
+
 -- the limits of the first c clocks
 unfoldable pub meetLimits : Limits → ℕ → Work → Work
 meetLimits L zero w = w
@@ -59,6 +80,10 @@ raiseLimits L (suc x) w =
     }
 
 -- ---- "a reset clock's row and column become those of 0"
+-- the set of clocks that a list marks
+abbrev pub setOf : List Bool → ℕ → Bool
+setOf r x = getD r x false
+
 -- the index whose row and column a has after a reset of R
 unfoldable pub home : (ℕ → Bool) → ℕ → ℕ
 home R a = cond (R a) 0 a

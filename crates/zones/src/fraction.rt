@@ -1,5 +1,5 @@
 ghost use mathlib.Core.Path.{_≡_};
-ghost use Rattle.zones.specs.Fractions.{noLimit, loweredBy};
+ghost use Rattle.zones.specs.Fractions.{noLimit, loweredBy, gcdOf, lowestTerms};
 ghost use Rattle.zones.specs.Ranges.{Fits32};
 
 // The running fraction n/d: the error e/s must stay below it. 1/0 is no limit.
@@ -26,4 +26,34 @@ impl Fraction {
         }
         if o.n * self.d < self.n * o.d { o } else { self }
     }
+
+    // The same fraction in lowest terms; 1/0 stays 1/0.
+    pub fn lowest_terms(self) -> Fraction
+        ensures { λ r. ⌜ r ≡ lowestTerms self ⌝ }
+    {
+        let a = self.n;
+        let b = self.d;
+        let g = gcd(a, b);
+        // 0/0: nothing to divide by.
+        if g == 0 {
+            return self;
+        }
+        let n = a / g;
+        let d = b / g;
+        Fraction { n, d }
+    }
+}
+
+// The greatest common divisor, by Euclid's algorithm; that of x and 0 is x.
+fn gcd(x: u64, y: u64) -> u64
+    ensures { λ r. ⌜ r ≡ gcdOf x y ⌝ }
+{
+    let mut a = x;
+    let mut b = y;
+    while b != 0 {
+        let r = a % b;
+        a = b;
+        b = r;
+    }
+    a
 }

@@ -1,4 +1,5 @@
 // Pairs, fractions and zones: document 01, "Pairs and zones".
+pub mod containment;
 pub mod fraction;
 pub mod pair;
 pub mod reduction;

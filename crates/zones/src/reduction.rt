@@ -12,7 +12,7 @@ pub struct Reduced {
 
 impl Work {
     // One middle index k: row by row, each entry becomes the smaller of itself and the way through k.
-    pub fn round(self, size: usize, k: usize) -> Work
+    fn round(self, size: usize, k: usize) -> Work
         requires { ⌜ RoundReady self size k ⌝ }
         ensures { λ r. ⌜ r ≡ roundSteps size k size self ⌝ }
     {
@@ -40,7 +40,7 @@ impl Work {
     }
 
     // Whether a diagonal entry has m below 0.
-    pub fn is_empty(self, size: usize) -> bool
+    fn is_empty(self, size: usize) -> bool
         requires { ⌜ size ≤ 9 ⌝ }
         ensures { λ r. ⌜ r ≡ emptyIn size self ⌝ }
     {

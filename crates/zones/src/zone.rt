@@ -1,5 +1,10 @@
 use crate::fraction::Fraction;
 use crate::pair::Pair;
+ghost use mathlib.Core.Path.{_≡_};
+ghost use mathlib.Core.Bool.{false};
+ghost use Prim.Native.Nat.{_≤_, _<_};
+ghost use Rattle.zones.specs.Zones.{firstWork, upperMet, lowerMet, boundsMet, setOf, home, resetOf};
+ghost use Rattle.zones.specs.Ranges.{LimitsReady};
 
 // A zone at work: a square of pairs, nine to a row, and the running fraction.
 pub struct Work {
@@ -9,10 +14,91 @@ pub struct Work {
 
 impl Work {
     // Document 01's first zone.
-    pub fn first() -> Work {
+    pub fn first() -> Work
+        ensures { λ r. ⌜ r ≡ firstWork ⌝ }
+    {
         Work {
             zone: [Pair { m: 0, p: 0 }; 81],
             fraction: Fraction { n: 1, d: 0 },
+        }
+    }
+
+    // The rows and columns of the clocks that are marked become those of 0.
+    pub fn reset(self, size: usize, marked: [bool; 9]) -> Work
+        requires { ⌜ size ≤ 9 ⌝ }
+        ensures { λ r. ⌜ r ≡ resetOf size (setOf marked) self ⌝ }
+    {
+        let old = self.zone;
+        let fraction = self.fraction;
+        let mut z = old;
+        let last = size * 9;
+        let mut at = 0;
+        while at < last {
+            let a = home_of(marked, at / 9);
+            let b = home_of(marked, at % 9);
+            let q = old[a * 9 + b];
+            z[at] = q;
+            at += 1;
+        }
+        Work { zone: z, fraction }
+    }
+}
+
+// The index whose row and column an index has after the reset.
+fn home_of(marked: [bool; 9], a: usize) -> usize
+    requires { ⌜ a < 9 ⌝ }
+    ensures { λ r. ⌜ (r ≡ home (setOf marked) a) × (r < 9) ⌝ }
+{
+    if marked[a] { 0 } else { a }
+}
+
+// A clock's entries (x, 0) and (0, x), with the running fraction. Limits are met on these,
+// so that a loop over the clocks need not pass the whole square on for each.
+pub struct Bounds {
+    pub upper: Pair,
+    pub lower: Pair,
+    pub fraction: Fraction,
+}
+
+impl Bounds {
+    // The limits lo and hi of the clock are met; hi is left out where it is absent.
+    pub fn meet(self, lo: u32, hi: u32, absent: bool) -> Bounds
+        requires { ⌜ LimitsReady self lo hi absent ⌝ }
+        ensures { λ r. ⌜ r ≡ boundsMet lo hi absent self ⌝ }
+    {
+        if absent {
+            return self.meet_lower(lo);
+        }
+        self.meet_upper(hi).meet_lower(lo)
+    }
+
+    // The smaller of (x, 0) and (hi, 1).
+    fn meet_upper(self, hi: u32) -> Bounds
+        requires { ⌜ LimitsReady self 0 hi false ⌝ }
+        ensures { λ r. ⌜ r ≡ upperMet hi self ⌝ }
+    {
+        let choice = self.upper.smaller(Pair::at_most(hi));
+        let upper = choice.pair;
+        let lower = self.lower;
+        Bounds {
+            upper,
+            lower,
+            fraction: self.fraction.lowered(choice.threshold),
+        }
+    }
+
+    // The smaller of (0, x) and (−lo, 1).
+    fn meet_lower(self, lo: u32) -> Bounds
+        requires { ⌜ LimitsReady self lo 0 false ⌝ }
+        ensures { λ r. ⌜ r ≡ lowerMet lo self ⌝ }
+    {
+        let choice = self.lower.smaller(Pair::at_least(lo));
+        let upper = self.upper;
+        let lower = choice.pair;
+        Bounds {
+            upper,
+            lower,
+            fraction: self.fraction.lowered(choice.threshold),
         }
     }
 }

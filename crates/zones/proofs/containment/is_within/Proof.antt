@@ -1,0 +1,86 @@
+-- Assumes nothing.
+use Prim.Native.Nat.{_+_, _*_, _-_, _%_, _≤_, _<_}
+use mathlib.Core.Path.{_≡_, refl, sym, ap, _∙_}
+use native.Mathlib.Omega.{arith}
+use Rattle.zones.specs.Containment.{withinTo, within}
+use Rattle.zones.proofs.Inside.{within-fails, within-goes, within-skips, within-ends}
+use Rattle.zones.proofs.containment.is_within.Statement.{statement}
+use Rattle.zones.proofs.containment.is_within.Tie as tie
+use Rattle.zones.proofs.containment.is_within.Reads as reads
+use Rattle.zones.proofs.containment.is_within.Lts as lts
+use Rattle.zones.proofs.pair.Pair.is_less.Reads as is-less-reads
+
+abbrev Inv-loop : tie.InvT-loop
+Inv-loop size z y at₀ at = (at ≤ size * 9) × (within size z y ≡ withinTo size at z y)
+
+abbrev μ-loop : tie.MeasureT-loop
+μ-loop size z y at₀ at = at
+
+mul-at : tie.Need-mul-at Inv-loop μ-loop
+mul-at c = omega arith
+
+loop-holds : tie.Need-loop-holds Inv-loop μ-loop
+loop-holds c = (omega arith, refl)
+
+sub-at : tie.Need-sub-at Inv-loop μ-loop
+sub-at c = omega arith
+
+mul-new : tie.Need-mul-new Inv-loop μ-loop
+mul-new c = omega arith
+
+array-copy-out-new : tie.Need-array-copy-out-new Inv-loop μ-loop
+array-copy-out-new c = omega arith
+
+mul-old : tie.Need-mul-old Inv-loop μ-loop
+mul-old c = omega arith
+
+array-copy-out-old : tie.Need-array-copy-out-old Inv-loop μ-loop
+array-copy-out-old c = omega arith
+
+is-less-requires : tie.Need-is-less-requires Inv-loop μ-loop
+is-less-requires c κs = omega arith
+
+returns : tie.Need-returns Inv-loop μ-loop
+returns c =
+    let row = c .before .before .before .before .before .before in
+    sym (row .loop .inv .1 ∙ within-fails _ _ _ (row .loop .at) (omega arith) (c .before .before .if1 .taken) (sym (c .before .is-less .ensures) ∙ c .if2 .taken))
+
+loop-less : tie.Need-loop-less Inv-loop μ-loop
+loop-less c = omega arith
+
+loop-again : tie.Need-loop-again Inv-loop μ-loop
+loop-again c =
+    let row = c .before .before .before .before .before .before in
+    (omega arith, row .loop .inv .1 ∙ within-goes _ _ _ (row .loop .at) (omega arith) (c .before .before .if1 .taken) (sym (c .before .is-less .ensures) ∙ c .if2 .left))
+
+loop-less-2 : tie.Need-loop-less-2 Inv-loop μ-loop
+loop-less-2 c = omega arith
+
+loop-again-2 : tie.Need-loop-again-2 Inv-loop μ-loop
+loop-again-2 c =
+    let row = c .before .before .before .before in
+    (omega arith, row .loop .inv .1 ∙ within-skips _ _ _ (row .loop .at) (omega arith) (c .if1 .left))
+
+returns-2 : tie.Need-returns-2 Inv-loop μ-loop
+returns-2 c = sym (c .before .loop .inv .1 ∙ within-ends _ _ _ _ (c .loop-test .left))
+
+pub is-within-spec : {M : Type 1} → statement M
+is-within-spec =
+    tie.close
+    (tie.spec
+    Inv-loop
+    μ-loop
+    mul-at
+    loop-holds
+    sub-at
+    mul-new
+    array-copy-out-new
+    mul-old
+    array-copy-out-old
+    is-less-requires
+    returns
+    loop-less
+    loop-again
+    loop-less-2
+    loop-again-2
+    returns-2)

@@ -1,0 +1,97 @@
+-- Assumes nothing.
+use Prim.Native.Nat.{_+_, _*_, _-_, _%_, _≤_, _<_}
+use mathlib.Core.Path.{_≡_, refl, sym, ap, _∙_}
+use mathlib.Core.Logic.{⊎-elim}
+use native.Mathlib.Omega.{arith}
+use Rattle.zones.specs.Containment.{loweredTo, loweredWithin}
+use Rattle.zones.proofs.Inside.{lowered-counts, lowered-skips, turn-new, turn-old, turn-least, turn-threshold, lowered-fits}
+use Rattle.zones.proofs.Ranges.{bounded-small}
+use Rattle.zones.proofs.containment.lowered_within.Statement.{statement}
+use Rattle.zones.proofs.containment.lowered_within.Tie as tie
+use Rattle.zones.proofs.containment.lowered_within.Reads as reads
+use Rattle.zones.proofs.containment.lowered_within.Lts as lts
+use Rattle.zones.proofs.fraction.Fraction.lowered.Reads as lowered-reads
+use Rattle.zones.proofs.pair.Pair.threshold.Reads as threshold-reads
+
+abbrev Inv-loop : tie.InvT-loop
+Inv-loop size z y f₀ last at₀ f at = (last ≡ size * 9) × (at ≤ last) × (f ≡ loweredTo size at z y f₀)
+
+abbrev μ-loop : tie.MeasureT-loop
+μ-loop size z y f₀ last at₀ f at = last - at
+
+mul-last : tie.Need-mul-last Inv-loop μ-loop
+mul-last c = omega arith
+
+loop-holds : tie.Need-loop-holds Inv-loop μ-loop
+unfolding loweredTo
+loop-holds c = (omega arith, omega arith, refl)
+
+mul-new : tie.Need-mul-new Inv-loop μ-loop
+mul-new c = omega arith
+
+array-copy-out-new : tie.Need-array-copy-out-new Inv-loop μ-loop
+array-copy-out-new c = omega arith
+
+mul-old : tie.Need-mul-old Inv-loop μ-loop
+mul-old c = omega arith
+
+array-copy-out-old : tie.Need-array-copy-out-old Inv-loop μ-loop
+array-copy-out-old c = omega arith
+
+threshold-requires : tie.Need-threshold-requires Inv-loop μ-loop
+threshold-requires c κs =
+    let start = c .before .before .before .before .before in
+    let k = c .before .before .before .before .loop .at in
+    let col = c .before .before .if1 .taken in (
+      bounded-small (turn-new _ _ _ _ (start .pre .0) (start .pre .1) k (omega arith) col),
+      bounded-small (turn-old _ _ _ _ (start .pre .0) (start .pre .1) k (omega arith) col),
+      turn-least _ _ _ _ (start .pre .0) (start .pre .1) k (omega arith) col,
+    )
+
+lowered-requires : tie.Need-lowered-requires Inv-loop μ-loop
+lowered-requires c κs =
+    let loop = c .before .before .before .before .before in
+    let start = loop .before in
+    let k = loop .loop .at in (
+      rw (loop .loop .inv .2) (lowered-fits _ _ _ _ (start .pre .0) (start .pre .1) k (omega arith)),
+      rw (c .threshold .ensures) (turn-threshold _ _ _ _ (start .pre .0) (start .pre .1) k (omega arith) (c .before .before .before .if1 .taken)),
+    )
+
+add-at : tie.Need-add-at Inv-loop μ-loop
+add-at c = omega arith
+
+loop-less : tie.Need-loop-less Inv-loop μ-loop
+loop-less c = omega arith
+
+loop-again : tie.Need-loop-again Inv-loop μ-loop
+loop-again c =
+    let loop = c .before .before in (
+      omega arith,
+      omega arith,
+      ⊎-elim (λ w. w .5 ∙ w .4 .ensures ∙ lowered-counts _ _ _ _ _ (w .0 .taken) (loop .loop .inv .2) (w .3 .ensures))
+          (λ w. w .1 ∙ loop .loop .inv .2 ∙ lowered-skips _ _ _ _ _ (w .0 .left)) (c .if1 .came),
+    )
+
+returns : tie.Need-returns Inv-loop μ-loop
+returns c =
+    let e : c .before .loop .at ≡ c .before .before .args .size * 9 = omega arith in
+    c .before .loop .inv .2 ∙ ap (λ k. loweredTo (c .before .before .args .size) k (c .before .before .args .t1) (c .before .before .args .t2) (c .before .before .args .f0)) e
+
+pub lowered-within-spec : {M : Type 1} → statement M
+lowered-within-spec =
+    tie.close
+    (tie.spec
+    Inv-loop
+    μ-loop
+    mul-last
+    loop-holds
+    mul-new
+    array-copy-out-new
+    mul-old
+    array-copy-out-old
+    threshold-requires
+    lowered-requires
+    add-at
+    loop-less
+    loop-again
+    returns)

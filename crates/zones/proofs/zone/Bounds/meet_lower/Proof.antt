@@ -1,0 +1,33 @@
+-- Assumes nothing.
+use mathlib.Core.Path.{refl}
+use Rattle.zones.specs.Ranges.{scale, stepCounts, widest}
+use Rattle.zones.proofs.Limits.{lower-met}
+use Rattle.zones.proofs.Ranges.{step-small, both-narrow, here, least-bounded}
+use borrow.Author.Needs.{needs}
+use Rattle.zones.proofs.zone.Bounds.meet_lower.Statement.{statement}
+use Rattle.zones.proofs.zone.Bounds.meet_lower.Tie as tie
+use Rattle.zones.proofs.zone.Bounds.meet_lower.Reads as reads
+use Rattle.zones.proofs.zone.Bounds.meet_lower.Lts as lts
+use Rattle.zones.proofs.fraction.Fraction.lowered.Reads as lowered-reads
+use Rattle.zones.proofs.pair.Pair.at_least.Reads as at-least-reads
+use Rattle.zones.proofs.pair.Pair.smaller.Reads as smaller-reads
+
+at-least-requires : tie.Need-at-least-requires
+at-least-requires c κs = search needs
+
+smaller-requires : tie.Need-smaller-requires
+smaller-requires c κs =
+    let h = c .before .pre in
+    (step-small (h .lower), rw (c .at-least .ensures) (step-small (least-bounded _ (h .lo≤))))
+
+lowered-requires : tie.Need-lowered-requires
+lowered-requires c κs =
+    let start = c .before .before .before .before in
+    let h = start .pre in
+    (h .fraction, rw (c .before .before .smaller .ensures, c .before .before .before .at-least .ensures) (both-narrow widest widest scale stepCounts here _ _ (h .lower) (least-bounded _ (h .lo≤))))
+
+returns : tie.Need-returns
+returns c = lower-met _ _ (c .before .before .before .before .at-least .ensures) (c .before .before .before .smaller .ensures) (c .lowered .ensures)
+
+pub meet-lower-spec : {M : Type 1} → statement M
+meet-lower-spec = tie.close (tie.spec at-least-requires smaller-requires lowered-requires returns)

@@ -1,0 +1,33 @@
+-- Assumes nothing.
+use mathlib.Core.Path.{refl}
+use Rattle.zones.specs.Ranges.{scale, stepCounts, widest}
+use Rattle.zones.proofs.Limits.{upper-met}
+use Rattle.zones.proofs.Ranges.{step-small, both-narrow, here, most-bounded}
+use borrow.Author.Needs.{needs}
+use Rattle.zones.proofs.zone.Bounds.meet_upper.Statement.{statement}
+use Rattle.zones.proofs.zone.Bounds.meet_upper.Tie as tie
+use Rattle.zones.proofs.zone.Bounds.meet_upper.Reads as reads
+use Rattle.zones.proofs.zone.Bounds.meet_upper.Lts as lts
+use Rattle.zones.proofs.fraction.Fraction.lowered.Reads as lowered-reads
+use Rattle.zones.proofs.pair.Pair.at_most.Reads as at-most-reads
+use Rattle.zones.proofs.pair.Pair.smaller.Reads as smaller-reads
+
+at-most-requires : tie.Need-at-most-requires
+at-most-requires c κs = search needs
+
+smaller-requires : tie.Need-smaller-requires
+smaller-requires c κs =
+    let h = c .before .pre in
+    (step-small (h .upper), rw (c .at-most .ensures) (step-small (most-bounded _ (h .hi≤ refl))))
+
+lowered-requires : tie.Need-lowered-requires
+lowered-requires c κs =
+    let start = c .before .before .before .before in
+    let h = start .pre in
+    (h .fraction, rw (c .before .before .smaller .ensures, c .before .before .before .at-most .ensures) (both-narrow widest widest scale stepCounts here _ _ (h .upper) (most-bounded _ (h .hi≤ refl))))
+
+returns : tie.Need-returns
+returns c = upper-met _ _ (c .before .before .before .before .at-most .ensures) (c .before .before .before .smaller .ensures) (c .lowered .ensures)
+
+pub meet-upper-spec : {M : Type 1} → statement M
+meet-upper-spec = tie.close (tie.spec at-most-requires smaller-requires lowered-requires returns)
