@@ -10,3 +10,10 @@ pub mod Ranges
 pub mod Lowest
 pub mod Inside
 pub mod Limits
+pub mod Squares
+pub mod Thresholds
+pub mod Lowering
+pub mod Diagonals
+pub mod Steps
+pub mod Meeting
+pub mod Closing
