@@ -17,3 +17,8 @@ pub mod Diagonals
 pub mod Steps
 pub mod Meeting
 pub mod Closing
+pub mod Moving
+pub mod Entering
+pub mod Starts
+pub mod Bounding
+pub mod Examples

@@ -1,8 +1,9 @@
 -- How large the numbers get, with the bounds as parameters: document 01's and those of a later scale differ only in `scale` and `counts`.
-use Prim.Native.Nat.{ℕ, _*_, _≤_, _<_, _^_}
+use Prim.Native.Nat.{ℕ, suc, _*_, _≤_, _<_, _^_}
 use mathlib.Core.Path.{_≡_}
 use mathlib.Core.Bool.{Bool, false}
 use mathlib.Core.List.{List}
+use lib.ListN.{length}
 use lib.IntN.{pos, natAbs}
 use lib.Signed.{_≤ℤ_}
 use Rattle.zones.specs.declared.fraction.Fraction.{Fraction}
@@ -10,7 +11,8 @@ use Rattle.zones.specs.declared.pair.Pair.{Pair}
 use Rattle.zones.specs.declared.zone.Bounds.{Bounds}
 use Rattle.zones.specs.declared.zone.Work.{Work}
 use Rattle.zones.specs.Integers.{up, down}
-use Rattle.zones.specs.Zones.{pairAt, entry}
+use Rattle.zones.specs.Pairs.{zeroPair}
+use Rattle.zones.specs.Zones.{Limits, pairAt, entry}
 
 -- "lo and hi run from 0 to 1,000,000"
 abbrev pub scale : ℕ
@@ -52,6 +54,27 @@ pub record Room (N D C P : ℕ) : Type 0 where
   pub d : 18 * P ≤ D
   pub one : 0 < C
   pub count : 0 < P
+
+-- ---- between the operations of a step: what every zone has, so that after a reduction |m| ≤ C again
+pub record Ranged (C P n : ℕ) (w : Work) : Type 0 where
+  pub size : length (w .zone) ≡ 81
+  pub bounded : (a b : ℕ) → a < n → b < n → Bounded C P (entry w a b)
+  pub diagonal : (a : ℕ) → a < n → entry w a a ≡ zeroPair
+  pub low : (b : ℕ) → b < n → entry w 0 b .m ≤ℤ pos 0
+
+-- with the running fraction
+pub record InRange (N D C P n : ℕ) (w : Work) : Type 0 where
+  pub ranged : Ranged C P n w
+  pub narrow : Narrow N D (w .fraction)
+
+-- with document 01's numbers, and error counts up to P
+abbrev pub Sized : ℕ → ℕ → Work → Type 0
+Sized P n w = InRange widest widest scale P n w
+
+-- limits of c clocks on the scale C
+pub record OnScale (C c : ℕ) (L : Limits) : Type 0 where
+  pub lo : (x : ℕ) → 0 < x → x < suc c → L .lo x ≤ C
+  pub hi : (x : ℕ) → 0 < x → x < suc c → L .absent x ≡ false → L .hi x ≤ C
 
 -- ---- what the code asks. The third reduction of a step begins with error counts of up to 100 times a kept zone's
 abbrev pub stepCounts : ℕ

@@ -35,10 +35,8 @@ impl Pair {
     pub fn at_least(lo: u32) -> Pair
         ensures { λ r. ⌜ r ≡ atLeast lo ⌝ }
     {
-        Pair {
-            m: 0 - (lo as i64),
-            p: 1,
-        }
+        let m = 0 - (lo as i64);
+        Pair { m, p: 1 }
     }
 
     // Entry by entry.

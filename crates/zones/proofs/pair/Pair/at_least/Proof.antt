@@ -13,11 +13,11 @@ use Rattle.zones.proofs.pair.Pair.at_least.Tie as tie
 use Rattle.zones.proofs.pair.Pair.at_least.Reads as reads
 use Rattle.zones.proofs.pair.Pair.at_least.Lts as lts
 
-cast-t2 : tie.Need-cast-t2
-cast-t2 c = search needs
+cast-m : tie.Need-cast-m
+cast-m c = search needs
 
-sub-t3 : tie.Need-sub-t3
-sub-t3 c =
+sub-m : tie.Need-sub-m
+sub-m c =
     let n = c .args .lo in
     rw (toZ-pos w64 {n = n} (omega arith)) (abs-fits w64 (pos 0 -ℤ pos n) (omega (arith, abs-minus (pos 0) (pos n))))
 
@@ -28,4 +28,4 @@ returns c =
     rw (toZ-pos w64 {n = n} (omega arith)) (pair-is 1 (toZ-ofZ g ∙ +ℤ-idl (negℤ (pos n))))
 
 pub at-least-spec : {M : Type 1} → statement M
-at-least-spec = tie.close (tie.spec cast-t2 sub-t3 returns)
+at-least-spec = tie.close (tie.spec cast-m sub-m returns)

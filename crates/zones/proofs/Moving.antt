@@ -1,0 +1,171 @@
+-- Operations one after the other, and the three that the others are made of: limits are met, clocks are reset, time passes.
+-- Assumes nothing.
+use Prim.Native.Nat.{ℕ, suc, _+_, _*_, _<_, _≤_}
+use mathlib.Core.Path.{_≡_, refl, sym, ap, _∙_, subst}
+use mathlib.Core.Bool.{Bool, true, false}
+use lib.IntN.{ℤ, pos}
+use lib.Signed.{_≤ℤ_}
+use native.Mathlib.Omega.{arith}
+use Rattle.zones.specs.declared.fraction.Fraction.{Fraction}
+use Rattle.zones.specs.declared.pair.Pair.{Pair}
+use Rattle.zones.specs.declared.reduction.Reduced.{Reduced}
+use Rattle.zones.specs.declared.zone.Work.{Work}
+use Rattle.zones.specs.Integers.{int, le-read}
+use Rattle.zones.specs.Pairs.{atMost}
+use Rattle.zones.specs.Zones.{Limits, entry, home, meetLimits}
+use Rattle.zones.specs.Reductions.{reduceSteps}
+use Rattle.zones.specs.Successors.{andThen, meetOf}
+use Rattle.zones.specs.Values.{valueOf, Below}
+use Rattle.zones.specs.Sets.{squareOf, Has, Within, Put, Waits}
+use Rattle.zones.specs.Moves.{Good, Kept, Moves}
+use Rattle.zones.proofs.Choices.{true-false}
+use Rattle.zones.proofs.Closing.{reduce-into, reduce-from, reduce-before, reduce-live, reduce-good, reduce-closed}
+use Rattle.zones.proofs.Meeting.{most-value, met-proper, meet-good, meet-before, meet-into, meet-from}
+use Rattle.zones.proofs.Places.{ResetBy, RaisedBy, home-zero, home-below}
+use Rattle.zones.proofs.Squares.{Resets, Raises, reset-into, reset-from, reset-closed, wait-into, wait-from}
+use Rattle.zones.proofs.Steps.{reduce-proper}
+
+-- ---- reset and raising, at an error e/s
+module _ (s e c : ℕ) (n≤ : suc c ≤ 9) (R : ℕ → Bool) (w w′ : Work) (r : ResetBy (suc c) R w w′) where
+  pub reset-resets : Resets (suc c) R (squareOf s e w) (squareOf s e w′)
+  reset-resets a b ha hb = ap (valueOf s e) (r .at a b ha (omega arith))
+
+  pub reset-good : Good s e c w → Good s e c w′
+  reset-good g = record {
+    size = r .size;
+    diagonal = λ a ha. r .at a a ha (omega arith) ∙ g .diagonal (home R a) (home-below R (suc c) a ha);
+    low = λ t a ha.
+        subst (λ (q : Pair). valueOf s e q ≤ℤ pos 0) (sym (r .at 0 a (omega arith) (omega arith) ∙ (λ i. entry w (home-zero R i) (home R a))))
+        (g .low (subst (Below s e) (r .fraction) t) (home R a) (home-below R (suc c) a ha));
+  }
+
+module _ (s e c : ℕ) (n≤ : suc c ≤ 9) (L : Limits) (w w′ : Work) (r : RaisedBy c L w w′) where
+  pub raise-raises : Raises (suc c) (λ x. valueOf s e (atMost (L .hi x))) (squareOf s e w) (squareOf s e w′)
+  raise-raises = record {
+    column = λ x px hx. ap (valueOf s e) (r .column x px hx);
+    rest = λ a b ha hb h. ap (valueOf s e) (r .rest a b (omega arith) (λ p q. h p));
+  }
+
+  pub raise-good : Good s e c w → Good s e c w′
+  raise-good g = record {
+    size = r .size;
+    diagonal = λ a ha. r .rest a a (omega arith) (λ p q. p) ∙ g .diagonal a ha;
+    low = λ t a ha. subst (λ (q : Pair). valueOf s e q ≤ℤ pos 0) (sym (r .rest 0 a (omega arith) (λ p q. omega arith))) (g .low (subst (Below s e) (r .fraction) t) a ha);
+  }
+
+abbrev pub Rel : Type 1
+Rel = (ℕ → ℕ) → (ℕ → ℕ) → Type 0
+
+-- ---- one after the other
+abbrev pub Then : Rel → Rel → Rel
+Then S T v v″ = (v′ : ℕ → ℕ) × S v v′ × T v′ v″
+
+-- a wait after which no clock is above its upper limit
+abbrev pub Later : ℕ → ℕ → ℕ → Limits → Rel
+Later s e c L v v′ = (t : ℕ) × Waits (suc c) t v v′ × ((x : ℕ) → 0 < x → x < suc c → v′ x ≤ L .hi x * s + e)
+
+pub then-empty : (r : Reduced) (f : Work → Reduced) → r .empty ≡ true → andThen r f ≡ r
+unfolding andThen
+then-empty r f e = rw e
+
+pub then-live : (r : Reduced) (f : Work → Reduced) → r .empty ≡ false → andThen r f ≡ f (r .work)
+unfolding andThen
+then-live r f e = rw e
+
+module _ (s e c : ℕ) where
+  pub moves-then : (S T : Rel) (w : Work) (r : Reduced) (f : Work → Reduced) → Moves s e c S w r → (r .empty ≡ false → Moves s e c T (r .work) (f (r .work))) → Moves s e c (Then S T) w (andThen r f)
+  moves-then S T w r f m k = go (r .empty) refl
+    where
+      go : (t : Bool) → r .empty ≡ t → Moves s e c (Then S T) w (andThen r f)
+      go true q = rw (then-empty r f q) (record {
+        before = m .before;
+        proper = m .proper;
+        kept = m .kept;
+        into = λ l v v′ h g. true-false (sym q ∙ l);
+        live = λ t v v′ h g. m .live t v (g .0) h (g .1);
+        from = λ l t v′ h. true-false (sym q ∙ l);
+      })
+      go false q =
+          let n = k q in
+          rw (then-live r f q) (record {
+            before = λ t. m .before (n .before t);
+            proper = λ p. n .proper (m .proper p);
+            kept = n .kept;
+            into = λ l v v′ h g. n .into l (g .0) v′ (m .into q v (g .0) h (g .1)) (g .2);
+            live = λ t v v′ h g. n .live t (g .0) v′ (m .into q v (g .0) h (g .1)) (g .2);
+            from = λ l t v′ h.
+                let x = n .from l t v′ h in
+                let y = m .from q (n .before t) (x .0) (x .1) in
+                (y .0, y .1, (x .0, y .2, x .2));
+          })
+
+  pub moves-same : (S T : Rel) (w : Work) (r : Reduced) → ((v v′ : ℕ → ℕ) → S v v′ → T v v′) → ((v v′ : ℕ → ℕ) → T v v′ → S v v′) → Moves s e c S w r → Moves s e c T w r
+  moves-same S T w r f g m = record {
+    before = m .before;
+    proper = m .proper;
+    kept = m .kept;
+    into = λ l v v′ h q. m .into l v v′ h (g v v′ q);
+    live = λ t v v′ h q. m .live t v v′ h (g v v′ q);
+    from = λ l t v′ h. let x = m .from l t v′ h in (x .0, x .1, f (x .0) v′ (x .2));
+  }
+
+-- ---- the three moves
+module _ (s e : ℕ) (s> : 0 < s) (c : ℕ) (n≤ : suc c ≤ 9) where
+  reduce-kept : (w : Work) → Good s e c w → reduceSteps (suc c) (suc c) w .empty ≡ false → Kept s e c (reduceSteps (suc c) (suc c) w .work)
+  reduce-kept w g l = record { good = reduce-good s e s> c n≤ w g l; closed = reduce-closed s e s> c n≤ w g l }
+
+  module _ (w : Work) (z : Kept s e c w) where
+    -- limits are met, and the zone is reduced
+    pub meets : (L : Limits) → Moves s e c (λ v v′. (v′ ≡ v) × Within s e c L v) w (meetOf c L w)
+    unfolding meetOf
+    meets L =
+        let g = z .good in
+        let m = meet-good s e s> c n≤ L w g in
+        let u = meetLimits L c w in
+        record {
+          before = λ t. meet-before s e s> c n≤ L w g (reduce-before s e s> c n≤ u m t);
+          proper = λ p. reduce-proper (suc c) u (m .size) (met-proper c L w (g .size) p);
+          kept = reduce-kept u m;
+          into = λ l v v′ h q. rw (q .0) (reduce-into s e s> c n≤ u m v (meet-into s e s> c n≤ L w g v h (q .1)));
+          live = λ t v v′ h q. reduce-live s e s> c n≤ u m t v (meet-into s e s> c n≤ L w g v h (q .1));
+          from = λ l t v′ h.
+              let x = meet-from s e s> c n≤ L w g (reduce-before s e s> c n≤ u m t) v′ (reduce-from s e s> c n≤ u m t v′ h) in
+              (v′, x .0, (refl, x .1));
+        }
+
+    pub resets : (R : ℕ → Bool) → R 0 ≡ false → (w′ : Work) → ResetBy (suc c) R w w′ → Moves s e c (Put (suc c) R) w (record { work = w′; empty = false })
+    resets R R0 w′ b =
+        let D = squareOf s e w in
+        let D′ = squareOf s e w′ in
+        let r = reset-resets s e c n≤ R w w′ b in
+        let o : Below s e (w′ .fraction) → Below s e (w .fraction) = subst (Below s e) (b .fraction) in
+        record {
+          before = o;
+          proper = subst (λ (f : Fraction). 0 < f .n) (sym (b .fraction));
+          kept = λ l. record { good = reset-good s e c n≤ R w w′ b (z .good); closed = λ t. reset-closed (suc c) R (omega arith) R0 D D′ r (z .closed (o t)) };
+          into = λ l v v′ h q. reset-into (suc c) R (omega arith) R0 D D′ r v v′ h q;
+          live = λ t v v′ h q. refl;
+          from = λ l t v′ h. reset-from (suc c) R (omega arith) R0 D D′ r (z .closed (o t)) v′ h;
+        }
+
+    -- a wait, after which no clock is above its limit
+    pub raises : (L : Limits) (u : Work) → RaisedBy c L w u → Moves s e c (Later s e c L) w (reduceSteps (suc c) (suc c) u)
+    raises L u b =
+        let D = squareOf s e w in
+        let D′ = squareOf s e u in
+        let m = raise-good s e c n≤ L w u b (z .good) in
+        let r = raise-raises s e c n≤ L w u b in
+        let o : Below s e (reduceSteps (suc c) (suc c) u .work .fraction) → Below s e (w .fraction) = λ t. subst (Below s e) (b .fraction) (reduce-before s e s> c n≤ u m t) in
+        let h : ℕ → ℤ = λ x. valueOf s e (atMost (L .hi x)) in
+        let into : (v v′ : ℕ → ℕ) → Has s e c w v → Later s e c L v v′ → Has s e c u v′ = λ v v′ i q.
+        wait-into (suc c) (omega arith) h D D′ r v v′ (q .0) i (q .1) (λ x px hx. omega (arith, int, q .2 x px hx, most-value s e s> (L .hi x))) in
+        record {
+          before = o;
+          proper = λ p. reduce-proper (suc c) u (m .size) (subst (λ (f : Fraction). 0 < f .n) (sym (b .fraction)) p);
+          kept = reduce-kept u m;
+          into = λ l v v′ i q. reduce-into s e s> c n≤ u m v′ (into v v′ i q);
+          live = λ t v v′ i q. reduce-live s e s> c n≤ u m t v′ (into v v′ i q);
+          from = λ l t v′ i.
+              let x = wait-from (suc c) (omega arith) h D D′ r (z .closed (o t)) v′ (reduce-from s e s> c n≤ u m t v′ i) in
+              (x .0, x .2, (x .1, x .3, λ y py hy. omega (arith, le-read (x .4 y py hy), most-value s e s> (L .hi y))));
+        }
