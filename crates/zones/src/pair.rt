@@ -44,10 +44,11 @@ impl Pair {
         requires { ⌜ Small self × Small o ⌝ }
         ensures { λ r. ⌜ r ≡ sumOf self o ⌝ }
     {
-        Pair {
-            m: self.m + o.m,
-            p: self.p + o.p,
-        }
+        let a = self.m;
+        let b = o.m;
+        let p = self.p;
+        let r = o.p;
+        Pair { m: a + b, p: p + r }
     }
 
     // Whether this pair is the smaller: the smaller m, and at equal m the smaller p.

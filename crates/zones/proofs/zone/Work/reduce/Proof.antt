@@ -30,7 +30,7 @@ round-requires c κs =
     round-ready (c .before .before .args .size) (c .before .before .args .self) size (c .before .before .pre) _ _ (c .loop-test .taken) (c .before .loop .inv .1)
 
 is-empty-requires : tie.Need-is-empty-requires Inv-loop μ-loop
-is-empty-requires c κs = c .before .before .before .pre .n≤
+is-empty-requires c κs = omega (arith, c .before .before .before .pre .n≤)
 
 returns : tie.Need-returns Inv-loop μ-loop
 returns c =
