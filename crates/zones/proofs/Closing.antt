@@ -19,7 +19,7 @@ use Rattle.zones.specs.Zones.{entry}
 use Rattle.zones.specs.Reductions.{relaxed, rowSteps, roundSteps, emptyIn, afterMiddle, reduceSteps}
 use Rattle.zones.specs.Values.{valueOf, Below}
 use Rattle.zones.specs.Sets.{In, squareOf}
-use Rattle.zones.specs.Moves.{Closed, Good}
+use Rattle.zones.specs.Moves.{Closed, Shaped, Low}
 use Rattle.zones.proofs.Choices.{true-false}
 use Rattle.zones.proofs.Diagonals.{Signs, negative-none, sign-zero}
 use Rattle.zones.proofs.Lowering.{lower-limits, falls-in}
@@ -110,7 +110,7 @@ module _ (s e : ℕ) (s> : 0 < s) (n : ℕ) (n≤ : n ≤ 9) where
     reduce-through = along n w n≤ start Q (λ t a ha. absurd (not-suc-le-zero ha)) next n (omega arith) live .1
 
 -- ---- the reduction of a zone that is (0, 0) on the diagonal
-module _ (s e : ℕ) (s> : 0 < s) (c : ℕ) (n≤ : suc c ≤ 9) (w : Work) (g : Good s e c w) where
+module _ (s e : ℕ) (s> : 0 < s) (c : ℕ) (n≤ : suc c ≤ 9) (w : Work) (g : Shaped c w) where
   abbrev shut : Work
   shut = reduceSteps (suc c) (suc c) w .work
 
@@ -138,20 +138,15 @@ module _ (s e : ℕ) (s> : 0 < s) (c : ℕ) (n≤ : suc c ≤ 9) (w : Work) (g :
       go false q = q
 
   module _ (live : reduceSteps (suc c) (suc c) w .empty ≡ false) where
-    pub reduce-good : Good s e c (reduceSteps (suc c) (suc c) w .work)
-    reduce-good = record {
+    pub reduce-shaped : Shaped c (reduceSteps (suc c) (suc c) w .work)
+    reduce-shaped = record {
       size = reduce-size s e s> (suc c) n≤ w (g .size);
       diagonal = λ a ha. sign-zero s e s> (shut .fraction) (entry shut a a) (reduce-signs s e s> (suc c) n≤ w (g .size) signs a ha) (reduce-alive s e s> (suc c) n≤ w alive live .diagonal a ha);
-      low = λ t a ha.
-          let f = reduce-falls s e s> (suc c) n≤ w (g .size) in
-          let x = f .values t 0 a (omega arith) ha in
-          let y = g .low (f .before t) a ha in
-          omega (arith, int);
     }
 
-    pub reduce-closed : Below s e (reduceSteps (suc c) (suc c) w .work .fraction) → Closed (suc c) (squareOf s e (reduceSteps (suc c) (suc c) w .work))
-    reduce-closed t = record {
-      diagonal = λ a ha. ap (valueOf s e) (reduce-good .diagonal a ha) ∙ zero-value s e;
+    pub reduce-closed : Below s e (reduceSteps (suc c) (suc c) w .work .fraction) → Low (suc c) (squareOf s e w) → Closed (suc c) (squareOf s e (reduceSteps (suc c) (suc c) w .work))
+    reduce-closed t l = record {
+      diagonal = λ a ha. ap (valueOf s e) (reduce-shaped .diagonal a ha) ∙ zero-value s e;
       triangle = λ a b k ha hb hk. reduce-through s e s> (suc c) n≤ w alive live t k hk a b ha hb;
-      low = reduce-good .low t;
+      low = λ a ha. let x = reduce-falls s e s> (suc c) n≤ w (g .size) .values t 0 a (omega arith) ha in let y = l a ha in omega (arith, int);
     }

@@ -22,3 +22,4 @@ pub mod Entering
 pub mod Starts
 pub mod Bounding
 pub mod Examples
+pub mod Fractional

@@ -13,7 +13,7 @@ use Rattle.zones.specs.Pairs.{zeroPair, atMost, atLeast}
 use Rattle.zones.specs.Zones.{Limits, entry, lowerAt, meetUpper, meetClock, meetLimits}
 use Rattle.zones.specs.Values.{valueOf, Below}
 use Rattle.zones.specs.Sets.{In, squareOf, Has, Holds, Within}
-use Rattle.zones.specs.Moves.{Good}
+use Rattle.zones.specs.Moves.{Shaped, Low}
 use Rattle.zones.proofs.Lowering.{lower-proper, Falls, falls-refl, falls-trans, falls-in, lower-falls, lower-to, lower-keeps}
 use Rattle.zones.proofs.Places.{lower-size, lower-place}
 use Rattle.zones.proofs.Squares.{up-to}
@@ -116,28 +116,21 @@ module _ (s e : ℕ) (s> : 0 < s) where
         })
 
 -- ---- all clocks of a zone
-module _ (s e : ℕ) (s> : 0 < s) (c : ℕ) (n≤ : suc c ≤ 9) (L : Limits) (w : Work) (g : Good s e c w) where
-  pub meet-good : Good s e c (meetLimits L c w)
-  meet-good =
-      let z = met-zero s e s> (suc c) n≤ L w (g .size) c (omega arith) (g .diagonal) in
-      record {
-        size = z .0;
-        diagonal = z .1;
-        low = λ t a ha.
-            let f = met-falls s e s> (suc c) n≤ L w (g .size) c (omega arith) in
-            let x = f .values t 0 a (omega arith) ha in
-            let y = g .low (f .before t) a ha in
-            omega (arith, int);
-      }
+module _ (s e : ℕ) (s> : 0 < s) (c : ℕ) (n≤ : suc c ≤ 9) (L : Limits) (w : Work) (g : Shaped c w) where
+  falls : Falls s e s> (suc c) w (meetLimits L c w)
+  falls = met-falls s e s> (suc c) n≤ L w (g .size) c (omega arith)
+
+  pub meet-shaped : Shaped c (meetLimits L c w)
+  meet-shaped = let z = met-zero s e s> (suc c) n≤ L w (g .size) c (omega arith) (g .diagonal) in record { size = z .0; diagonal = z .1 }
 
   pub meet-before : Below s e (meetLimits L c w .fraction) → Below s e (w .fraction)
-  meet-before = met-falls s e s> (suc c) n≤ L w (g .size) c (omega arith) .before
+  meet-before = falls .before
+
+  pub meet-low : Below s e (meetLimits L c w .fraction) → Low (suc c) (squareOf s e w) → Low (suc c) (squareOf s e (meetLimits L c w))
+  meet-low t l a ha = let x = falls .values t 0 a (omega arith) ha in let y = l a ha in omega (arith, int)
 
   pub meet-into : (v : ℕ → ℕ) → Has s e c w v → Within s e c L v → Has s e c (meetLimits L c w) v
   meet-into = met-into s e s> (suc c) n≤ L w (g .size) c (omega arith)
 
   pub meet-from : Below s e (meetLimits L c w .fraction) → (v : ℕ → ℕ) → Has s e c (meetLimits L c w) v → Has s e c w v × Within s e c L v
-  meet-from t v i = (
-    falls-in s e s> (suc c) w (meetLimits L c w) v (met-falls s e s> (suc c) n≤ L w (g .size) c (omega arith)) t i,
-    λ x px hx. met-from s e s> (suc c) n≤ L w (g .size) c (omega arith) t v i x hx px,
-  )
+  meet-from t v i = (falls-in s e s> (suc c) w (meetLimits L c w) v falls t i, λ x px hx. met-from s e s> (suc c) n≤ L w (g .size) c (omega arith) t v i x hx px)

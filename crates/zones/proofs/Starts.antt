@@ -1,4 +1,4 @@
--- The first zone, a lower running fraction, a zone inside another, and waits one after another.
+-- The first zone, a zone inside another, and waits one after another.
 -- Assumes nothing.
 use Prim.Native.Nat.{ℕ, zero, suc, _+_, _*_, _%_, _<_, _≤_}
 use mathlib.Core.Path.{_≡_, refl, sym, ap, _∙_, subst}
@@ -22,41 +22,23 @@ use Rattle.zones.specs.Zones.{Limits, pairAt, entry, firstWork}
 use Rattle.zones.specs.Containment.{placeOf, within, loweredTo, loweredWithin}
 use Rattle.zones.specs.Values.{valueOf, Below}
 use Rattle.zones.specs.Sets.{squareOf, Has, Within, Waits, Enters}
-use Rattle.zones.specs.Moves.{Kept}
+use Rattle.zones.specs.Moves.{Shaped, Low}
 use Rattle.zones.proofs.Choices.{not-less-shows}
 use Rattle.zones.proofs.Inside.{within-shows, lowered-ind}
 use Rattle.zones.proofs.Places.{first-at, first-size}
 use Rattle.zones.proofs.Squares.{in-above, up-to}
-use Rattle.zones.proofs.Thresholds.{zero-value, threshold-sound, lowered-sound, lowered-n, beside-n}
-
--- the zone with the running fraction f
-abbrev pub withFraction : Work → Fraction → Work
-withFraction w f = record { zone = w .zone; fraction = f }
-
--- a lower running fraction, as when the zone is taken later
-pub fraction-kept : (s e c : ℕ) (w : Work) (f : Fraction) → (Below s e f → Below s e (w .fraction)) → Kept s e c w → Kept s e c (withFraction w f)
-fraction-kept s e c w f b z = record {
-  good = record { size = z .good .size; diagonal = z .good .diagonal; low = λ t. z .good .low (b t) };
-  closed = λ t. z .closed (b t);
-}
+use Rattle.zones.proofs.Thresholds.{zero-value, threshold-sound, lowered-before, lowered-sound, lowered-n, beside-n}
 
 -- ---- the first zone: all clocks at 0
 module _ (s e : ℕ) (s> : 0 < s) (c : ℕ) (n≤ : suc c ≤ 9) where
   first-zero : (a b : ℕ) → a < suc c → b < suc c → valueOf s e (entry firstWork a b) ≡ pos 0
   first-zero a b ha hb = ap (valueOf s e) (first-at a b (omega arith) (omega arith)) ∙ zero-value s e
 
-  pub first-kept : Kept s e c firstWork
-  first-kept = record {
-    good = record { size = first-size; diagonal = λ a ha. first-at a a (omega arith) (omega arith); low = λ t a ha. low a ha };
-    closed = λ t. record {
-      diagonal = λ a ha. first-zero a a ha ha;
-      triangle = λ a b k ha hb hk. omega (arith, eq-read (first-zero a b ha hb), eq-read (first-zero a k ha hk), eq-read (first-zero k b hk hb));
-      low = low;
-    };
-  }
-    where
-      low : (a : ℕ) → a < suc c → valueOf s e (entry firstWork 0 a) ≤ℤ pos 0
-      low a ha = let z = first-zero 0 a (omega arith) ha in omega (arith, int)
+  pub first-shaped : Shaped c firstWork
+  first-shaped = record { size = first-size; diagonal = λ a ha. first-at a a (omega arith) (omega arith) }
+
+  pub first-low : Low (suc c) (squareOf s e firstWork)
+  first-low a ha = let z = first-zero 0 a (omega arith) ha in omega (arith, int)
 
   pub first-has : (v : ℕ → ℕ) → Has s e c firstWork v ↔ ((a : ℕ) → a < suc c → v a ≡ 0)
   first-has v = (
@@ -73,6 +55,9 @@ module _ (s e : ℕ) (s> : 0 < s) (c : ℕ) (n≤ : suc c ≤ 9) where
   first-below = omega arith
 
 -- ---- a zone inside another: the thresholds of the test are all that is needed
+pub lowered-falls : (n : ℕ) (z y : List Pair) (s e : ℕ) → 0 < s → (f : Fraction) → Below s e (loweredWithin n z y f) → Below s e f
+lowered-falls n z y s e s> f = lowered-ind n z y (λ g. Below s e g → Below s e f) f (n * 9) (λ k g hk hc q b. q (lowered-before s e g (thresholdOf (placeOf z k) (placeOf y k)) s> b)) (λ b. b) (n * 9) (omega arith)
+
 module _ (n : ℕ) (z y : List Pair) (h : within n z y ≡ true) where
   pub inside-proper : (f : Fraction) → 0 < f .n → 0 < loweredWithin n z y f .n
   inside-proper f p =
@@ -81,28 +66,24 @@ module _ (n : ℕ) (z y : List Pair) (h : within n z y ≡ true) where
 
   module _ (s e : ℕ) (s> : 0 < s) where
     -- the thresholds of the first k places
-    record Tested (f : Fraction) (k : ℕ) : Type 0 where
-      before : Below s e f
+    record Tested (k : ℕ) : Type 0 where
       each : (m : ℕ) → m < k → m % 9 < n → Below s e (thresholdOf (placeOf z m) (placeOf y m))
 
-    next-tested : (f : Fraction) (k : ℕ) → k < n * 9 → (Below s e (loweredTo n k z y f) → Tested f k) → (t : Bool) → ltb (k % 9) n ≡ t →
-        Below s e (cond t (loweredBy (loweredTo n k z y f) (thresholdOf (placeOf z k) (placeOf y k))) (loweredTo n k z y f)) → Tested f (suc k)
+    next-tested : (f : Fraction) (k : ℕ) → k < n * 9 → (Below s e (loweredTo n k z y f) → Tested k) → (t : Bool) → ltb (k % 9) n ≡ t →
+        Below s e (cond t (loweredBy (loweredTo n k z y f) (thresholdOf (placeOf z k) (placeOf y k))) (loweredTo n k z y f)) → Tested (suc k)
     next-tested f k hk ih true q b =
         let c = ltb-true (k % 9) n q in
         let l = lowered-sound s e (loweredTo n k z y f) (thresholdOf (placeOf z k) (placeOf y k)) s> (beside-n (placeOf z k) (placeOf y k) (within-shows n z y (n * 9) h k hk c)) b in
         let i = ih (l .0) in
-        record { before = i .before; each = up-to (λ m. m % 9 < n → Below s e (thresholdOf (placeOf z m) (placeOf y m))) k (i .each) (λ x. l .1) }
+        record { each = up-to (λ m. m % 9 < n → Below s e (thresholdOf (placeOf z m) (placeOf y m))) k (i .each) (λ x. l .1) }
     next-tested f k hk ih false q b =
         let i = ih b in
-        record { before = i .before; each = up-to (λ m. m % 9 < n → Below s e (thresholdOf (placeOf z m) (placeOf y m))) k (i .each) (λ x. absurd (omega (arith, ltb-false (k % 9) n q))) }
+        record { each = up-to (λ m. m % 9 < n → Below s e (thresholdOf (placeOf z m) (placeOf y m))) k (i .each) (λ x. absurd (omega (arith, ltb-false (k % 9) n q))) }
 
-    tested : (f : Fraction) (k : ℕ) → k ≤ n * 9 → Below s e (loweredTo n k z y f) → Tested f k
+    tested : (f : Fraction) (k : ℕ) → k ≤ n * 9 → Below s e (loweredTo n k z y f) → Tested k
     unfolding loweredTo
-    tested f zero hk b = record { before = b; each = λ m hm. absurd (not-suc-le-zero hm) }
+    tested f zero hk b = record { each = λ m hm. absurd (not-suc-le-zero hm) }
     tested f (suc k) hk b = next-tested f k hk (tested f k (omega arith)) (ltb (k % 9) n) refl b
-
-    pub inside-before : (f : Fraction) → Below s e (loweredWithin n z y f) → Below s e f
-    inside-before f b = tested f (n * 9) (omega arith) b .before
 
     -- each value of z is no larger than y's
     pub inside-values : n ≤ 9 → (f : Fraction) → Below s e (loweredWithin n z y f) → (a b : ℕ) → a < n → b < n → valueOf s e (pairAt z a b) ≤ℤ valueOf s e (pairAt y a b)

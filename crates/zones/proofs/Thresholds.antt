@@ -103,6 +103,10 @@ module _ (s e : ℕ) where
       go (yes p) (no q) = absurd (zeroPair (f .n) (f .d) (g .n) (g .d) p q l u)
       go (no p) q = open-end (g .n) (g .d) p k
 
+  -- whatever the other is, it is below the one that was there
+  pub lowered-before : (f g : Fraction) → 0 < s → Below s e (loweredBy f g) → Below s e f
+  lowered-before f g h = lowered-cases f g (λ x. Below s e x → Below s e f) (λ l u. lower-of f g h l u) (λ l u. u)
+
   pub lowered-sound : (f g : Fraction) → 0 < s → 0 < g .n → Below s e (loweredBy f g) → Below s e f × Below s e g
   lowered-sound f g h k =
       lowered-cases f g (λ x. Below s e x → Below s e f × Below s e g) (λ l u. (lower-of f g h l u, u))

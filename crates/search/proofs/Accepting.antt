@@ -1,0 +1,131 @@
+-- An automaton that is not turned down is accepted: each test that it passed, as a fact.
+-- Assumes nothing.
+use Prim.Native.Nat.{ℕ, zero, suc, _+_, _^_, _<_, _≤_}
+use mathlib.Core.Path.{_≡_, refl, sym, ap, _∙_}
+use mathlib.Core.Bool.{Bool, true, false, not, cond, _&&_}
+use mathlib.Core.List.{List}
+use borrow.Author.Tests.{ltb-false, leb-false, eqb-true, ne-eqb, not-false}
+use lib.Dec.{ltb, leb, eqb}
+use lib.ListN.{length}
+use native.Mathlib.Nat.{not-suc-le-zero}
+use native.Mathlib.Omega.{arith}
+use Rattle.zones.specs.Ranges.{scale}
+use Rattle.search.specs.Accepted.{Accepted}
+use Rattle.search.specs.Automata.{lengthField, version, clocks, locations, edges, start, target, from, to, resetByte, formula, loAt, hiAt, noUpper, limitsAt, invariantAt, edgeAt, invariantOf, guardOf, resetsOf, some, oversize, misplaced, noSuchPlace, noSuchClock, outOfRange, offScaleAt, invariantOffScale, guardOffScale, offScale, refusalOf}
+use Rattle.search.proofs.Resets.{no-bit}
+use Rattle.search.proofs.Some.{fails}
+use Rattle.search.proofs.Refusals.{neither, complete}
+
+-- ---- the numbers
+small : (t : Bool) (k r : ℕ) → k ≤ 8 → r ≤ 8 → cond t k r ≤ 8
+small true k r h g = h
+small false k r h g = g
+
+pub refusal-small : (s : List ℕ) → refusalOf s ≤ 8
+unfolding refusalOf
+refusal-small s =
+    small (ltb (length s) 11) 1 _ (omega arith)
+    (small (not (eqb (lengthField s) (length s))) 2 _ (omega arith)
+    (small (not (eqb (version s) 1)) 3 _ (omega arith)
+    (small (oversize s) 4 _ (omega arith)
+    (small (not (eqb (lengthField s) (formula s))) 5 _ (omega arith)
+    (small (noSuchPlace s) 6 _ (omega arith)
+    (small (noSuchClock s) 7 _ (omega arith)
+    (small (offScale s) 8 0 (omega arith) (omega arith))))))))
+
+passed : (t : Bool) (k r : ℕ) → cond t (suc k) r ≡ 0 → (t ≡ false) × (r ≡ 0)
+passed true k r e = absurd (omega arith)
+passed false k r e = (refl, e)
+
+record Passed (s : List ℕ) : Type 0 where
+  pub head : 11 ≤ length s
+  pub size : length s ≡ formula s
+  pub counts : oversize s ≡ false
+  pub places : noSuchPlace s ≡ false
+  pub resets : noSuchClock s ≡ false
+  pub limits : offScale s ≡ false
+
+passes : (s : List ℕ) → refusalOf s ≡ 0 → Passed s
+unfolding refusalOf
+passes s e =
+    let p1 = passed (ltb (length s) 11) 0 _ e in
+    let p2 = passed (not (eqb (lengthField s) (length s))) 1 _ (p1 .1) in
+    let p3 = passed (not (eqb (version s) 1)) 2 _ (p2 .1) in
+    let p4 = passed (oversize s) 3 _ (p3 .1) in
+    let p5 = passed (not (eqb (lengthField s) (formula s))) 4 _ (p4 .1) in
+    let p6 = passed (noSuchPlace s) 5 _ (p5 .1) in
+    let p7 = passed (noSuchClock s) 6 _ (p6 .1) in
+    let p8 = passed (offScale s) 7 _ (p7 .1) in
+    record {
+      head = ltb-false _ _ (p1 .0);
+      size = sym (eqb-true _ _ (not-false _ (p2 .0))) ∙ eqb-true (lengthField s) (formula s) (not-false _ (p5 .0));
+      counts = p4 .0;
+      places = p6 .0;
+      resets = p7 .0;
+      limits = p8 .0;
+    }
+
+-- ---- limits
+record InRange (mayLack : Bool) (lo hi : ℕ) : Type 0 where
+  pub lo≤ : lo ≤ scale
+  pub hi≤ : (mayLack && eqb hi noUpper) ≡ false → hi ≤ scale
+
+excused : (t u : Bool) → (t && not u) ≡ false → u ≡ false → t ≡ false
+excused true u e f = sym (ap not f) ∙ e
+excused false u e f = refl
+
+in-range : (mayLack : Bool) (lo hi : ℕ) → outOfRange mayLack lo hi ≡ false → InRange mayLack lo hi
+in-range mayLack lo hi e =
+    let n = neither (ltb scale lo) _ e in
+    record { lo≤ = ltb-false scale lo (n .0); hi≤ = λ f. ltb-false scale hi (excused (ltb scale hi) (mayLack && eqb hi noUpper) (n .1) f) }
+
+all-in-range : (s : List ℕ) (mayLack : Bool) (at : ℕ) → offScaleAt s mayLack at ≡ false → (x : ℕ) → 0 < x → x ≤ clocks s → InRange mayLack (loAt s at x) (hiAt s at x)
+unfolding offScaleAt
+all-in-range s mayLack at e zero h g = absurd (not-suc-le-zero h)
+all-in-range s mayLack at e (suc x) h g = in-range mayLack _ _ (fails (λ x. outOfRange mayLack (loAt s at (suc x)) (hiAt s at (suc x))) (clocks s) e x g)
+
+present : {lo hi : ℕ} → InRange false lo hi → eqb hi noUpper ≡ false
+present {lo} {hi} r = let h = r .hi≤ refl in ne-eqb hi noUpper (λ q. omega arith)
+
+-- ---- all of them
+module _ (s : List ℕ) (p : Passed s) where
+  places : (misplaced (locations s) (start s) (target s) ≡ false) × (some (edges s) (λ i. misplaced (locations s) (from s i) (to s i)) ≡ false)
+  places = neither (misplaced (locations s) (start s) (target s)) _ (p .places)
+
+  ends : (leb (locations s) (start s) ≡ false) × (leb (locations s) (target s) ≡ false)
+  ends = neither (leb (locations s) (start s)) _ (places .0)
+
+  edge-ends : (i : ℕ) → i < edges s → (leb (locations s) (from s i) ≡ false) × (leb (locations s) (to s i) ≡ false)
+  edge-ends i h = neither (leb (locations s) (from s i)) _ (fails _ (edges s) (places .1) i h)
+
+  few-resets : (i : ℕ) → i < edges s → resetByte s i < 2 ^ clocks s
+  few-resets i h = leb-false _ _ (fails (λ i. leb (2 ^ clocks s) (resetByte s i)) (edges s) (p .resets) i h)
+
+  limits : (invariantOffScale s ≡ false) × (guardOffScale s ≡ false)
+  limits = neither (invariantOffScale s) _ (p .limits)
+
+  invariant-fits : (l x : ℕ) → l < locations s → 0 < x → x ≤ clocks s → InRange false (loAt s (invariantAt s l) x) (hiAt s (invariantAt s l) x)
+  invariant-fits l x h = all-in-range s false (invariantAt s l) (fails _ (locations s) (limits .0) l h) x
+
+  guard-fits : (i x : ℕ) → i < edges s → 0 < x → x ≤ clocks s → InRange true (loAt s (edgeAt s i + 3) x) (hiAt s (edgeAt s i + 3) x)
+  guard-fits i x h = all-in-range s true (edgeAt s i + 3) (fails _ (edges s) (limits .1) i h) x
+
+  passed-all : Accepted s
+  unfolding resetsOf invariantOf guardOf limitsAt
+  passed-all =
+      record {
+        complete = complete s (p .head) (p .counts) (p .size);
+        start< = leb-false _ _ (ends .0);
+        target< = leb-false _ _ (ends .1);
+        from< = λ i h. leb-false _ _ (edge-ends i h .0);
+        to< = λ i h. leb-false _ _ (edge-ends i h .1);
+        resets = λ i x h g. no-bit (resetByte s i) (clocks s) x (few-resets i h) g;
+        invariant-lo = λ l x h g k. invariant-fits l x h g k .lo≤;
+        invariant-hi = λ l x h g k. invariant-fits l x h g k .hi≤ refl;
+        invariant-present = λ l x h g k. present (invariant-fits l x h g k);
+        guard-lo = λ i x h g k. guard-fits i x h g k .lo≤;
+        guard-hi = λ i x h g k. guard-fits i x h g k .hi≤;
+      }
+
+pub accepted : (s : List ℕ) → refusalOf s ≡ 0 → Accepted s
+accepted s e = passed-all s (passes s e)

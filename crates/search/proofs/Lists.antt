@@ -1,0 +1,75 @@
+-- Elements of a list by their place.
+use Prim.Native.Nat.{ℕ, zero, suc, _+_, _≤_, _<_}
+use mathlib.Core.List.{List, [], _∷_, _++_}
+use mathlib.Core.Path.{_≡_, refl, sym, ap, _∙_, subst}
+use mathlib.Core.Logic.{_⊎_, inl, inr, ⊎-elim}
+use lib.ListN.{length, drop}
+use native.Mathlib.Omega.{arith}
+use Rattle.search.specs.Search.{Nth}
+
+module _ {X : Type 0} where
+  pub nth-left : (xs ys : List X) (j : ℕ) (k : X) → Nth xs j k → Nth (xs ++ ys) j k
+  nth-left [] ys j k h = absurd h
+  nth-left (x ∷ xs) ys zero k h = h
+  nth-left (x ∷ xs) ys (suc j) k h = nth-left xs ys j k h
+
+  pub nth-back : (xs ys : List X) (j : ℕ) (k : X) → j < length xs → Nth (xs ++ ys) j k → Nth xs j k
+  nth-back [] ys j k l h = absurd (omega arith)
+  nth-back (x ∷ xs) ys zero k l h = h
+  nth-back (x ∷ xs) ys (suc j) k l h = nth-back xs ys j k (omega arith) h
+
+  pub nth-last : (xs : List X) (y : X) → Nth (xs ++ (y ∷ [])) (length xs) y
+  nth-last [] y = refl
+  nth-last (x ∷ xs) y = nth-last xs y
+
+  pub nth-snoc : (xs : List X) (y : X) (j : ℕ) (k : X) → Nth (xs ++ (y ∷ [])) j k → Nth xs j k ⊎ (y ≡ k)
+  nth-snoc [] y zero k h = inr h
+  nth-snoc [] y (suc j) k h = absurd h
+  nth-snoc (x ∷ xs) y zero k h = inl h
+  nth-snoc (x ∷ xs) y (suc j) k h = nth-snoc xs y j k h
+
+  pub nth-one : (xs : List X) (j : ℕ) (k k′ : X) → Nth xs j k → Nth xs j k′ → k ≡ k′
+  nth-one [] j k k′ h g = absurd h
+  nth-one (x ∷ xs) zero k k′ h g = sym h ∙ g
+  nth-one (x ∷ xs) (suc j) k k′ h g = nth-one xs j k k′ h g
+
+  pub nth-lt : (xs : List X) (j : ℕ) (k : X) → Nth xs j k → j < length xs
+  nth-lt [] j k h = absurd h
+  nth-lt (x ∷ xs) zero k h = omega arith
+  nth-lt (x ∷ xs) (suc j) k h = omega (arith, nth-lt xs j k h)
+
+  pub nth-drop : (xs : List X) (n : ℕ) (k : X) (ks : List X) → drop n xs ≡ k ∷ ks → Nth xs n k
+  nth-drop [] zero k ks h = clash h
+    where
+      Is : List X → Type 0
+      Is [] = Unit {0}
+      Is (y ∷ ys) = ⊥
+
+      clash : [] ≡ k ∷ ks → ⊥
+      clash e = subst Is e tt
+  nth-drop [] (suc n) k ks h = clash h
+    where
+      Is : List X → Type 0
+      Is [] = Unit {0}
+      Is (y ∷ ys) = ⊥
+
+      clash : [] ≡ k ∷ ks → ⊥
+      clash e = subst Is e tt
+  nth-drop (x ∷ xs) zero k ks h = head h
+    where
+      hd : X → List X → X
+      hd d [] = d
+      hd d (y ∷ ys) = y
+
+      head : x ∷ xs ≡ k ∷ ks → x ≡ k
+      head e = ap (hd x) e
+  nth-drop (x ∷ xs) (suc n) k ks h = nth-drop xs n k ks h
+
+  pub drop-none : (xs : List X) (n : ℕ) → drop n xs ≡ [] → length xs ≤ n
+  drop-none [] n h = omega arith
+  drop-none (x ∷ xs) zero h = absurd (subst Is (sym h) tt)
+    where
+      Is : List X → Type 0
+      Is [] = Unit {0}
+      Is (y ∷ ys) = ⊥
+  drop-none (x ∷ xs) (suc n) h = omega (arith, drop-none xs n h)

@@ -1,0 +1,98 @@
+-- Waits and resets of a valuation, by clocks.
+-- Assumes nothing.
+use Prim.Native.Nat.{ℕ, zero, suc, _+_, _<_, _≤_}
+use mathlib.Core.Path.{_≡_, refl, sym, ap, ap₂, _∙_, subst}
+use mathlib.Core.Bool.{Bool, true, false, cond}
+use mathlib.Core.List.{List, [], _∷_}
+use lib.ListN.{length, getD, replicate, length-replicate, getD-replicate}
+use lib.Seq.{ext-getD}
+use native.Mathlib.Omega.{arith}
+use native.Mathlib.Nat.{add-zero, add-assoc, not-suc-le-zero}
+use Rattle.zones.specs.Sets.{Put, Waits}
+use Rattle.zones.specs.Zones.{home}
+use Rattle.zones.proofs.Places.{home-stays, home-goes}
+use Rattle.search.specs.Semantics.{Valuation, ticks, later, zeroed}
+
+-- ---- waits add up
+pub later-none : (v : Valuation) → later 0 v ≡ v
+unfolding later
+later-none [] = refl
+later-none (y ∷ v) = λ i. add-zero y i ∷ later-none v i
+
+pub later-more : (t u : ℕ) (v : Valuation) → later u (later t v) ≡ later (t + u) v
+unfolding later
+later-more t u [] = refl
+later-more t u (y ∷ v) = λ i. add-assoc y t u i ∷ later-more t u v i
+
+-- ---- by clocks
+pub later-length : (t : ℕ) (v : Valuation) → length (later t v) ≡ length v
+unfolding later
+later-length t [] = refl
+later-length t (y ∷ v) = ap suc (later-length t v)
+
+later-at : (t : ℕ) (v : Valuation) (x : ℕ) → x < length v → getD (later t v) x 0 ≡ getD v x 0 + t
+unfolding later
+later-at t [] x h = absurd (not-suc-le-zero h)
+later-at t (y ∷ v) zero h = refl
+later-at t (y ∷ v) (suc x) h = later-at t v x (omega arith)
+
+pub zeroed-length : (R : ℕ → Bool) (x : ℕ) (v : Valuation) → length (zeroed R x v) ≡ length v
+unfolding zeroed
+zeroed-length R x [] = refl
+zeroed-length R x (y ∷ v) = ap suc (zeroed-length R (suc x) v)
+
+zeroed-at : (R : ℕ → Bool) (k : ℕ) (v : Valuation) (x : ℕ) → x < length v → getD (zeroed R k v) x 0 ≡ cond (R (k + x)) 0 (getD v x 0)
+unfolding zeroed
+zeroed-at R k [] x h = absurd (not-suc-le-zero h)
+zeroed-at R k (y ∷ v) zero h = let e : k ≡ k + 0 = omega arith in ap (λ (j : ℕ). cond (R j) 0 y) e
+zeroed-at R k (y ∷ v) (suc x) h = let e : suc k + x ≡ k + suc x = omega arith in zeroed-at R (suc k) v x (omega arith) ∙ ap (λ (j : ℕ). cond (R j) 0 (getD v x 0)) e
+
+module _ (c : ℕ) (v : Valuation) (all : length v ≡ c) where
+  pub ticks-wait : (t : ℕ) → Waits (suc c) t (ticks v) (ticks (later t v))
+  ticks-wait t = record { start = refl; later = at }
+    where
+      at : (x : ℕ) → 0 < x → x < suc c → ticks (later t v) x ≡ ticks v x + t
+      at zero px hx = absurd (not-suc-le-zero px)
+      at (suc x) px hx = later-at t v x (omega arith)
+
+  pub ticks-put : (R : ℕ → Bool) → Put (suc c) R (ticks v) (ticks (zeroed R 1 v))
+  ticks-put R zero h = sym (go (R 0) refl)
+    where
+      go : (t : Bool) → R 0 ≡ t → ticks v (home R 0) ≡ 0
+      go true e = ap (ticks v) (home-goes R 0 e)
+      go false e = ap (ticks v) (home-stays R 0 e)
+  ticks-put R (suc x) h = zeroed-at R 1 v x (omega arith) ∙ go (R (suc x)) refl
+    where
+      one : 1 + x ≡ suc x
+      one = omega arith
+
+      go : (t : Bool) → R (suc x) ≡ t → cond (R (1 + x)) 0 (getD v x 0) ≡ ticks v (home R (suc x))
+      go true e = ap (λ (j : ℕ). cond (R j) 0 (getD v x 0)) one ∙ ap (λ (t : Bool). cond t 0 (getD v x 0)) e ∙ sym (ap (ticks v) (home-goes R (suc x) e))
+      go false e = ap (λ (j : ℕ). cond (R j) 0 (getD v x 0)) one ∙ ap (λ (t : Bool). cond t 0 (getD v x 0)) e ∙ sym (ap (ticks v) (home-stays R (suc x) e))
+
+-- ---- a valuation from its clocks, and that they say which it is
+pub listed : ℕ → (ℕ → ℕ) → Valuation
+listed zero u = []
+listed (suc c) u = u 1 ∷ listed c (λ x. u (suc x))
+
+pub listed-length : (c : ℕ) (u : ℕ → ℕ) → length (listed c u) ≡ c
+unfolding listed
+listed-length zero u = refl
+listed-length (suc c) u = ap suc (listed-length c (λ x. u (suc x)))
+
+listed-at : (c : ℕ) (u : ℕ → ℕ) (x : ℕ) → x < c → getD (listed c u) x 0 ≡ u (suc x)
+unfolding listed
+listed-at zero u x h = absurd (not-suc-le-zero h)
+listed-at (suc c) u zero h = refl
+listed-at (suc c) u (suc x) h = listed-at c (λ x. u (suc x)) x (omega arith)
+
+pub ticks-listed : (c : ℕ) (u : ℕ → ℕ) → u 0 ≡ 0 → (a : ℕ) → a < suc c → ticks (listed c u) a ≡ u a
+ticks-listed c u z zero h = sym z
+ticks-listed c u z (suc x) h = listed-at c u x (omega arith)
+
+pub same-ticks : (c : ℕ) (v u : Valuation) → length v ≡ c → length u ≡ c → ((x : ℕ) → 0 < x → x < suc c → ticks v x ≡ ticks u x) → v ≡ u
+same-ticks c v u e f h = ext-getD 0 v u (e ∙ sym f) (λ i hi. h (suc i) (omega arith) (omega arith))
+
+pub origin-ticks : (c a : ℕ) → a < suc c → ticks (replicate c 0) a ≡ 0
+origin-ticks c zero h = refl
+origin-ticks c (suc x) h = getD-replicate c x 0 0 (omega arith)

@@ -1,0 +1,52 @@
+use native.Mathlib.Omega.{arith}
+use borrow.Author.Needs.{needs}
+use Rattle.search.specs.Automata.{edgeAt}
+use Rattle.search.proofs.Places.{table-size, rows-size}
+use Rattle.search.proofs.automaton.edge_at.Statement.{statement}
+use Rattle.search.proofs.automaton.edge_at.Tie as tie
+
+clocks-requires : tie.Need-clocks-requires
+clocks-requires c κs = search needs
+
+mul-result : tie.Need-mul-result
+mul-result c = omega (arith, c .before .shared-slice-known .given 5)
+
+locations-requires : tie.Need-locations-requires
+locations-requires c κs = search needs
+
+mul-result-2 : tie.Need-mul-result-2
+mul-result-2 c = omega (arith, table-size (c .before .clocks .result) (c .locations .result) (omega (arith, c .before .before .shared-slice-known .given 5)) (omega (arith, c .before .before .shared-slice-known .given 6)))
+
+add-result : tie.Need-add-result
+add-result c = omega (arith, table-size (c .before .clocks .result) (c .locations .result) (omega (arith, c .before .before .shared-slice-known .given 5)) (omega (arith, c .before .before .shared-slice-known .given 6)))
+
+mul-result-3 : tie.Need-mul-result-3
+mul-result-3 c = omega (arith, c .before .before .shared-slice-known .given 5)
+
+add-result-2 : tie.Need-add-result-2
+add-result-2 c = omega (arith, c .before .before .shared-slice-known .given 5)
+
+mul-result-4 : tie.Need-mul-result-4
+mul-result-4 c = omega (arith, rows-size (c .before .before .before .args .i) (c .before .clocks .result) (omega arith) (omega (arith, c .before .before .shared-slice-known .given 5)))
+
+add-result-3 : tie.Need-add-result-3
+add-result-3 c = omega (arith, table-size (c .before .clocks .result) (c .locations .result) (omega (arith, c .before .before .shared-slice-known .given 5)) (omega (arith, c .before .before .shared-slice-known .given 6)), rows-size (c .before .before .before .args .i) (c .before .clocks .result) (omega arith) (omega (arith, c .before .before .shared-slice-known .given 5)))
+
+returns : tie.Need-returns
+unfolding edgeAt
+returns c = rw (c .before .clocks .ensures, c .locations .ensures)
+
+pub edge-at-spec : {M : Type 1} → statement M
+edge-at-spec =
+    tie.close
+    (tie.spec
+    clocks-requires
+    mul-result
+    locations-requires
+    mul-result-2
+    add-result
+    mul-result-3
+    add-result-2
+    mul-result-4
+    add-result-3
+    returns)

@@ -1,0 +1,12 @@
+use borrow.Author.Tests.{le-leb, lt-leb}
+use Rattle.search.proofs.automaton.misplaced.Statement.{statement}
+use Rattle.search.proofs.automaton.misplaced.Tie as tie
+
+returns : tie.Need-returns
+returns c = rw (le-leb _ _ (c .if1 .taken))
+
+returns-2 : tie.Need-returns-2
+returns-2 c = rw (lt-leb _ _ (c .if1 .left))
+
+pub misplaced-spec : {M : Type 1} → statement M
+misplaced-spec = tie.close (tie.spec returns returns-2)

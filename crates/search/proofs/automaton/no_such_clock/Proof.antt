@@ -1,0 +1,77 @@
+use Prim.Native.Nat.{ℕ, _^_, _-_, _≤_}
+use mathlib.Core.Bool.{Bool}
+use mathlib.Core.List.{List}
+use mathlib.Core.Path.{_≡_, sym, _∙_}
+use lib.Dec.{leb}
+use native.Mathlib.Omega.{arith}
+use borrow.Author.Tests.{le-leb, lt-leb}
+use Rattle.search.specs.Automata.{clocks, edges, resetByte, some, noSuchClock}
+use Rattle.search.proofs.Some.{some-yes, some-no, some-none}
+use Rattle.search.proofs.automaton.no_such_clock.Statement.{statement}
+use Rattle.search.proofs.automaton.no_such_clock.Tie as tie
+
+abbrev stray : List ℕ → ℕ → Bool
+stray s i = leb (2 ^ clocks s) (resetByte s i)
+
+abbrev Inv-loop : tie.InvT-loop
+Inv-loop automaton bound i₀ i = (i ≤ edges automaton) × ((noSuchClock automaton ≡ some i (stray automaton)) × (bound ≡ 2 ^ clocks automaton))
+
+abbrev μ-loop : tie.MeasureT-loop
+μ-loop automaton bound i₀ i = i
+
+clocks-requires : tie.Need-clocks-requires Inv-loop μ-loop
+clocks-requires c κs = omega arith
+
+reset-bound-requires : tie.Need-reset-bound-requires Inv-loop μ-loop
+reset-bound-requires c κs = omega arith
+
+edges-requires : tie.Need-edges-requires Inv-loop μ-loop
+edges-requires c κs = omega arith
+
+loop-holds : tie.Need-loop-holds Inv-loop μ-loop
+loop-holds c = (omega arith, (rw (c .edges .ensures), c .before .reset-bound .ensures ∙ rw (c .before .before .clocks .ensures)))
+
+sub-i : tie.Need-sub-i Inv-loop μ-loop
+sub-i c = omega arith
+
+reset-byte-requires : tie.Need-reset-byte-requires Inv-loop μ-loop
+reset-byte-requires c κs = (c .before .before .before .before .before .before .pre, omega arith)
+
+wide-requires : tie.Need-wide-requires Inv-loop μ-loop
+wide-requires c κs = tt
+
+returns : tie.Need-returns Inv-loop μ-loop
+returns c =
+    let s = c .before .before .before .before .before .before .before .before .before .args .automaton .now in
+    let l = c .before .before .before .before .loop in
+    sym (l .inv .1 .0 ∙ some-yes (stray s) (l .i) (omega arith) (le-leb (2 ^ clocks s) (resetByte s (l .i - 1)) (omega arith)))
+
+loop-less : tie.Need-loop-less Inv-loop μ-loop
+loop-less c = omega arith
+
+loop-again : tie.Need-loop-again Inv-loop μ-loop
+loop-again c =
+    let s = c .before .before .before .before .before .before .before .before .before .args .automaton .now in
+    let l = c .before .before .before .before .loop in
+    (omega arith, (l .inv .1 .0 ∙ some-no (stray s) (l .i) (omega arith) (lt-leb (2 ^ clocks s) (resetByte s (l .i - 1)) (omega arith)), l .inv .1 .1))
+
+returns-2 : tie.Need-returns-2 Inv-loop μ-loop
+returns-2 c = sym (c .before .loop .inv .1 .0 ∙ some-none _ _ (c .loop-test .left))
+
+pub no-such-clock-spec : {M : Type 1} → statement M
+no-such-clock-spec =
+    tie.close
+    (tie.spec
+    Inv-loop
+    μ-loop
+    clocks-requires
+    reset-bound-requires
+    edges-requires
+    loop-holds
+    sub-i
+    reset-byte-requires
+    wide-requires
+    returns
+    loop-less
+    loop-again
+    returns-2)

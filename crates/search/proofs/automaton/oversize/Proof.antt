@@ -1,0 +1,43 @@
+use native.Mathlib.Omega.{arith}
+use borrow.Author.Needs.{needs}
+use borrow.Author.Tests.{lt-ltb, le-ltb, eq-eqb, ne-eqb}
+use Rattle.search.specs.Automata.{clocks, locations, edges}
+use Rattle.search.proofs.automaton.oversize.Statement.{statement}
+use Rattle.search.proofs.automaton.oversize.Tie as tie
+
+clocks-requires : tie.Need-clocks-requires
+clocks-requires c κs = search needs
+
+locations-requires : tie.Need-locations-requires
+locations-requires c κs = search needs
+
+returns : tie.Need-returns
+returns c = let s = c .before .before .before .before .args .automaton .now in rw (eq-eqb (clocks s) 0 (omega arith))
+
+returns-2 : tie.Need-returns-2
+returns-2 c = let s = c .before .before .before .before .before .args .automaton .now in rw (ne-eqb (clocks s) 0 (omega arith), lt-ltb 8 (clocks s) (omega arith))
+
+returns-3 : tie.Need-returns-3
+returns-3 c = let s = c .before .before .before .before .before .before .args .automaton .now in rw (ne-eqb (clocks s) 0 (omega arith), le-ltb 8 (clocks s) (omega arith), eq-eqb (locations s) 0 (omega arith))
+
+returns-4 : tie.Need-returns-4
+returns-4 c = let s = c .before .before .before .before .before .before .before .args .automaton .now in rw (ne-eqb (clocks s) 0 (omega arith), le-ltb 8 (clocks s) (omega arith), ne-eqb (locations s) 0 (omega arith), lt-ltb 64 (locations s) (omega arith))
+
+edges-requires : tie.Need-edges-requires
+edges-requires c κs = search needs
+
+returns-5 : tie.Need-returns-5
+returns-5 c = let s = c .before .before .before .before .before .before .before .before .args .automaton .now in rw (ne-eqb (clocks s) 0 (omega arith), le-ltb 8 (clocks s) (omega arith), ne-eqb (locations s) 0 (omega arith), le-ltb 64 (locations s) (omega arith), c .edges .ensures)
+
+pub oversize-spec : {M : Type 1} → statement M
+oversize-spec =
+    tie.close
+    (tie.spec
+    clocks-requires
+    locations-requires
+    returns
+    returns-2
+    returns-3
+    returns-4
+    edges-requires
+    returns-5)

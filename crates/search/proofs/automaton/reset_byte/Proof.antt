@@ -1,0 +1,20 @@
+use native.Mathlib.Omega.{arith}
+use borrow.Author.Needs.{needs}
+use Rattle.search.proofs.Places.{edge-within}
+use Rattle.search.proofs.automaton.reset_byte.Statement.{statement}
+use Rattle.search.proofs.automaton.reset_byte.Tie as tie
+
+edge-at-requires : tie.Need-edge-at-requires
+edge-at-requires c κs = search needs
+
+add-result : tie.Need-add-result
+add-result c = omega (arith, edge-within (c .before .before .args .automaton .now) (c .before .before .pre .0) (c .before .before .args .i) (c .before .before .pre .1))
+
+shared-slice-read-result : tie.Need-shared-slice-read-result
+shared-slice-read-result c = omega (arith, edge-within (c .before .before .before .args .automaton .now) (c .before .before .before .pre .0) (c .before .before .before .args .i) (c .before .before .before .pre .1))
+
+returns : tie.Need-returns
+returns c = rw (c .before .edge-at .ensures)
+
+pub reset-byte-spec : {M : Type 1} → statement M
+reset-byte-spec = tie.close (tie.spec edge-at-requires add-result shared-slice-read-result returns)

@@ -1,0 +1,11 @@
+use native.Mathlib.Nat.{div-one}
+use Rattle.search.specs.Automata.{inByte, firsts, resetSet}
+use Rattle.search.proofs.automaton.reset_set.Statement.{statement}
+use Rattle.search.proofs.automaton.reset_set.Tie as tie
+
+returns : tie.Need-returns
+unfolding resetSet firsts inByte
+returns c = rw (div-one (c .args .b))
+
+pub reset-set-spec : {M : Type 1} → statement M
+reset-set-spec = tie.close (tie.spec returns)

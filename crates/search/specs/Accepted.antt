@@ -1,0 +1,32 @@
+-- What holds of an automaton that is not turned down.
+use Prim.Native.Nat.{ℕ, _≤_, _<_}
+use mathlib.Core.Path.{_≡_}
+use mathlib.Core.Bool.{false}
+use mathlib.Core.List.{List}
+use lib.ListN.{length}
+use Rattle.zones.specs.Ranges.{scale}
+use Rattle.search.specs.Automata.{clocks, locations, edges, start, target, from, to, formula, invariantOf, guardOf, resetsOf}
+
+-- free of 1, 2, 4 and 5: every byte that the counts speak of is there
+pub record Complete (s : List ℕ) : Type 0 where
+  pub head : 11 ≤ length s
+  pub size : length s ≡ formula s
+  pub clocks≥ : 1 ≤ clocks s
+  pub clocks≤ : clocks s ≤ 8
+  pub locations≥ : 1 ≤ locations s
+  pub locations≤ : locations s ≤ 64
+  pub edges≤ : edges s ≤ 256
+
+-- free of 1 to 8
+pub record Accepted (s : List ℕ) : Type 0 where
+  pub complete : Complete s
+  pub start< : start s < locations s
+  pub target< : target s < locations s
+  pub from< : (i : ℕ) → i < edges s → from s i < locations s
+  pub to< : (i : ℕ) → i < edges s → to s i < locations s
+  pub resets : (i x : ℕ) → i < edges s → clocks s < x → resetsOf s i x ≡ false
+  pub invariant-lo : (l x : ℕ) → l < locations s → 0 < x → x ≤ clocks s → invariantOf s l .lo x ≤ scale
+  pub invariant-hi : (l x : ℕ) → l < locations s → 0 < x → x ≤ clocks s → invariantOf s l .hi x ≤ scale
+  pub invariant-present : (l x : ℕ) → l < locations s → 0 < x → x ≤ clocks s → invariantOf s l .absent x ≡ false
+  pub guard-lo : (i x : ℕ) → i < edges s → 0 < x → x ≤ clocks s → guardOf s i .lo x ≤ scale
+  pub guard-hi : (i x : ℕ) → i < edges s → 0 < x → x ≤ clocks s → guardOf s i .absent x ≡ false → guardOf s i .hi x ≤ scale

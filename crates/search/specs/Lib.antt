@@ -1,0 +1,8 @@
+-- Document 01: the card's bytes, the runs that they allow, the search, its verdict and its store.
+pub mod Automata
+pub mod Accepted
+pub mod Runs
+pub mod Semantics
+pub mod Search
+pub mod Meaning
+pub mod Instance
