@@ -13,3 +13,4 @@ pub mod Capacity
 pub mod Robust
 pub mod Valuations
 pub mod Obeys
+pub mod Stepping

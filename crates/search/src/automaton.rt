@@ -12,7 +12,7 @@ const VERSION: u8 = 1;
 const SCALE: u32 = 1000000;
 
 // The hi of a guard without an upper limit.
-const NO_UPPER: u32 = 4294967295;
+pub const NO_UPPER: u32 = 4294967295;
 
 fn wide(x: u8) -> u32
     ensures { λ r. ⌜ (r ≡ x) × (r < 256) ⌝ }

@@ -1,2 +1,3 @@
-// The reader of automata (document 01's cards) and the search for their verdicts.
+// The reader of automata and the search for their verdicts.
 pub mod automaton;
+pub mod successor;

@@ -100,3 +100,24 @@ pub raise-fraction : (L : Limits) (x : ℕ) (w : Work) → raiseLimits L x w .fr
 unfolding raiseLimits
 raise-fraction L zero w = refl
 raise-fraction L (suc x) w = raise-fraction L x w
+
+-- one clock more, and all of them, as a loop counts from clock 1
+pub raise-more : (L : Limits) (x : ℕ) (w : Work) {z : List Pair} {q : Pair} → 0 < x → z ≡ raiseLimits L (x - 1) w .zone → q ≡ atMost (L .hi x) → set z (x * 9) q ≡ raiseLimits L (x + 1 - 1) w .zone
+raise-more L x w h e f = let k : x ≡ x + 1 - 1 = omega arith in raise-next L x w h e f ∙ ap (λ (y : ℕ). raiseLimits L y w .zone) k
+
+pub raise-all : (L : Limits) (n : ℕ) (w : Work) {k : ℕ} {z : List Pair} → k ≡ n → z ≡ raiseLimits L k w .zone → record { zone = z; fraction = w .fraction } ≡ raiseLimits L n w
+raise-all L n w e f =
+    let g = f ∙ ap (λ (y : ℕ). raiseLimits L y w .zone) e in
+    let h = sym (raise-fraction L n w) in
+    λ i. record { zone = g i; fraction = h i }
+
+pub limits-all : (L : Limits) (n : ℕ) (w : Work) {k : ℕ} {u : Work} → k ≡ n → u ≡ meetLimits L k w → u ≡ meetLimits L n w
+limits-all L n w e f = f ∙ ap (λ (y : ℕ). meetLimits L y w) e
+
+-- the limits of clock x, met on its two entries after those of the clocks before it
+pub limits-more : (L : Limits) (x : ℕ) (w u : Work) {b : Bounds} → 0 < x → x < 9 → length (u .zone) ≡ 81 → u ≡ meetLimits L (x - 1) w →
+    b ≡ boundsMet (L .lo x) (L .hi x) (L .absent x) (record { upper = entry u x 0; lower = entry u 0 x; fraction = u .fraction }) →
+    record { zone = set (set (u .zone) (x * 9) (b .upper)) x (b .lower); fraction = b .fraction } ≡ meetLimits L (x + 1 - 1) w
+limits-more L x w u px hx size e f =
+    let k : x ≡ x + 1 - 1 = omega arith in
+    limits-next L x w px (clock-met x (L .lo x) (L .hi x) (L .absent x) u px hx size f ∙ ap (meetClock x (L .lo x) (L .hi x) (L .absent x)) e) ∙ ap (λ (y : ℕ). meetLimits L y w) k

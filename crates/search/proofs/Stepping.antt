@@ -1,0 +1,140 @@
+-- What a turn of the loop over the clocks asks and gives, on the two entries that it reads and sets.
+-- Assumes nothing.
+use Prim.Native.Nat.{ℕ, zero, suc, _+_, _-_, _*_, _<_, _≤_}
+use mathlib.Core.Path.{_≡_, refl, sym, ap, _∙_, subst}
+use mathlib.Core.Bool.{Bool, true, false}
+use mathlib.Core.List.{List}
+use lib.ListN.{length, getD, set, List·getD-eq-default}
+use native.Mathlib.Decide.{decLt}
+use native.Mathlib.Omega.{arith}
+use Rattle.zones.specs.declared.fraction.Fraction.{Fraction}
+use Rattle.zones.specs.declared.pair.Pair.{Pair}
+use Rattle.zones.specs.declared.reduction.Reduced.{Reduced}
+use Rattle.zones.specs.declared.zone.Bounds.{Bounds}
+use Rattle.zones.specs.declared.zone.Work.{Work}
+use Rattle.zones.specs.Pairs.{zeroPair}
+use Rattle.zones.specs.Ranges.{Sized, OnScale, LimitsReady, Ready, scale, counts, stepCounts}
+use Rattle.zones.specs.Reductions.{reduceOf}
+use Rattle.zones.specs.Successors.{andThen, meetOf, enterOf, followOf}
+use Rattle.zones.specs.Zones.{Limits, pairAt, boundsMet, meetLimits, raiseLimits, setOf, resetOf}
+use Rattle.zones.proofs.Bounding.{sized-more, sized-ready, sized-limits, sized-meet, sized-reset, sized-raise, sized-reduce}
+use Rattle.zones.proofs.Limits.{limits-more}
+use Rattle.zones.proofs.Moving.{then-empty, then-live}
+use Rattle.search.specs.Accepted.{Accepted}
+use Rattle.search.specs.Automata.{clocks, locations, edges, resetByte, limitsAt, invariantOf, guardOf, resetsOf, inByte, firsts, resetSet}
+use Rattle.search.proofs.Resets.{resets-at}
+
+abbrev entries : List Pair → ℕ → Fraction → Bounds
+entries z x f = record { upper = getD z (x * 9) zeroPair; lower = getD z x zeroPair; fraction = f }
+
+entries-at : (z : List Pair) (x : ℕ) (f : Fraction) → record { upper = pairAt z x 0; lower = pairAt z 0 x; fraction = f } ≡ entries z x f
+unfolding pairAt
+entries-at z x f =
+    let a : x * 9 + 0 ≡ x * 9 = omega arith in
+    let b : 0 * 9 + x ≡ x = omega arith in
+    λ i. record { upper = getD z (a i) zeroPair; lower = getD z (b i) zeroPair; fraction = f }
+
+module _ (L : Limits) (n : ℕ) (w u : Work) (n≤ : n ≤ 8) (o : OnScale scale n L) (r : Sized stepCounts (suc n) w) (x : ℕ) (px : 0 < x) (hx : x ≤ n) (e : u ≡ meetLimits L (x - 1) w) where
+  sized : Sized stepCounts (suc n) u
+  sized = subst (Sized stepCounts (suc n)) (sym e) (sized-meet stepCounts (suc n) (omega arith) (omega arith) (omega arith) w r n (omega arith) L o (x - 1) (omega arith))
+
+  pub turn-ready : {lo hi : ℕ} {absent : Bool} → lo ≡ L .lo x → hi ≡ L .hi x → absent ≡ L .absent x → LimitsReady (entries (u .zone) x (u .fraction)) lo hi absent
+  turn-ready f g h = rw (f, g, h) (subst (λ (b : Bounds). LimitsReady b (L .lo x) (L .hi x) (L .absent x)) (entries-at (u .zone) x (u .fraction)) (sized-limits stepCounts (suc n) (omega arith) (omega arith) (omega arith) u sized n (omega arith) L o x px (omega arith)))
+
+  pub turn-met : {lo hi : ℕ} {absent : Bool} {b : Bounds} → lo ≡ L .lo x → hi ≡ L .hi x → absent ≡ L .absent x → b ≡ boundsMet lo hi absent (entries (u .zone) x (u .fraction)) →
+      record { zone = set (set (u .zone) (x * 9) (b .upper)) x (b .lower); fraction = b .fraction } ≡ meetLimits L (x + 1 - 1) w
+  turn-met f g h k =
+      limits-more L x w u px (omega arith) (sized .ranged .size) e
+      (k ∙ (λ i. boundsMet (f i) (g i) (h i) (sym (entries-at (u .zone) x (u .fraction)) i)))
+
+-- ---- the operations of a step, as the code makes them; k is the number of indices
+module _ (c : ℕ) (c≤ : c ≤ 8) (w : Work) {k : ℕ} (k≡ : k ≡ suc c) where
+  pub met-is : (L : Limits) {u : Work} {r : Reduced} → u ≡ meetLimits L c w → r ≡ reduceOf k u → r ≡ meetOf c L w
+  unfolding meetOf
+  met-is L e f = f ∙ (λ i. reduceOf (k≡ i) (e i))
+
+  pub entered-none : (I : Limits) {r : Reduced} → r ≡ meetOf c I w → r .empty ≡ true → r ≡ enterOf c I w
+  unfolding enterOf
+  entered-none I {r} e f = e ∙ sym (then-empty (meetOf c I w) (λ v. reduceOf (suc c) (raiseLimits I c v)) (ap (λ (x : Reduced). x .empty) (sym e) ∙ f))
+
+  pub entered : (I : Limits) {r v : Reduced} {u : Work} → r ≡ meetOf c I w → r .empty ≡ false → u ≡ raiseLimits I c (r .work) → v ≡ reduceOf k u → v ≡ enterOf c I w
+  unfolding enterOf
+  entered I e f g h =
+      h ∙ (λ i. reduceOf (k≡ i) (g i)) ∙ ap (λ (x : Reduced). reduceOf (suc c) (raiseLimits I c (x .work))) e
+      ∙ sym (then-live (meetOf c I w) (λ v. reduceOf (suc c) (raiseLimits I c v)) (ap (λ (x : Reduced). x .empty) (sym e) ∙ f))
+
+  pub followed-none : (G : Limits) (R : ℕ → Bool) (I : Limits) {r : Reduced} → r ≡ meetOf c G w → r .empty ≡ true → r ≡ followOf c G R I w
+  unfolding followOf
+  followed-none G R I e f = e ∙ sym (then-empty (meetOf c G w) (λ v. enterOf c I (resetOf (suc c) R v)) (ap (λ (x : Reduced). x .empty) (sym e) ∙ f))
+
+  pub followed : (G : Limits) (R : ℕ → Bool) (I : Limits) {r v : Reduced} {u : Work} {S : ℕ → Bool} → r ≡ meetOf c G w → r .empty ≡ false → S ≡ R → u ≡ resetOf k S (r .work) → v ≡ enterOf c I u → v ≡ followOf c G R I w
+  unfolding followOf
+  followed G R I e f s g h =
+      h ∙ ap (enterOf c I) (g ∙ (λ i. resetOf (k≡ i) (s i) (e i .work)))
+      ∙ sym (then-live (meetOf c G w) (λ v. enterOf c I (resetOf (suc c) R v)) (ap (λ (x : Reduced). x .empty) (sym e) ∙ f))
+
+  -- ---- ranges
+  pub met-ready : (L : Limits) → OnScale scale c L → Sized stepCounts (suc c) w → {u : Work} → u ≡ meetLimits L c w → Ready u k
+  met-ready L o r {u} e =
+      subst (Ready u) (sym k≡)
+      (subst (λ (v : Work). Ready v (suc c)) (sym e) (sized-ready stepCounts (suc c) (omega arith) (omega arith) (omega arith) (meetLimits L c w) (sized-meet stepCounts (suc c) (omega arith) (omega arith) (omega arith) w r c (omega arith) L o c (omega arith))))
+
+  -- after the guard or the invariant, error counts are ten times larger
+  module _ (P : ℕ) (P> : 0 < P) (P≤ : P ≤ 10 * counts) (L : Limits) (o : OnScale scale c L) (r : Sized P (suc c) w) {m : Reduced} (e : m ≡ meetOf c L w) (live : m .empty ≡ false) where
+    pub met-sized : Sized (10 * P) (suc c) (m .work)
+    unfolding meetOf
+    met-sized =
+        let q = sized-meet P (suc c) P> (omega arith) (omega arith) w r c (omega arith) L o c (omega arith) in
+        subst (λ (x : Reduced). Sized (10 * P) (suc c) (x .work)) (sym e) (sized-reduce P (suc c) P> (omega arith) (omega arith) (meetLimits L c w) q (omega arith) (ap (λ (x : Reduced). x .empty) (sym e) ∙ live))
+
+    pub raised-ready : ((x : ℕ) → 0 < x → x < suc c → L .hi x ≤ scale) → {u : Work} → u ≡ raiseLimits L c (m .work) → Ready u k
+    raised-ready h {u} f =
+        subst (Ready u) (sym k≡)
+        (subst (λ (v : Work). Ready v (suc c)) (sym f) (sized-ready (10 * P) (suc c) (omega arith) (omega arith) (omega arith) (raiseLimits L c (m .work)) (sized-raise (10 * P) (suc c) (omega arith) (omega arith) (omega arith) (m .work) met-sized c (omega arith) L h)))
+
+    pub reset-sized : (S : ℕ → Bool) {u : Work} → u ≡ resetOf k S (m .work) → Sized (10 * P) (suc c) u
+    reset-sized S f =
+        subst (Sized (10 * P) (suc c)) (sym (f ∙ (λ i. resetOf (k≡ i) S (m .work)))) (sized-reset (10 * P) (suc c) (omega arith) (omega arith) (omega arith) (m .work) met-sized (omega arith) S)
+
+-- ---- an accepted automaton's limits
+firsts-length : (n : ℕ) (f : ℕ → Bool) → length (firsts n f) ≡ n
+unfolding firsts
+firsts-length zero f = refl
+firsts-length (suc n) f = ap suc (firsts-length n (λ x. f (suc x)))
+
+set-length : (x : ℕ) → length (resetSet x) ≡ 9
+unfolding resetSet
+set-length x = firsts-length 9 (inByte x)
+
+module _ (b : List ℕ) (a : Accepted b) where
+  pub invariant-scale : (l : ℕ) → l < locations b → OnScale scale (clocks b) (invariantOf b l)
+  invariant-scale l h = record { lo = λ x px hx. a .invariant-lo l x h px (omega arith); hi = λ x px hx p. a .invariant-hi l x h px (omega arith) }
+
+  pub guard-scale : (i : ℕ) → i < edges b → OnScale scale (clocks b) (guardOf b i)
+  guard-scale i h = record { lo = λ x px hx. a .guard-lo i x h px (omega arith); hi = λ x px hx p. a .guard-hi i x h px (omega arith) p }
+
+  -- the set of clocks of an edge's reset byte, as the code reads it
+  pub resets-are : (i : ℕ) → i < edges b → {r : List Bool} → r ≡ resetSet (resetByte b i) → setOf r ≡ resetsOf b i
+  resets-are i h e = ap setOf e ∙ (λ k x. at x (decLt x 9) k)
+    where
+      at : (x : ℕ) → Dec (x < 9) → setOf (resetSet (resetByte b i)) x ≡ resetsOf b i x
+      at x (yes p) = resets-at b i x p
+      at x (no p) = List·getD-eq-default (resetSet (resetByte b i)) false (omega (arith, set-length (resetByte b i))) ∙ sym (a .resets i x h (omega (arith, a .complete .clocks≤)))
+
+-- ---- the same, as the code fetches counts and places
+pub one-more : {n m : ℕ} → n ≡ m → n + 1 ≡ suc m
+one-more e = omega arith
+
+pub meets : (b : List ℕ) (w : Work) {at at′ n n′ : ℕ} {u : Work} → at ≡ at′ → n ≡ n′ → u ≡ meetLimits (limitsAt b at) n w → u ≡ meetLimits (limitsAt b at′) n′ w
+meets b w e f g = g ∙ (λ i. meetLimits (limitsAt b (e i)) (f i) w)
+
+pub raises : (b : List ℕ) (w : Work) {at at′ n n′ : ℕ} {u : Work} → at ≡ at′ → n ≡ n′ → u ≡ raiseLimits (limitsAt b at) n w → u ≡ raiseLimits (limitsAt b at′) n′ w
+raises b w e f g = g ∙ (λ i. raiseLimits (limitsAt b (e i)) (f i) w)
+
+-- what `meet` asks, of the limits at a place
+pub asks-limits : (b : List ℕ) (w : Work) {at at′ n n′ P : ℕ} → at ≡ at′ → n ≡ n′ → n′ ≤ 8 → at′ + 8 * n′ ≤ length b → OnScale scale n′ (limitsAt b at′) → P ≤ stepCounts → Sized P (suc n′) w →
+    ((n ≤ 8) × (at + 8 * n ≤ length b)) × (OnScale scale n (limitsAt b at) × Sized stepCounts (suc n) w)
+asks-limits b w {P = P} e f h k o p r = rw (e, f) ((h, k), (o, sized-more P stepCounts (suc _) w p r))
+
+pub enters-at : (b : List ℕ) (u : Work) {l l′ : ℕ} {v : Reduced} → l ≡ l′ → v ≡ enterOf (clocks b) (invariantOf b l) u → v ≡ enterOf (clocks b) (invariantOf b l′) u
+enters-at b u e f = f ∙ (λ i. enterOf (clocks b) (invariantOf b (e i)) u)

@@ -1,0 +1,112 @@
+-- Assumes nothing.
+use Prim.Native.Nat.{suc, _+_, _*_, _≤_, _<_}
+use mathlib.Core.Path.{_≡_, refl, sym, ap, _∙_}
+use native.Mathlib.Omega.{arith}
+use Rattle.zones.specs.Ranges.{counts}
+use Rattle.zones.proofs.Bounding.{sized-more}
+use Rattle.search.specs.Automata.{clocks, invariantOf, guardOf}
+use Rattle.search.proofs.Places.{edge-within}
+use Rattle.search.proofs.Stepping.{one-more, meets, asks-limits, met-is, met-ready, reset-sized, followed-none, followed, guard-scale, resets-are, enters-at}
+use borrow.Author.Needs.{needs}
+use Rattle.search.proofs.successor.follow.Statement.{statement}
+use Rattle.search.proofs.successor.follow.Tie as tie
+use Rattle.search.proofs.successor.follow.Reads as reads
+use Rattle.search.proofs.successor.follow.Lts as lts
+use Rattle.search.proofs.automaton.clocks.Reads as clocks-reads
+use Rattle.search.proofs.automaton.edge_at.Reads as edge-at-reads
+use Rattle.search.proofs.automaton.edge_resets.Reads as edge-resets-reads
+use Rattle.search.proofs.automaton.edge_to.Reads as edge-to-reads
+use Rattle.search.proofs.successor.enter.Reads as enter-reads
+use Rattle.search.proofs.successor.meet.Reads as meet-reads
+use Rattle.zones.proofs.zone.Work.reduce.Reads as reduce-reads
+use Rattle.zones.proofs.zone.Work.reset.Reads as reset-reads
+
+clocks-requires : tie.Need-clocks-requires
+clocks-requires c κs = search needs
+
+edge-at-requires : tie.Need-edge-at-requires
+edge-at-requires c κs = search needs
+
+add-at : tie.Need-add-at
+add-at c =
+    let start = c .before .before .before in
+    let a = start .pre .0 .0 in
+    let w = edge-within _ (a .complete) _ (start .pre .0 .1) in
+    omega (arith, c .edge-at .ensures)
+
+meet-requires : tie.Need-meet-requires
+unfolding guardOf
+meet-requires c κs =
+    let start = c .before .before .before in
+    let a = start .pre .0 .0 in
+    let hi = start .pre .0 .1 in
+    asks-limits _ _ (ap (λ x. x + 3) (c .edge-at .ensures)) (c .before .clocks .ensures) (a .complete .clocks≤) (omega (arith, edge-within _ (a .complete) _ hi)) (guard-scale _ a _ hi) (omega arith) (start .pre .1)
+
+add-reduce : tie.Need-add-reduce
+add-reduce c = search needs
+
+reduce-requires : tie.Need-reduce-requires
+unfolding guardOf
+reduce-requires c κs =
+    let start = c .before .before .before .before in
+    let a = start .pre .0 .0 in
+    let n = c .before .before .clocks .ensures in
+    met-ready _ (a .complete .clocks≤) _ (one-more n) _ (guard-scale _ a _ (start .pre .0 .1)) (sized-more _ _ _ _ (omega arith) (start .pre .1)) (meets _ _ (ap (λ x. x + 3) (c .before .edge-at .ensures)) n (c .meet .ensures))
+
+returns : tie.Need-returns
+unfolding guardOf
+returns c =
+    let start = c .before .before .before .before .before .before in
+    let a = start .pre .0 .0 in
+    let n = c .before .before .before .before .clocks .ensures in
+    followed-none _ (a .complete .clocks≤) _ (one-more n) _ _ _ (met-is _ (a .complete .clocks≤) _ (one-more n) _ (meets _ _ (ap (λ x. x + 3) (c .before .before .before .edge-at .ensures)) n (c .before .before .meet .ensures)) (c .before .reduce .ensures)) (c .if1 .taken)
+
+edge-resets-requires : tie.Need-edge-resets-requires
+edge-resets-requires c κs = search needs
+
+edge-to-requires : tie.Need-edge-to-requires
+edge-to-requires c κs = search needs
+
+add-reset : tie.Need-add-reset
+add-reset c = search needs
+
+reset-requires : tie.Need-reset-requires
+reset-requires c κs = search needs
+
+enter-requires : tie.Need-enter-requires
+unfolding guardOf
+enter-requires c κs =
+    let start = c .before .before .before .before .before .before .before .before .before .before in
+    let a = start .pre .0 .0 in
+    let hi = start .pre .0 .1 in
+    let n = c .before .before .before .before .before .before .before .before .clocks .ensures in (
+      (a, rw (c .before .edge-to .ensures) (a .to< _ hi)),
+      reset-sized _ (a .complete .clocks≤) _ (one-more n) counts (omega arith) (omega arith) _ (guard-scale _ a _ hi) (start .pre .1) (met-is _ (a .complete .clocks≤) _ (one-more n) _ (meets _ _ (ap (λ x. x + 3) (c .before .before .before .before .before .before .before .edge-at .ensures)) n (c .before .before .before .before .before .before .meet .ensures)) (c .before .before .before .before .before .reduce .ensures)) (c .before .before .before .before .if1 .left) _ (c .reset .ensures),
+    )
+
+returns-2 : tie.Need-returns-2
+unfolding guardOf
+returns-2 c =
+    let start = c .before .before .before .before .before .before .before .before .before .before .before in
+    let a = start .pre .0 .0 in
+    let n = c .before .before .before .before .before .before .before .before .before .clocks .ensures in
+    followed _ (a .complete .clocks≤) _ (one-more n) _ _ _ (met-is _ (a .complete .clocks≤) _ (one-more n) _ (meets _ _ (ap (λ x. x + 3) (c .before .before .before .before .before .before .before .before .edge-at .ensures)) n (c .before .before .before .before .before .before .before .meet .ensures)) (c .before .before .before .before .before .before .reduce .ensures)) (c .before .before .before .before .before .if1 .left) (resets-are _ a _ (start .pre .0 .1) (c .before .before .before .edge-resets .ensures)) (c .before .reset .ensures)
+    (enters-at (start .args .automaton .now) (c .before .reset .result) (c .before .before .edge-to .ensures) (c .enter .ensures))
+
+pub follow-spec : {M : Type 1} → statement M
+follow-spec =
+    tie.close
+    (tie.spec
+    clocks-requires
+    edge-at-requires
+    add-at
+    meet-requires
+    add-reduce
+    reduce-requires
+    returns
+    edge-resets-requires
+    edge-to-requires
+    add-reset
+    reset-requires
+    enter-requires
+    returns-2)

@@ -1,0 +1,116 @@
+-- Assumes nothing.
+use Prim.Native.Nat.{_+_, _*_, _-_, _≤_, _<_}
+use mathlib.Core.Path.{_≡_, refl, sym, ap, _∙_}
+use native.Mathlib.Omega.{arith}
+use lib.Dec.{eqb}
+use Rattle.zones.specs.declared.zone.Work.{Work}
+use Rattle.zones.specs.Zones.{meetLimits}
+use Rattle.zones.proofs.Limits.{limits-all}
+use Rattle.search.specs.Automata.{limitsAt, noUpper}
+use Rattle.search.proofs.Stepping.{turn-ready, turn-met}
+use Rattle.search.proofs.successor.meet.Statement.{statement}
+use Rattle.search.proofs.successor.meet.Tie as tie
+use Rattle.search.proofs.successor.meet.Reads as reads
+use Rattle.search.proofs.successor.meet.Lts as lts
+use Rattle.search.proofs.automaton.hi_at.Reads as hi-at-reads
+use Rattle.search.proofs.automaton.lo_at.Reads as lo-at-reads
+use Rattle.zones.proofs.zone.Bounds.meet.Reads as meet-reads
+
+abbrev Inv-loop : tie.InvT-loop
+Inv-loop automaton at n z₀ f₀ x₀ z f x = (0 < x) × (x ≤ n + 1) × (record { zone = z; fraction = f } ≡ meetLimits (limitsAt automaton at) (x - 1) (record { zone = z₀; fraction = f₀ }))
+
+abbrev μ-loop : tie.MeasureT-loop
+μ-loop automaton at n z₀ f₀ x₀ z f x = n + 1 - x
+
+loop-holds : tie.Need-loop-holds Inv-loop μ-loop
+unfolding meetLimits
+loop-holds c = (omega arith, omega arith, refl)
+
+lo-at-requires : tie.Need-lo-at-requires Inv-loop μ-loop
+lo-at-requires c κs = (omega arith, omega arith)
+
+hi-at-requires : tie.Need-hi-at-requires Inv-loop μ-loop
+hi-at-requires c κs = (omega arith, omega arith)
+
+mul-t15 : tie.Need-mul-t15 Inv-loop μ-loop
+mul-t15 c = omega arith
+
+mul-t16 : tie.Need-mul-t16 Inv-loop μ-loop
+mul-t16 c = omega arith
+
+array-copy-out-t19 : tie.Need-array-copy-out-t19 Inv-loop μ-loop
+array-copy-out-t19 c = omega arith
+
+mul-t20 : tie.Need-mul-t20 Inv-loop μ-loop
+mul-t20 c = omega arith
+
+array-copy-out-t23 : tie.Need-array-copy-out-t23 Inv-loop μ-loop
+array-copy-out-t23 c = omega arith
+
+meet-requires : tie.Need-meet-requires Inv-loop μ-loop
+unfolding limitsAt
+meet-requires c κs =
+    let now = c .before .before .before .before .before in
+    let start = now .before .before .before .before in
+    turn-ready _ _ (start .args .w) (record { zone = now .loop .z; fraction = now .loop .f }) (start .pre .0 .0) (start .pre .1 .0) (start .pre .1 .1) (now .loop .x) (now .loop .inv .0) (omega arith) (now .loop .inv .2)
+    (c .before .before .before .lo-at .ensures) (c .before .before .hi-at .ensures) (ap (λ h. eqb h noUpper) (c .before .before .hi-at .ensures))
+
+mul-z : tie.Need-mul-z Inv-loop μ-loop
+mul-z c = omega arith
+
+mul-z-2 : tie.Need-mul-z-2 Inv-loop μ-loop
+mul-z-2 c = omega arith
+
+array-set-from-z : tie.Need-array-set-from-z Inv-loop μ-loop
+array-set-from-z c = omega arith
+
+mul-z-3 : tie.Need-mul-z-3 Inv-loop μ-loop
+mul-z-3 c = omega arith
+
+array-set-from-z-2 : tie.Need-array-set-from-z-2 Inv-loop μ-loop
+array-set-from-z-2 c = omega arith
+
+add-x : tie.Need-add-x Inv-loop μ-loop
+add-x c = omega arith
+
+loop-less : tie.Need-loop-less Inv-loop μ-loop
+loop-less c = omega arith
+
+loop-again : tie.Need-loop-again Inv-loop μ-loop
+unfolding limitsAt
+loop-again c =
+    let now = c .before .before .before .before .before .before .before .before .before in
+    let start = now .before .before .before .before in (
+      omega arith,
+      omega arith,
+      turn-met _ _ (start .args .w) (record { zone = now .loop .z; fraction = now .loop .f }) (start .pre .0 .0) (start .pre .1 .0) (start .pre .1 .1) (now .loop .x) (now .loop .inv .0) (omega arith) (now .loop .inv .2)
+          (c .before .before .before .before .before .before .before .lo-at .ensures) (c .before .before .before .before .before .before .hi-at .ensures) (ap (λ h. eqb h noUpper) (c .before .before .before .before .before .before .hi-at .ensures)) (c .before .before .before .meet .ensures),
+    )
+
+returns : tie.Need-returns Inv-loop μ-loop
+returns c = limits-all _ _ _ (omega arith) (c .before .loop .inv .2)
+
+pub meet-spec : {M : Type 1} → statement M
+meet-spec =
+    tie.close
+    (tie.spec
+    Inv-loop
+    μ-loop
+    loop-holds
+    lo-at-requires
+    hi-at-requires
+    mul-t15
+    mul-t16
+    array-copy-out-t19
+    mul-t20
+    array-copy-out-t23
+    meet-requires
+    mul-z
+    mul-z-2
+    array-set-from-z
+    mul-z-3
+    array-set-from-z-2
+    add-x
+    loop-less
+    loop-again
+    returns)

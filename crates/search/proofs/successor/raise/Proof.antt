@@ -1,0 +1,72 @@
+-- Assumes nothing.
+use Prim.Native.Nat.{_+_, _*_, _-_, _≤_, _<_}
+use mathlib.Core.Path.{_≡_, refl, sym, ap, _∙_}
+use native.Mathlib.Omega.{arith}
+use Rattle.zones.specs.declared.zone.Work.{Work}
+use Rattle.zones.specs.Pairs.{atMost}
+use Rattle.zones.specs.Zones.{raiseLimits}
+use Rattle.zones.proofs.Limits.{raise-more, raise-all}
+use Rattle.search.specs.Automata.{limitsAt}
+use Rattle.search.proofs.successor.raise.Statement.{statement}
+use Rattle.search.proofs.successor.raise.Tie as tie
+use Rattle.search.proofs.successor.raise.Reads as reads
+use Rattle.search.proofs.successor.raise.Lts as lts
+use Rattle.search.proofs.automaton.hi_at.Reads as hi-at-reads
+use Rattle.zones.proofs.pair.Pair.at_most.Reads as at-most-reads
+
+abbrev Inv-loop : tie.InvT-loop
+Inv-loop automaton at n fraction z₀ x₀ z x = (0 < x) × (x ≤ n + 1) × (z ≡ raiseLimits (limitsAt automaton at) (x - 1) (record { zone = z₀; fraction = fraction }) .zone)
+
+abbrev μ-loop : tie.MeasureT-loop
+μ-loop automaton at n fraction z₀ x₀ z x = n + 1 - x
+
+loop-holds : tie.Need-loop-holds Inv-loop μ-loop
+unfolding raiseLimits
+loop-holds c = (omega arith, omega arith, refl)
+
+hi-at-requires : tie.Need-hi-at-requires Inv-loop μ-loop
+hi-at-requires c κs = (omega arith, omega arith)
+
+at-most-requires : tie.Need-at-most-requires Inv-loop μ-loop
+at-most-requires c κs = omega arith
+
+mul-z : tie.Need-mul-z Inv-loop μ-loop
+mul-z c = omega arith
+
+mul-z-2 : tie.Need-mul-z-2 Inv-loop μ-loop
+mul-z-2 c = omega arith
+
+array-set-from-z : tie.Need-array-set-from-z Inv-loop μ-loop
+array-set-from-z c = omega arith
+
+add-x : tie.Need-add-x Inv-loop μ-loop
+add-x c = omega arith
+
+loop-less : tie.Need-loop-less Inv-loop μ-loop
+loop-less c = omega arith
+
+loop-again : tie.Need-loop-again Inv-loop μ-loop
+unfolding limitsAt
+loop-again c =
+    let now = c .before .before .before in
+    (omega arith, omega arith, raise-more _ _ _ (now .loop .inv .0) (now .loop .inv .2) (c .at-most .ensures ∙ ap atMost (c .before .hi-at .ensures)))
+
+returns : tie.Need-returns Inv-loop μ-loop
+returns c = raise-all _ _ _ (omega arith) (c .before .loop .inv .2)
+
+pub raise-spec : {M : Type 1} → statement M
+raise-spec =
+    tie.close
+    (tie.spec
+    Inv-loop
+    μ-loop
+    loop-holds
+    hi-at-requires
+    at-most-requires
+    mul-z
+    mul-z-2
+    array-set-from-z
+    add-x
+    loop-less
+    loop-again
+    returns)
