@@ -14,3 +14,13 @@ pub mod Robust
 pub mod Valuations
 pub mod Obeys
 pub mod Stepping
+pub mod Slotted
+pub mod Turns
+pub mod Stores
+pub mod Judging
+pub mod Sounding
+pub mod Expanding
+pub mod Taking
+pub mod Beginning
+pub mod Demands
+pub mod Answers

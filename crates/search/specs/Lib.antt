@@ -6,3 +6,8 @@ pub mod Semantics
 pub mod Search
 pub mod Meaning
 pub mod Instance
+pub mod Slots
+pub mod Store
+pub mod Verdicts
+pub mod Exploring
+pub mod Demands

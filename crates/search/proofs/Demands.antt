@@ -1,0 +1,77 @@
+-- Demands 2 and 3 of the search of an automaton's bytes, and what the answer's numbers are.
+-- Assumes nothing.
+use Prim.Native.Nat.{ℕ, zero, suc, _*_, _<_, _≤_}
+use mathlib.Core.Path.{_≡_, refl, sym, ap, _∙_, subst}
+use mathlib.Core.Bool.{Bool, true, false, cond}
+use mathlib.Core.List.{List}
+use mathlib.Core.Logic.{⊎-elim}
+use borrow.Author.Tests.{eq-eqb, ne-eqb}
+use lib.Dec.{eqb}
+use lib.ListN.{length}
+use native.Mathlib.Nat.{eq-zero-or-pos, mul-pos}
+use native.Mathlib.Omega.{arith}
+use Rattle.zones.specs.declared.fraction.Fraction.{Fraction}
+use Rattle.zones.specs.Fractions.{noLimit, lowestTerms}
+use Rattle.zones.specs.Values.{Below}
+use Rattle.zones.proofs.Lowest.{lowest-equal, lowest-positive, lowest-unlimited, below-from-lowest}
+use Rattle.search.specs.declared.verdict.Answer.{Answer}
+use Rattle.search.specs.declared.verdict.Answer.the-variants.{Found, Refused}
+use Rattle.search.specs.declared.verdict.Holding.{Holding}
+use Rattle.search.specs.declared.verdict.Holding.the-variants.{AnyError}
+use Rattle.search.specs.declared.verdict.Verdict.the-variants.{Reached, Holds}
+use Rattle.search.specs.Automata.{clocks, refusalOf}
+use Rattle.search.specs.Demands.{Robust, KeptExact}
+use Rattle.search.specs.Exploring.{ZoneState}
+use Rattle.search.specs.Instance.{zonesOf, meaningOf, searchOf}
+use Rattle.search.specs.Search.{State, search}
+use Rattle.search.specs.Semantics.{systemOf}
+use Rattle.search.specs.Store.{capacityOf}
+use Rattle.search.specs.Verdicts.{fractionOf, holdingOf, answerOf, stateAnswer, stateOf, searchAnswer}
+use Rattle.search.proofs.Accepting.{accepted}
+use Rattle.search.proofs.Cover.{holds}
+use Rattle.search.proofs.Obeys.{laws}
+use Rattle.search.proofs.Robust.{same, exact-there, reached-hits}
+
+-- ---- what is below the fraction that is given out is below the running one
+module _ (f : Fraction) (h : 0 < f .n) where
+  unlimited : lowestTerms f .d ≡ 0 → f .d ≡ 0
+  unlimited e = ⊎-elim (λ z. z) (λ p. absurd (omega (arith, mul-pos (lowest-positive f h) p, lowest-equal f, ap (λ (k : ℕ). f .n * k) e))) (eq-zero-or-pos (f .d))
+
+  pub given-fraction : fractionOf (holdingOf (lowestTerms f)) ≡ lowestTerms f
+  unfolding holdingOf
+  given-fraction = ⊎-elim
+      (λ e. rw (holdingOf, eq-eqb (lowestTerms f .d) 0 e) (sym (lowest-unlimited f h (unlimited e))))
+      (λ p. rw (holdingOf, ne-eqb (lowestTerms f .d) 0 (λ e. absurd (omega arith))) refl)
+      (eq-zero-or-pos (lowestTerms f .d))
+
+  pub given-below : (s e : ℕ) → e * fractionOf (holdingOf (lowestTerms f)) .d < fractionOf (holdingOf (lowestTerms f)) .n * s → Below s e f
+  given-below s e b = below-from-lowest f e s (rw given-fraction at b)
+
+module _ (b : List ℕ) (c : ℕ) (ok : refusalOf b ≡ 0) where
+  pub running-positive : 0 < searchOf b c .frac .n
+  running-positive = omega (arith, exact-there (systemOf b) (zonesOf b) (meaningOf b) 1 0 (laws b (accepted b ok)) c .1)
+
+  pub state-robust : Robust b (stateAnswer (searchOf b c))
+  unfolding stateAnswer answerOf Robust
+  state-robust = go (searchOf b c .code) refl
+    where
+      go : (k : ℕ) → searchOf b c .code ≡ k → Robust b (answerOf (searchOf b c .code) (searchOf b c .frac) (length (searchOf b c .kept)))
+      go zero e = rw e (λ s t l d. holds (systemOf b) (zonesOf b) (meaningOf b) (laws b (accepted b ok) .clocks) (laws b (accepted b ok) .one-sided) s t (laws b (accepted b ok) .safe s t) c e (l, given-below (searchOf b c .frac) running-positive s t d))
+      go (suc zero) e = rw e (reached-hits (systemOf b) (zonesOf b) (meaningOf b) 1 0 (laws b (accepted b ok)) c e)
+      go (suc (suc k)) e = rw e tt
+
+refused : (b : List ℕ) (k : ℕ) → Robust b (Refused k)
+unfolding Robust
+refused b k = tt
+
+-- ---- demand 3
+pub robust : (b : List ℕ) (amount : ℕ) → Robust b (searchAnswer b amount)
+unfolding searchAnswer
+robust b amount = ⊎-elim
+    (λ e. rw (searchAnswer, eq-eqb (refusalOf b) 0 e) (state-robust b (capacityOf (suc (clocks b)) amount) e))
+    (λ p. rw (searchAnswer, ne-eqb (refusalOf b) 0 (λ e. absurd (omega arith))) (refused b (refusalOf b)))
+    (eq-zero-or-pos (refusalOf b))
+
+-- ---- demand 2
+pub kept-exact : (b : List ℕ) (amount : ℕ) → KeptExact b amount
+kept-exact b amount e s t l d = same (systemOf b) (zonesOf b) (meaningOf b) 1 0 (laws b (accepted b e)) (capacityOf (suc (clocks b)) amount) s t (l, d)

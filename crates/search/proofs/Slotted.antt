@@ -1,0 +1,328 @@
+-- Slots: their size, what stands where in one, that a zone comes back out of its slot, and that the containment test of two slots is that of their zones.
+-- Assumes nothing.
+use Prim.Native.Nat.{ℕ, zero, suc, _+_, _-_, _*_, _/_, _%_, _<_, _≤_, min}
+use mathlib.Core.Path.{_≡_, refl, sym, _∙_}
+use mathlib.Core.Bool.{Bool, true, false, cond}
+use mathlib.Core.List.{List, [], _∷_, _++_, append-assoc}
+use borrow.Author.Tests.{lt-ltb, le-ltb, ltb-true}
+use lib.Dec.{ltb}
+use lib.IntN.{ℤ, pos}
+use lib.ListN.{length, getD, take, set, length-append, length-set, length-replicate, getD-replicate}
+use lib.Seq.{take-at, getD-at, append-snoc, getD-set-same, getD-set-other, set-out, ext-getD}
+use lib.Signed.{_≤ℤ_}
+use native.Mathlib.Decide.{ℕ-discrete, decLt}
+use native.Mathlib.Nat.{not-suc-le-zero}
+use native.Mathlib.Omega.{arith}
+use Rattle.zones.specs.declared.pair.Pair.{Pair}
+use Rattle.zones.specs.Containment.{placeOf, withinTo, within}
+use Rattle.zones.specs.Integers.{up, le-make}
+use Rattle.zones.specs.Pairs.{zeroPair, atMost, isLess, smallerOf}
+use Rattle.zones.specs.Reductions.{reduceOf}
+use Rattle.zones.specs.Zones.{Limits, pairAt, entry, firstWork, lowerAt, meetLimits, raiseLimits, home, resetPlaces, resetOf}
+use Rattle.zones.specs.declared.zone.Work.{Work}
+use Rattle.zones.proofs.Meeting.{met-ind}
+use Rattle.zones.proofs.Places.{home-stays, home-below}
+use Rattle.zones.proofs.Steps.{reduce-ind}
+use Rattle.search.specs.Slots.{slotLength, pairsTo, pairsOf, flat, slotOf, slotPair, counted, squareTo, zoneOf, lessAt, withinSlots, Framed}
+
+-- ---- how many places count
+module _ (n : ℕ) where
+  pub counted-in : (k : ℕ) → k % 9 < n → counted n (suc k) ≡ suc (counted n k)
+  unfolding counted
+  counted-in k h = rw (lt-ltb (k % 9) n h)
+
+  pub counted-out : (k : ℕ) → n ≤ k % 9 → counted n (suc k) ≡ counted n k
+  unfolding counted
+  counted-out k h = rw (le-ltb (k % 9) n h)
+
+  counted-step : (k : ℕ) → counted n k ≤ counted n (suc k)
+  counted-step k = go (decLt (k % 9) n)
+    where
+      go : Dec (k % 9 < n) → counted n k ≤ counted n (suc k)
+      go (yes h) = omega (arith, counted-in k h)
+      go (no h) = omega (arith, counted-out k (omega arith))
+
+  counted-grows : (k d : ℕ) → counted n k ≤ counted n (d + k)
+  counted-grows k zero = let e : 0 + k ≡ k = omega arith in rw e (omega arith)
+  counted-grows k (suc d) =
+      let e : suc d + k ≡ suc (d + k) = omega arith in
+      rw e (omega (arith, counted-grows k d, counted-step (d + k)))
+
+  -- by rows
+  row-counted : (a b : ℕ) → b ≤ 9 → counted n (b + a * 9) ≡ min b n + counted n (a * 9)
+  row-counted a zero h = let e : 0 + a * 9 ≡ a * 9 = omega arith in rw e (omega arith)
+  row-counted a (suc b) h = go (row-counted a b (omega arith)) (decLt b n)
+    where
+      e : suc b + a * 9 ≡ suc (b + a * 9)
+      e = omega arith
+
+      col : (b + a * 9) % 9 ≡ b
+      col = omega arith
+
+      go : counted n (b + a * 9) ≡ min b n + counted n (a * 9) → Dec (b < n) → counted n (suc b + a * 9) ≡ min (suc b) n + counted n (a * 9)
+      go ih (yes p) = rw e (omega (arith, counted-in (b + a * 9) (omega arith)))
+      go ih (no p) = rw e (omega (arith, counted-out (b + a * 9) (omega arith)))
+
+  rows-counted : n ≤ 9 → (a : ℕ) → counted n (a * 9) ≡ a * n
+  unfolding counted
+  rows-counted h zero = omega arith
+  rows-counted h (suc a) =
+      let e : suc a * 9 ≡ 9 + a * 9 = omega arith in
+      let f : suc a * n ≡ n + a * n = omega arith in
+      rw (e, f) (omega (arith, row-counted a 9 (omega arith), rows-counted h a))
+
+  pub counted-all : n ≤ 9 → counted n (n * 9) ≡ n * n
+  counted-all h = rows-counted h n
+
+  -- a place that counts comes before the last
+  pub counted-below : n ≤ 9 → (k : ℕ) → k < n * 9 → k % 9 < n → counted n k < n * n
+  counted-below h k hk c =
+      let e : (n * 9 - suc k) + suc k ≡ n * 9 = omega arith in
+      omega (arith, counted-in k c, counted-all h, rw e at (counted-grows (suc k) (n * 9 - suc k)))
+
+-- ---- the pairs of a zone, row by row
+module _ (n : ℕ) (z : List Pair) where
+  pub pairs-in : (k : ℕ) → k % 9 < n → pairsTo n (suc k) z ≡ pairsTo n k z ++ (placeOf z k ∷ [])
+  unfolding pairsTo
+  pairs-in k h = rw (lt-ltb (k % 9) n h)
+
+  pub pairs-out : (k : ℕ) → n ≤ k % 9 → pairsTo n (suc k) z ≡ pairsTo n k z
+  unfolding pairsTo
+  pairs-out k h = rw (le-ltb (k % 9) n h)
+
+  pub pairs-length : (k : ℕ) → length (pairsTo n k z) ≡ counted n k
+  unfolding pairsTo counted
+  pairs-length zero = refl
+  pairs-length (suc k) = go (pairs-length k) (ltb (k % 9) n)
+    where
+      go : length (pairsTo n k z) ≡ counted n k → (t : Bool) → length (cond t (pairsTo n k z ++ (placeOf z k ∷ [])) (pairsTo n k z)) ≡ cond t (suc (counted n k)) (counted n k)
+      go ih true = omega (arith, length-append (pairsTo n k z) (placeOf z k ∷ []))
+      go ih false = ih
+
+  -- what comes before a place that counts, the place, and what comes after it
+  pairs-split : (k d : ℕ) → k % 9 < n → (qs : List Pair) × (pairsTo n (d + suc k) z ≡ pairsTo n k z ++ (placeOf z k ∷ qs))
+  pairs-split k zero h = ([], let e : zero + suc k ≡ suc k = omega arith in rw e (pairs-in k h))
+  pairs-split k (suc d) h = let s = pairs-split k d h in go (s .0) (s .1) (decLt ((d + suc k) % 9) n)
+    where
+      e : suc d + suc k ≡ suc (d + suc k)
+      e = omega arith
+
+      go : (qs : List Pair) → pairsTo n (d + suc k) z ≡ pairsTo n k z ++ (placeOf z k ∷ qs) → Dec ((d + suc k) % 9 < n) → (qs : List Pair) × (pairsTo n (suc d + suc k) z ≡ pairsTo n k z ++ (placeOf z k ∷ qs))
+      go qs s (yes p) = (qs ++ (placeOf z (d + suc k) ∷ []), rw e (pairs-in (d + suc k) p ∙ rw (s, append-assoc)))
+      go qs s (no p) = (qs, rw e (pairs-out (d + suc k) (omega arith) ∙ s))
+
+-- ---- their numbers
+pub flat-length : (l : List Pair) → length (flat l) ≡ 2 * length l
+unfolding flat
+flat-length [] = refl
+flat-length (q ∷ qs) = omega (arith, flat-length qs)
+
+flat-append : (a b : List Pair) → flat (a ++ b) ≡ flat a ++ flat b
+unfolding flat
+flat-append [] b = refl
+flat-append (q ∷ qs) b = rw (flat-append qs b)
+
+pub flat-split : (a : List Pair) (q : Pair) (qs : List Pair) (rest : List ℤ) → flat (a ++ (q ∷ qs)) ++ rest ≡ flat a ++ (q .m ∷ pos (q .p) ∷ (flat qs ++ rest))
+unfolding flat
+flat-split a q qs rest = rw (flat-append a (q ∷ qs), append-assoc)
+
+flat-counts : (l : List Pair) (rest : List ℤ) (t : ℕ) → t < length l → pos 0 ≤ℤ getD (flat l ++ rest) (1 + 2 * t) (pos 0)
+unfolding flat
+flat-counts [] rest t h = absurd (not-suc-le-zero h)
+flat-counts (q ∷ qs) rest zero h = le-make (pos 0) (pos (q .p)) (omega arith)
+flat-counts (q ∷ qs) rest (suc t) h = let e : 1 + 2 * suc t ≡ suc (suc (1 + 2 * t)) = omega arith in rw e (flat-counts qs rest t (omega arith))
+
+-- ---- a slot, and whatever follows it in the store
+module _ (n l : ℕ) (z : List Pair) where
+  pub slot-size : n ≤ 9 → length (slotOf n l z) ≡ slotLength n
+  unfolding slotOf
+  slot-size h = omega (arith, flat-length (pairsOf n z), pairs-length n z (n * 9), counted-all n h)
+
+  module _ (rest : List ℤ) where
+    pub slot-taken : n ≤ 9 → take (slotLength n) (slotOf n l z ++ rest) ≡ slotOf n l z
+    slot-taken h = take-at (slotOf n l z) rest (slotLength n) (slot-size h)
+
+    pub slot-location : getD (slotOf n l z ++ rest) 0 (pos 0) ≡ pos l
+    unfolding slotOf
+    slot-location = refl
+
+    pub slot-counts : n ≤ 9 → (t : ℕ) → t < n * n → pos 0 ≤ℤ getD (slotOf n l z ++ rest) (2 + 2 * t) (pos 0)
+    unfolding slotOf
+    slot-counts h t ht =
+        let e : 2 + 2 * t ≡ suc (1 + 2 * t) = omega arith in
+        rw e (flat-counts (pairsOf n z) rest t (omega (arith, pairs-length n z (n * 9), counted-all n h)))
+
+    -- the numbers of a place that counts
+    slot-split : (k : ℕ) → k < n * 9 → k % 9 < n → (qs : List Pair) × (slotOf n l z ++ rest ≡ (pos l ∷ flat (pairsTo n k z)) ++ (placeOf z k .m ∷ pos (placeOf z k .p) ∷ (flat qs ++ rest)))
+    unfolding slotOf
+    slot-split k h c =
+        let s = pairs-split n z k (n * 9 - suc k) c in
+        let e : (n * 9 - suc k) + suc k ≡ n * 9 = omega arith in
+        let f : pairsOf n z ≡ pairsTo n k z ++ (placeOf z k ∷ s .0) = rw e at (s .1) in
+        (s .0, rw (f, flat-split (pairsTo n k z) (placeOf z k) (s .0) rest))
+
+    before-place : (k : ℕ) → length (pos l ∷ flat (pairsTo n k z)) ≡ 1 + 2 * counted n k
+    before-place k = omega (arith, flat-length (pairsTo n k z), pairs-length n z k)
+
+    pub slot-m : (k : ℕ) → k < n * 9 → k % 9 < n → getD (slotOf n l z ++ rest) (1 + 2 * counted n k) (pos 0) ≡ placeOf z k .m
+    slot-m k h c =
+        let s = slot-split k h c in
+        rw (s .1) (getD-at (pos l ∷ flat (pairsTo n k z)) (placeOf z k .m) _ (pos 0) (1 + 2 * counted n k) (before-place k))
+
+    pub slot-p : (k : ℕ) → k < n * 9 → k % 9 < n → getD (slotOf n l z ++ rest) (2 + 2 * counted n k) (pos 0) ≡ pos (placeOf z k .p)
+    slot-p k h c =
+        let s = slot-split k h c in
+        let front : List ℤ = pos l ∷ flat (pairsTo n k z) in
+        let q = placeOf z k in
+        rw (s .1) (rw (← append-snoc front (q .m) (pos (q .p) ∷ (flat (s .0) ++ rest)))
+        (getD-at (front ++ (q .m ∷ [])) (pos (q .p)) _ (pos 0) (2 + 2 * counted n k) (simp length-append (omega (arith, before-place k)))))
+
+    pub slot-pair-at : (k : ℕ) → k < n * 9 → k % 9 < n → slotPair (slotOf n l z ++ rest) (counted n k) ≡ placeOf z k
+    slot-pair-at k h c = let e = slot-m k h c in let f = slot-p k h c in λ i. record { m = e i; p = up (f i) }
+
+-- ---- the square of a slot's pairs
+module _ (n : ℕ) (s : List ℤ) where
+  pub square-in : (k : ℕ) → k % 9 < n → squareTo n (suc k) s ≡ set (squareTo n k s) k (slotPair s (counted n k))
+  unfolding squareTo
+  square-in k h = rw (lt-ltb (k % 9) n h)
+
+  pub square-out : (k : ℕ) → n ≤ k % 9 → squareTo n (suc k) s ≡ squareTo n k s
+  unfolding squareTo
+  square-out k h = rw (le-ltb (k % 9) n h)
+
+  pub square-length : (k : ℕ) → length (squareTo n k s) ≡ 81
+  unfolding squareTo
+  square-length zero = length-replicate 81 zeroPair
+  square-length (suc k) = go (square-length k) (ltb (k % 9) n)
+    where
+      go : length (squareTo n k s) ≡ 81 → (t : Bool) → length (cond t (set (squareTo n k s) k (slotPair s (counted n k))) (squareTo n k s)) ≡ 81
+      go ih true = length-set (squareTo n k s) k (slotPair s (counted n k)) ∙ ih
+      go ih false = ih
+
+  -- a place that counts, and one that does not
+  abbrev Placed : ℕ → ℕ → Type 0
+  Placed k i = (i < k → i % 9 < n → placeOf (squareTo n k s) i ≡ slotPair s (counted n i)) × ((i < k → i % 9 < n → ⊥) → placeOf (squareTo n k s) i ≡ zeroPair)
+
+  next-placed : (k i : ℕ) → k < 81 → i < 81 → Placed k i → Dec (k % 9 < n) → Dec (i ≡ k) → Placed (suc k) i
+  next-placed k i h hi p (yes c) (yes e) = (
+    λ a b. rw (square-in k c, e) (getD-set-same (squareTo n k s) k (slotPair s (counted n k)) zeroPair (omega (arith, square-length k))),
+    λ f. absurd (f (omega arith) (rw e c)),
+  )
+  next-placed k i h hi p (yes c) (no e) =
+      let off : placeOf (squareTo n (suc k) s) i ≡ placeOf (squareTo n k s) i = rw (square-in k c) (getD-set-other (squareTo n k s) k i (slotPair s (counted n k)) zeroPair e) in
+      (λ a b. off ∙ p .0 (omega arith) b, λ f. off ∙ p .1 (λ a b. f (omega arith) b))
+  next-placed k i h hi p (no c) d =
+      let off : placeOf (squareTo n (suc k) s) i ≡ placeOf (squareTo n k s) i = rw (square-out k (omega arith)) in
+      (λ a b. off ∙ p .0 (other d b a) b, λ f. off ∙ p .1 (λ a b. f (omega arith) b))
+    where
+      other : Dec (i ≡ k) → i % 9 < n → i < suc k → i < k
+      other (yes e) b a = absurd (c (rw (sym e) b))
+      other (no e) b a = omega arith
+
+  placed : (k i : ℕ) → k ≤ 81 → i < 81 → Placed k i
+  unfolding squareTo
+  placed zero i h hi = (λ a b. absurd (not-suc-le-zero a), λ f. getD-replicate 81 i zeroPair zeroPair hi)
+  placed (suc k) i h hi = next-placed k i h hi (placed k i (omega arith) hi) (decLt (k % 9) n) (ℕ-discrete i k)
+
+-- ---- a zone comes back out of its slot
+module _ (n l : ℕ) (z : List Pair) (rest : List ℤ) (n≤ : n ≤ 9) (size : length z ≡ 81) (f : Framed n z) where
+  abbrev slot : List ℤ
+  slot = slotOf n l z ++ rest
+
+  back-at : (i : ℕ) → i < 81 → Dec (i < n * 9) → Dec (i % 9 < n) → placeOf (squareTo n (n * 9) slot) i ≡ placeOf z i
+  back-at i h (yes a) (yes b) = placed n slot (n * 9) i (omega arith) h .0 a b ∙ slot-pair-at n l z rest i a b
+  back-at i h (yes a) (no b) = placed n slot (n * 9) i (omega arith) h .1 (λ p q. b q) ∙ sym (f .frame i h (λ p q. b q))
+  back-at i h (no a) d = placed n slot (n * 9) i (omega arith) h .1 (λ p q. a p) ∙ sym (f .frame i h (λ p q. a p))
+
+  pub zone-of-slot : zoneOf n (slotOf n l z ++ rest) ≡ z
+  unfolding zoneOf
+  zone-of-slot =
+      let long = square-length n slot (n * 9) in
+      ext-getD zeroPair (squareTo n (n * 9) slot) z (long ∙ sym size) (λ i h. back-at i (omega arith) (decLt i (n * 9)) (decLt (i % 9) n))
+
+-- ---- the containment test of two slots is that of their zones
+module _ (n l : ℕ) (z : List Pair) (rest : List ℤ) (l′ : ℕ) (y : List Pair) (rest′ : List ℤ) where
+  abbrev new : List ℤ
+  new = slotOf n l z ++ rest
+
+  abbrev old : List ℤ
+  old = slotOf n l′ y ++ rest′
+
+  less-slots : (k : ℕ) → k < n * 9 → k % 9 < n → lessAt new old (counted n k) ≡ isLess (placeOf y k) (placeOf z k)
+  unfolding isLess
+  less-slots k h c = rw (slot-m n l z rest k h c, slot-m n l′ y rest′ k h c, slot-p n l z rest k h c, slot-p n l′ y rest′ k h c)
+
+  within-to : (k : ℕ) → k ≤ n * 9 → withinSlots new old (counted n k) ≡ withinTo n k z y
+  unfolding withinSlots withinTo counted
+  within-to zero h = refl
+  within-to (suc k) h = go (within-to k (omega arith)) (ltb (k % 9) n) refl
+    where
+      go : withinSlots new old (counted n k) ≡ withinTo n k z y → (t : Bool) → ltb (k % 9) n ≡ t
+          → withinSlots new old (cond t (suc (counted n k)) (counted n k)) ≡ cond t (cond (isLess (placeOf y k) (placeOf z k)) false (withinTo n k z y)) (withinTo n k z y)
+      go ih true e = rw (less-slots k h (ltb-true (k % 9) n e), ih)
+      go ih false e = ih
+
+  pub within-slots : n ≤ 9 → withinSlots (slotOf n l z ++ rest) (slotOf n l′ y ++ rest′) (n * n) ≡ within n z y
+  within-slots h = rw (← counted-all n h) (within-to (n * 9) (omega arith))
+
+-- ---- the frame of (0, 0) is kept by every operation
+module _ (n : ℕ) where
+  -- what may be set: a place that counts, or (0, 0)
+  framed-set : (z : List Pair) (i : ℕ) (q : Pair) → (i < 81 → (i < n * 9 → i % 9 < n → ⊥) → q ≡ zeroPair) → Framed n z → Framed n (set z i q)
+  framed-set z i q g f = record { frame = λ k hk o. at k hk o (ℕ-discrete k i) (decLt i (length z)) }
+    where
+      at : (k : ℕ) → k < 81 → (k < n * 9 → k % 9 < n → ⊥) → Dec (k ≡ i) → Dec (i < length z) → placeOf (set z i q) k ≡ zeroPair
+      at k hk o (no e) d = getD-set-other z i k q zeroPair e ∙ f .frame k hk o
+      at k hk o (yes e) (yes d) = rw e (getD-set-same z i q zeroPair d ∙ g (rw e at hk) (rw e at o))
+      at k hk o (yes e) (no d) = rw (set-out z i q (omega arith)) (f .frame k hk o)
+
+  pub framed-first : Framed n (firstWork .zone)
+  unfolding firstWork
+  framed-first = record { frame = λ k hk o. getD-replicate 81 k zeroPair zeroPair hk }
+
+  module _ (n≤ : n ≤ 9) where
+    -- an entry (i, j) of the zone is set
+    framed-entry : (z : List Pair) (i j : ℕ) (q : Pair) → i < n → j < n → Framed n z → Framed n (set z (i * 9 + j) q)
+    framed-entry z i j q hi hj = let e : (i * 9 + j) % 9 ≡ j = omega arith in framed-set z (i * 9 + j) q (λ h o. absurd (o (omega arith) (omega arith)))
+
+    pub framed-lower : (w : Work) (i j : ℕ) (q : Pair) → i < n → j < n → Framed n (w .zone) → Framed n (lowerAt i j q w .zone)
+    unfolding lowerAt
+    framed-lower w i j q hi hj = framed-entry (w .zone) i j (smallerOf (entry w i j) q .pair) hi hj
+
+    pub framed-meet : (L : Limits) (c : ℕ) (w : Work) → c < n → Framed n (w .zone) → length (w .zone) ≡ 81 → Framed n (meetLimits L c w .zone)
+    framed-meet L c w hc f size =
+        met-ind n L (λ v. Framed n (v .zone)) (λ x px hx o v s. framed-lower v x 0 _ hx (omega arith)) (λ x px hx v s. framed-lower v 0 x _ (omega arith) hx) w size f c hc .1
+
+    pub framed-reduce : (w : Work) → Framed n (w .zone) → length (w .zone) ≡ 81 → Framed n (reduceOf n w .work .zone)
+    framed-reduce w f size = reduce-ind n (λ v. Framed n (v .zone)) (λ k i j hk hi hj v s. framed-lower v i j _ hi hj) w size f .1
+
+    pub framed-raise : (L : Limits) (c : ℕ) (w : Work) → c < n → Framed n (w .zone) → Framed n (raiseLimits L c w .zone)
+    unfolding raiseLimits
+    framed-raise L zero w hc f = f
+    framed-raise L (suc x) w hc f = framed-entry (raiseLimits L x w .zone) (suc x) 0 (atMost (L .hi (suc x))) hc (omega arith) (framed-raise L x w (omega arith) f)
+
+    -- a place outside the columns takes its home's entry, which is outside them too
+    module _ (R : ℕ → Bool) (none : (b : ℕ) → n ≤ b → R b ≡ false) where
+      home-outside : (y : List Pair) (k : ℕ) → Framed n y → k < n * 9 → (k < n * 9 → k % 9 < n → ⊥) → pairAt y (home R (k / 9)) (home R (k % 9)) ≡ zeroPair
+      unfolding pairAt
+      home-outside y k f hk o = out (decLt (k % 9) n)
+        where
+          row : home R (k / 9) < n
+          row = home-below R n (k / 9) (omega arith)
+
+          out : Dec (k % 9 < n) → getD y (home R (k / 9) * 9 + home R (k % 9)) zeroPair ≡ zeroPair
+          out (yes c) = absurd (o hk c)
+          out (no c) =
+              let b : n ≤ k % 9 = omega arith in
+              let e : (home R (k / 9) * 9 + k % 9) % 9 ≡ k % 9 = omega arith in
+              rw (home-stays R (k % 9) (none (k % 9) b)) (f .frame (home R (k / 9) * 9 + k % 9) (omega (arith, row)) (λ p q. c (omega arith)))
+
+      framed-places : (y z : List Pair) → Framed n y → Framed n z → (k : ℕ) → k ≤ n * 9 → Framed n (resetPlaces R y k z)
+      unfolding resetPlaces
+      framed-places y z f g zero h = g
+      framed-places y z f g (suc k) h =
+          framed-set (resetPlaces R y k z) k (pairAt y (home R (k / 9)) (home R (k % 9))) (λ a o. home-outside y k f h o) (framed-places y z f g k (omega arith))
+
+      pub framed-reset : (w : Work) → Framed n (w .zone) → Framed n (resetOf n R w .zone)
+      unfolding resetOf
+      framed-reset w f = framed-places (w .zone) (w .zone) f f (n * 9) (omega arith)

@@ -1,0 +1,195 @@
+-- The turns of the loops over a slot, as the code takes them.
+-- Assumes nothing.
+use Prim.Native.Nat.{ℕ, zero, suc, _+_, _-_, _*_, _/_, _%_, _<_, _≤_}
+use mathlib.Core.Path.{_≡_, refl, sym, ap, _∙_, subst}
+use mathlib.Core.Bool.{Bool, true, false, cond}
+use mathlib.Core.List.{List, [], _∷_, _++_, append-nil}
+use lib.IntN.{ℤ, pos, negsuc, natAbs}
+use lib.ListN.{length, getD, take, drop, set, replicate, length-append, length-drop, drop-of-length-le}
+use lib.Seq.{set-at, append-snoc, paste-suc, take-all, drop-drop}
+use lib.Signed.{_≤ℤ_, ltZ, nonNeg, yes-nonNeg}
+use lib.Dec.{T}
+use mir.Syntax.{w32, w64}
+use mir.Val.{Fits, SFits, ofZ, toZ}
+use mir.ValLaws.{toZ-ofZ, toZ-pos}
+use native.Mathlib.Nat.{zero-add, mul-le-mul}
+use native.Mathlib.Numerals.{add-one}
+use native.Mathlib.Omega.{arith}
+use Rattle.zones.specs.declared.pair.Pair.{Pair}
+use Rattle.zones.specs.Integers.{up, int, ltZ-false, le-ltZ, abs-fits}
+use Rattle.zones.specs.Containment.{placeOf}
+use Rattle.zones.specs.Ranges.{AllBounded, Bounded, scale, lastCounts}
+use Rattle.zones.specs.Zones.{pairAt}
+use Rattle.search.specs.Slots.{pairsTo, flat, slotOf, slotPair, counted, squareTo, zoneOf, lessAt, withinSlots}
+use Rattle.search.proofs.Slotted.{counted-in, counted-out, counted-all, counted-below, pairs-in, pairs-out, pairs-length, flat-length, flat-split, square-in, square-out}
+
+-- ---- `is_within`: the code compares the numbers' bits
+module _ (x y : ℤ) (hx : SFits w32 x) (hy : SFits w32 y) where
+  tested : (t : Bool) → ltZ (toZ w32 (ofZ w32 x)) (toZ w32 (ofZ w32 y)) ≡ t → ltZ x y ≡ t
+  tested t e = rw (toZ-ofZ w32 x hx, toZ-ofZ w32 y hy) at e
+
+  same : ofZ w32 x ≡ ofZ w32 y → x ≡ y
+  same e = sym (toZ-ofZ w32 x hx) ∙ ap (toZ w32) e ∙ toZ-ofZ w32 y hy
+
+irreflexive : (x : ℤ) → ltZ x x ≡ false
+irreflexive x = le-ltZ x x (omega (arith, int))
+
+module _ (new old : List ℤ) (t : ℕ) where
+  abbrev oldM : ℤ
+  oldM = getD old (1 + 2 * t) (pos 0)
+
+  abbrev newM : ℤ
+  newM = getD new (1 + 2 * t) (pos 0)
+
+  abbrev oldP : ℤ
+  oldP = getD old (2 + 2 * t) (pos 0)
+
+  abbrev newP : ℤ
+  newP = getD new (2 + 2 * t) (pos 0)
+
+  -- the first pair that fails decides the test
+  fails : lessAt new old t ≡ true → (d : ℕ) → withinSlots new old (d + suc t) ≡ false
+  unfolding withinSlots
+  fails e zero = let f : zero + suc t ≡ suc t = omega arith in rw f (rw e)
+  fails e (suc d) = let f : suc d + suc t ≡ suc (d + suc t) = omega arith in rw f (go (lessAt new old (d + suc t)) (fails e d))
+    where
+      go : {b : Bool} (a : Bool) → b ≡ false → cond a false b ≡ false
+      go true g = refl
+      go false g = g
+
+  stops : (pairs : ℕ) → t < pairs → lessAt new old t ≡ true → false ≡ withinSlots new old pairs
+  stops pairs h e = let f : (pairs - suc t) + suc t ≡ pairs = omega arith in sym (rw f at (fails e (pairs - suc t)))
+
+  goes : lessAt new old t ≡ false → withinSlots new old t ≡ true → withinSlots new old (t + 1) ≡ true
+  unfolding withinSlots
+  goes e w = rw add-one (rw (e, w))
+
+  module _ (ho : SFits w32 oldM) (hn : SFits w32 newM) where
+    pub stops-m : (pairs : ℕ) → t < pairs → ltZ (toZ w32 (ofZ w32 oldM)) (toZ w32 (ofZ w32 newM)) ≡ true → false ≡ withinSlots new old pairs
+    stops-m pairs h e = stops pairs h (rw (tested oldM newM ho hn true e))
+
+    pub stops-p : (pairs : ℕ) → t < pairs → ofZ w32 oldM ≡ ofZ w32 newM → SFits w32 oldP → SFits w32 newP → ltZ (toZ w32 (ofZ w32 oldP)) (toZ w32 (ofZ w32 newP)) ≡ true → false ≡ withinSlots new old pairs
+    stops-p pairs h e fo fn g = stops pairs h (rw (same oldM newM ho hn e, irreflexive newM, tested oldP newP fo fn true g))
+
+    pub goes-p : ofZ w32 oldM ≡ ofZ w32 newM → SFits w32 oldP → SFits w32 newP → ltZ (toZ w32 (ofZ w32 oldP)) (toZ w32 (ofZ w32 newP)) ≡ false → withinSlots new old t ≡ true → withinSlots new old (t + 1) ≡ true
+    goes-p e fo fn g = goes (rw (same oldM newM ho hn e, irreflexive newM, tested oldP newP fo fn false g))
+
+    pub goes-m : ltZ (toZ w32 (ofZ w32 oldM)) (toZ w32 (ofZ w32 newM)) ≡ false → (ofZ w32 oldM ≡ ofZ w32 newM → ⊥) → withinSlots new old t ≡ true → withinSlots new old (t + 1) ≡ true
+    goes-m e d = goes (rw (tested oldM newM ho hn false e, above (ltZ newM oldM) refl))
+      where
+        above : (b : Bool) → ltZ newM oldM ≡ b → ltZ newM oldM ≡ true
+        above true g = g
+        above false g =
+            let q : oldM ≡ newM = omega (arith, int, ltZ-false oldM newM (tested oldM newM ho hn false e), ltZ-false newM oldM g) in
+            absurd (d (ap (ofZ w32) q))
+
+-- ---- `get_pair`: a number of 32 bits, read wide
+count-fits : (x : ℤ) → SFits w32 x → pos 0 ≤ℤ x → Fits w64 (natAbs x)
+count-fits (pos n) h g = record { fits = omega (arith, h .sfits) }
+count-fits (negsuc n) h g = absurd (g .le)
+
+abs-up : (x : ℤ) → pos 0 ≤ℤ x → natAbs x ≡ up x
+abs-up (pos n) g = refl
+abs-up (negsuc n) g = absurd (g .le)
+
+module _ (x : ℤ) (h : SFits w32 x) where
+  pub reads-m : SFits w64 (toZ w32 (ofZ w32 x))
+  reads-m = rw (toZ-ofZ w32 x h) (record { sfits = omega (arith, h .sfits) })
+
+  pub read-m : toZ w64 (ofZ w64 (toZ w32 (ofZ w32 x))) ≡ x
+  read-m = toZ-ofZ w64 (toZ w32 (ofZ w32 x)) reads-m ∙ toZ-ofZ w32 x h
+
+  pub reads-p : pos 0 ≤ℤ x → T (nonNeg (toZ w32 (ofZ w32 x))) × Fits w64 (natAbs (toZ w32 (ofZ w32 x)))
+  reads-p g = rw (toZ-ofZ w32 x h) (yes-nonNeg g, count-fits x h g)
+
+  pub read-p : pos 0 ≤ℤ x → natAbs (toZ w32 (ofZ w32 x)) ≡ up x
+  read-p g = rw (toZ-ofZ w32 x h) (abs-up x g)
+
+-- ---- `put_pair`: a pair of a zone that is kept fits 32 bits
+module _ (q : Pair) (b : Bounded scale lastCounts q) where
+  wide : SFits w64 (q .m)
+  wide = abs-fits w64 (q .m) (omega (arith, b .m))
+
+  narrow : SFits w32 (q .m)
+  narrow = abs-fits w32 (q .m) (omega (arith, b .m))
+
+  pub puts-m : SFits w32 (toZ w64 (ofZ w64 (q .m)))
+  puts-m = rw (toZ-ofZ w64 (q .m) wide) narrow
+
+  pub put-m : toZ w32 (ofZ w32 (toZ w64 (ofZ w64 (q .m)))) ≡ q .m
+  put-m = toZ-ofZ w32 (toZ w64 (ofZ w64 (q .m))) puts-m ∙ toZ-ofZ w64 (q .m) wide
+
+  pub put-p : toZ w32 (q .p) ≡ pos (q .p)
+  put-p = toZ-pos w32 (q .p) (omega (arith, b .p))
+
+-- ---- the places that count, so far
+module _ (n k : ℕ) {t : ℕ} (e : t ≡ counted n k) where
+  pub counts-in : k % 9 < n → t + 1 ≡ counted n (k + 1)
+  counts-in c = rw (add-one k) (omega (arith, counted-in n k c))
+
+  pub counts-out : n ≤ k % 9 → t ≡ counted n (k + 1)
+  counts-out c = rw (add-one k) (omega (arith, counted-out n k c))
+
+  -- their number is below the slot's, of which there are at most 81
+  pub few : n ≤ 9 → k < n * 9 → k % 9 < n → (t < n * n) × (t < 81)
+  few h hk c = (omega (arith, counted-below n h k hk c), omega (arith, counted-below n h k hk c, mul-le-mul h h))
+
+-- ---- `encode`: the slot of the first k places, and zeros
+pub encoded : ℕ → ℕ → List Pair → ℕ → List ℤ
+encoded n l z k = (pos l ∷ flat (pairsTo n k z)) ++ replicate (162 - 2 * counted n k) (pos 0)
+
+pub bounded-place : (C P n : ℕ) (z : List Pair) (k : ℕ) → AllBounded C P n z → k < n * 9 → k % 9 < n → Bounded C P (placeOf z k)
+unfolding pairAt
+bounded-place C P n z k h hk c = let e : k / 9 * 9 + k % 9 ≡ k = omega arith in subst (λ (i : ℕ). Bounded C P (placeOf z i)) e (h (k / 9) (k % 9) (omega arith) c)
+
+module _ (n l : ℕ) (z : List Pair) where
+  pub encode-start : l < 256 → set (replicate 163 (pos 0)) 0 (toZ w32 l) ≡ encoded n l z 0
+  unfolding encoded pairsTo flat counted
+  encode-start h = rw (toZ-pos w32 l (omega arith))
+
+  pub encode-in : (k : ℕ) {t : ℕ} {slot : List ℤ} → k % 9 < n → t < 81 → t ≡ counted n k → slot ≡ encoded n l z k
+      → set (set slot (1 + 2 * t) (placeOf z k .m)) (2 + 2 * t) (pos (placeOf z k .p)) ≡ encoded n l z (k + 1)
+  unfolding encoded flat
+  encode-in k {t} {slot} c h e f =
+      let q = placeOf z k in
+      let front : List ℤ = pos l ∷ flat (pairsTo n k z) in
+      let zeros : List ℤ = replicate (162 - 2 * counted n (suc k)) (pos 0) in
+      let more : 162 - 2 * counted n k ≡ suc (suc (162 - 2 * counted n (suc k))) = omega (arith, counted-in n k c) in
+      let one : length front ≡ 1 + 2 * t = omega (arith, flat-length (pairsTo n k z), pairs-length n z k) in
+      let two : length (front ++ (q .m ∷ [])) ≡ 2 + 2 * t = simp length-append (omega arith) in
+      rw (add-one k, f, more, set-at front (pos 0) (pos 0 ∷ zeros) (q .m) (1 + 2 * t) one)
+      (rw (← append-snoc front (q .m) (pos 0 ∷ zeros), set-at (front ++ (q .m ∷ [])) (pos 0) zeros (pos (q .p)) (2 + 2 * t) two)
+      (rw (pairs-in n z k c, flat-split (pairsTo n k z) q [] zeros, append-snoc front (q .m) (pos (q .p) ∷ zeros))))
+
+  pub encode-out : (k : ℕ) {slot : List ℤ} → n ≤ k % 9 → slot ≡ encoded n l z k → slot ≡ encoded n l z (k + 1)
+  unfolding encoded
+  encode-out k c f = rw (add-one k, pairs-out n z k c, counted-out n k c) f
+
+  pub encode-all : (k : ℕ) {slot : List ℤ} → n ≤ 9 → k ≡ n * 9 → slot ≡ encoded n l z k → slot ≡ slotOf n l z ++ replicate (162 - 2 * (n * n)) (pos 0)
+  unfolding encoded slotOf
+  encode-all k h e f = f ∙ rw (e, counted-all n h)
+
+-- ---- `decode`
+module _ (n : ℕ) (s : List ℤ) (k : ℕ) where
+  pub decode-in : {t : ℕ} {z : List Pair} {q : Pair} → k % 9 < n → t ≡ counted n k → q ≡ slotPair s t → z ≡ squareTo n k s → set z k q ≡ squareTo n (k + 1) s
+  decode-in c e f g = rw (add-one k, square-in n s k c) (λ i. set (g i) k ((f ∙ ap (slotPair s) e) i))
+
+  pub decode-out : {z : List Pair} → n ≤ k % 9 → z ≡ squareTo n k s → z ≡ squareTo n (k + 1) s
+  decode-out c g = rw (add-one k, square-out n s k c) g
+
+  pub decode-all : {z : List Pair} → k ≡ n * 9 → z ≡ squareTo n k s → z ≡ zoneOf n s
+  unfolding zoneOf
+  decode-all e g = g ∙ ap (λ (i : ℕ). squareTo n i s) e
+
+-- ---- `copy`
+pub copy-turn : (d s : List ℤ) (i : ℕ) {slot : List ℤ} → i < length d → i < length s → SFits w32 (getD s i (pos 0)) → slot ≡ take i s ++ drop i d
+    → set slot i (toZ w32 (ofZ w32 (getD s i (pos 0)))) ≡ take (i + 1) s ++ drop (i + 1) d
+copy-turn d s i hd hs f e = rw (add-one i, e, toZ-ofZ w32 (getD s i (pos 0)) f) (simp zero-add at (paste-suc d 0 s i (pos 0) (omega arith) hs))
+
+-- ---- `keep`: a part that was lent from `at` to the end, and has come back
+pub lent-tail : (s ys front : List ℤ) (at n : ℕ) → ys ≡ front ++ drop n (take (length s - at) (drop at s))
+    → take at s ++ (ys ++ drop (length s - at) (drop at s)) ≡ take at s ++ (front ++ drop (at + n) s)
+lent-tail s ys front at n e =
+    let none : drop (length s - at) (drop at s) ≡ [] = drop-of-length-le (drop at s) {i = length s - at} (omega (arith, length-drop at s)) in
+    let all : take (length s - at) (drop at s) ≡ drop at s = take-all (length s - at) (drop at s) (omega (arith, length-drop at s)) in
+    rw (none, e, append-nil, all, drop-drop)

@@ -1,0 +1,30 @@
+-- Assumes nothing.
+use mathlib.Core.Path.{refl, sym, ap, _∙_, subst}
+use lib.ListN.{length}
+use native.Mathlib.Omega.{arith}
+use Rattle.search.proofs.Answers.{answer-holds, answer-reached, answer-refused}
+use borrow.Author.Needs.{needs}
+use borrow.Author.Needs.{needs}
+use Rattle.search.proofs.answer.Statement.{statement}
+use Rattle.search.proofs.answer.Tie as tie
+use Rattle.search.proofs.answer.Reads as reads
+use Rattle.search.proofs.answer.Lts as lts
+use Rattle.search.proofs.holding.Reads as holding-reads
+
+cast-zones : tie.Need-cast-zones
+cast-zones c = search needs
+
+holding-requires : tie.Need-holding-requires
+holding-requires c κs = search needs
+
+returns : tie.Need-returns
+returns c = answer-holds _ _ _ (c .before .if1 .taken) (c .holding .ensures)
+
+returns-2 : tie.Need-returns-2
+returns-2 c = answer-reached _ _ _ (c .if2 .taken)
+
+returns-3 : tie.Need-returns-3
+returns-3 c = answer-refused _ _ _ (c .before .if1 .left) (c .if2 .left)
+
+pub answer-spec : {M : Type 1} → statement M
+answer-spec = tie.close (tie.spec cast-zones holding-requires returns returns-2 returns-3)

@@ -1,0 +1,137 @@
+-- Assumes nothing.
+use Prim.Native.Nat.{ℕ, suc, _+_, _*_, _-_, _≤_, _<_}
+use mathlib.Core.Path.{_≡_, refl, sym, ap, _∙_}
+use mathlib.Core.List.{List, []}
+use mathlib.Core.Logic.{⊎-elim}
+use lib.IntN.{ℤ}
+use lib.ListN.{length}
+use native.Mathlib.Omega.{arith}
+use Rattle.search.specs.Automata.{clocks, edges}
+use Rattle.search.specs.Exploring.{ZoneState, SoundState, Shown}
+use Rattle.search.proofs.Expanding.{shown-length, Between, begins, passes, taken-sized, result-sound, goes-on, offered-length, stops, between-progress, ends}
+use borrow.Author.Needs.{needs}
+use Rattle.search.proofs.exploration.expand.Statement.{statement}
+use Rattle.search.proofs.exploration.expand.Tie as tie
+use Rattle.search.proofs.exploration.expand.Reads as reads
+use Rattle.search.proofs.exploration.expand.Lts as lts
+use Rattle.search.proofs.automaton.edge_from.Reads as edge-from-reads
+use Rattle.search.proofs.automaton.edge_to.Reads as edge-to-reads
+use Rattle.search.proofs.automaton.edges.Reads as edges-reads
+use Rattle.search.proofs.exploration.offer.Reads as offer-reads
+use Rattle.search.proofs.successor.follow.Reads as follow-reads
+
+abbrev Inv-loop : tie.InvT-loop
+Inv-loop automaton store₀ slots l z t₀ last i₀ store t i =
+    (last ≡ edges automaton) × (i ≤ last) × ((p : List ℕ) (s₀ : List ℤ) (q₀ : ZoneState) → Shown (suc (clocks automaton)) s₀ q₀ store₀ t₀ → SoundState automaton slots q₀ → q₀ .code ≡ 0 → Between automaton slots l z p s₀ q₀ i store t)
+
+abbrev μ-loop : tie.MeasureT-loop
+μ-loop automaton store₀ slots l z t₀ last i₀ store t i = last - i
+
+edges-requires : tie.Need-edges-requires Inv-loop μ-loop
+edges-requires c κs = search needs
+
+loop-holds : tie.Need-loop-holds Inv-loop μ-loop
+loop-holds c = (c .edges .ensures, omega arith, λ p s₀ q₀ h o g. begins _ _ _ _ _ s₀ q₀ _ _ h o g)
+
+edge-from-requires : tie.Need-edge-from-requires Inv-loop μ-loop
+edge-from-requires c κs =
+    let start = c .before .before .before .before in
+    let loop = c .before in
+    (start .pre .0 .complete, omega (arith, loop .loop .inv .0, c .loop-test .taken))
+
+follow-requires : tie.Need-follow-requires Inv-loop μ-loop
+follow-requires c κs =
+    let start = c .before .before .before .before .before .before .before in
+    let loop = c .before .before .before .before in
+    let going = start .pre .1 in
+    let between = loop .loop .inv .2 [] (going .base) (going .state) (going .shown) (going .sound) (going .going) in
+    let at : loop .loop .i < edges (start .args .automaton .now) = omega (arith, loop .loop .inv .0, c .before .before .before .loop-test .taken) in
+    ((start .pre .0, at), taken-sized _ _ _ _ _ _ _ _ at _ _ between (start .pre .0) (start .pre .2) _ refl)
+
+edge-to-requires : tie.Need-edge-to-requires Inv-loop μ-loop
+edge-to-requires c κs =
+    let start = c .before .before .before .before .before .before .before .before .before in
+    let loop = c .before .before .before .before .before .before in
+    (start .pre .0 .complete, omega (arith, loop .loop .inv .0, c .before .before .before .before .before .loop-test .taken))
+
+offer-requires : tie.Need-offer-requires Inv-loop μ-loop
+offer-requires c κs =
+    let start = c .before .before .before .before .before .before .before .before .before .before in
+    let loop = c .before .before .before .before .before .before .before in
+    let going = start .pre .1 in
+    let between = loop .loop .inv .2 [] (going .base) (going .state) (going .shown) (going .sound) (going .going) in
+    let at : loop .loop .i < edges (start .args .automaton .now) = omega (arith, loop .loop .inv .0, c .before .before .before .before .before .before .loop-test .taken) in
+    ((start .pre .0, rw (c .edge-to .ensures) (start .pre .0 .to< _ at)), (between-progress _ _ _ _ _ _ _ _ _ _ (going .room) between, result-sound _ _ _ _ _ _ _ _ at _ _ between (start .pre .0) (start .pre .2) _ refl (c .before .before .follow .ensures)))
+
+same-length : tie.Need-same-length Inv-loop μ-loop
+same-length c =
+    let start = c .before .before .before .before .before .before .before .before .before .before .before .before .before .before in
+    let loop = c .before .before .before .before .before .before .before .before .before .before .before in
+    let at : loop .loop .i < edges (start .args .automaton .now) = omega (arith, loop .loop .inv .0, c .before .before .before .before .before .before .before .before .before .before .loop-test .taken) in
+    let going = start .pre .1 in
+    let between = loop .loop .inv .2 [] (going .base) (going .state) (going .shown) (going .sound) (going .going) in
+    offered-length _ _ _ _ [] _ _ _ at _ _ between (start .pre .0) (start .pre .2) (sym (c .before .before .before .before .before .before .before .before .before .edge-from .ensures) ∙ c .before .before .before .before .before .before .before .before .if1 .taken) _ _ refl (c .before .before .before .before .before .before .follow .ensures) _ _ (rw (c .before .before .before .before .edge-to .ensures) at (c .before .before .before .offer .ensures)) (going .room)
+    ∙ sym (shown-length _ (start .pre .0) _ _ _ _ (going .room) (going .shown) (going .sound))
+
+returns : tie.Need-returns Inv-loop μ-loop
+returns c =
+    let start = c .before .before .before .before .before .before .before .before .before .before .before .before .before .before in
+    let loop = c .before .before .before .before .before .before .before .before .before .before .before in
+    let at : loop .loop .i < edges (start .args .automaton .now) = omega (arith, loop .loop .inv .0, c .before .before .before .before .before .before .before .before .before .before .loop-test .taken) in
+    λ p. record {
+      shows = λ s₀ q₀ h o g. stops _ _ _ _ p s₀ q₀ _ at _ _ (loop .loop .inv .2 p s₀ q₀ h o g) (start .pre .0) (start .pre .2) (sym (c .before .before .before .before .before .before .before .before .before .edge-from .ensures) ∙ c .before .before .before .before .before .before .before .before .if1 .taken) _ _ refl (c .before .before .before .before .before .before .follow .ensures) _ _ (rw (c .before .before .before .before .edge-to .ensures) at (c .before .before .before .offer .ensures)) (c .if2 .taken);
+    }
+
+add-i : tie.Need-add-i Inv-loop μ-loop
+add-i c = omega arith
+
+loop-less : tie.Need-loop-less Inv-loop μ-loop
+loop-less c = omega arith
+
+loop-again : tie.Need-loop-again Inv-loop μ-loop
+loop-again c =
+    let start = c .before .before .before .before .before .before in
+    let loop = c .before .before .before in
+    let at : loop .loop .i < edges (start .args .automaton .now) = omega (arith, loop .loop .inv .0, c .before .before .loop-test .taken) in (
+      loop .loop .inv .0,
+      omega arith,
+      λ p s₀ q₀ h o g.
+          let between = loop .loop .inv .2 p s₀ q₀ h o g in
+          ⊎-elim
+          (λ w. rw (w .9, w .10) (goes-on _ _ _ _ p s₀ q₀ _ at _ _ between (start .pre .0) (start .pre .2) (sym (c .before .edge-from .ensures) ∙ w .0 .taken) _ _ refl (w .2 .ensures) _ _ (rw (w .4 .ensures) at (w .5 .ensures)) (w .8 .left)))
+          (λ w. rw (w .1, w .2) (passes _ _ _ _ p s₀ q₀ _ at _ _ between (λ e. w .0 .left (c .before .edge-from .ensures ∙ e)))) (c .if1 .came),
+    )
+
+same-length-2 : tie.Need-same-length-2 Inv-loop μ-loop
+same-length-2 c =
+    let start = c .before .before .before .before in
+    let loop = c .before in
+    let going = start .pre .1 in
+    let between = loop .loop .inv .2 [] (going .base) (going .state) (going .shown) (going .sound) (going .going) in
+    shown-length _ (start .pre .0) _ _ _ _ (going .room) (between .shown) (between .sound) ∙ sym (shown-length _ (start .pre .0) _ _ _ _ (going .room) (going .shown) (going .sound))
+
+returns-2 : tie.Need-returns-2 Inv-loop μ-loop
+returns-2 c =
+    let start = c .before .before .before .before in
+    let loop = c .before in
+    λ p. record { shows = λ s₀ q₀ h o g. ends _ _ _ _ p s₀ q₀ _ _ _ (omega (arith, loop .loop .inv .0, c .loop-test .left)) (loop .loop .inv .2 p s₀ q₀ h o g) }
+
+pub expand-spec : {M : Type 1} → statement M
+expand-spec =
+    tie.close
+    (tie.spec
+    Inv-loop
+    μ-loop
+    edges-requires
+    loop-holds
+    edge-from-requires
+    follow-requires
+    edge-to-requires
+    offer-requires
+    same-length
+    returns
+    add-i
+    loop-less
+    loop-again
+    same-length-2
+    returns-2)

@@ -1,0 +1,115 @@
+-- Assumes nothing.
+use Prim.Native.Nat.{ℕ, suc, _+_, _*_, _-_, _≤_, _<_}
+use mathlib.Core.Path.{_≡_, refl, sym, ap, _∙_}
+use mathlib.Core.Logic.{⊎-elim}
+use mir.Syntax.{w32}
+use mir.Val.{ofZ}
+use native.Mathlib.Omega.{arith}
+use native.Mathlib.Nat.{mul-le-mul-right, not-suc-le-zero}
+use Rattle.search.specs.Exploring.{Hits, FirstHit}
+use Rattle.search.specs.Slots.{slotLength}
+use Rattle.search.proofs.Stores.{slot-fits, same-bits, lent-length, size-square, hit, misses-more, miss-location, miss-inside}
+use Rattle.search.proofs.exploration.find.Statement.{statement}
+use Rattle.search.proofs.exploration.find.Tie as tie
+use Rattle.search.proofs.exploration.find.Reads as reads
+use Rattle.search.proofs.exploration.find.Lts as lts
+use Rattle.search.proofs.slot.is_within.Reads as is-within-reads
+use Rattle.search.proofs.slot.slot_length.Reads as slot-length-reads
+
+abbrev Inv-loop : tie.InvT-loop
+Inv-loop store new count size amount j₀ at₀ j at = (amount ≡ slotLength size) × (j ≤ count) × (at ≡ j * slotLength size) × ((i : ℕ) → i < j → Hits size new store i → ⊥)
+
+abbrev μ-loop : tie.MeasureT-loop
+μ-loop store new count size amount j₀ at₀ j at = count - j
+
+slot-length-requires : tie.Need-slot-length-requires Inv-loop μ-loop
+slot-length-requires c κs = omega arith
+
+loop-holds : tie.Need-loop-holds Inv-loop μ-loop
+loop-holds c = (c .slot-length .ensures, omega arith, omega arith, λ i h. absurd (not-suc-le-zero h))
+
+mul-if1 : tie.Need-mul-if1 Inv-loop μ-loop
+mul-if1 c = omega (arith, slot-fits (slotLength (c .before .before .before .args .size)) (c .loop-test .taken) (c .before .before .before .pre .1) (c .before .loop .inv .2))
+
+shared-slice-copy-out-if1 : tie.Need-shared-slice-copy-out-if1 Inv-loop μ-loop
+shared-slice-copy-out-if1 c = omega (arith, slot-fits (slotLength (c .before .before .before .args .size)) (c .loop-test .taken) (c .before .before .before .pre .1) (c .before .loop .inv .2))
+
+shared-slice-copy-out-if1-2 : tie.Need-shared-slice-copy-out-if1-2 Inv-loop μ-loop
+shared-slice-copy-out-if1-2 c = omega arith
+
+mul-is-within : tie.Need-mul-is-within Inv-loop μ-loop
+mul-is-within c = omega (arith, slot-fits (slotLength (c .before .before .before .before .before .before .args .size)) (c .before .before .before .loop-test .taken) (c .before .before .before .before .before .before .pre .1) (c .before .before .before .before .loop .inv .2))
+
+sub-is-within : tie.Need-sub-is-within Inv-loop μ-loop
+sub-is-within c = omega (arith, slot-fits (slotLength (c .before .before .before .before .before .before .args .size)) (c .before .before .before .loop-test .taken) (c .before .before .before .before .before .before .pre .1) (c .before .before .before .before .loop .inv .2))
+
+part-is-within-start : tie.Need-part-is-within-start Inv-loop μ-loop
+part-is-within-start c = omega (arith, slot-fits (slotLength (c .before .before .before .before .before .before .args .size)) (c .before .before .before .loop-test .taken) (c .before .before .before .before .before .before .pre .1) (c .before .before .before .before .loop .inv .2))
+
+part-is-within-end : tie.Need-part-is-within-end Inv-loop μ-loop
+part-is-within-end c = omega arith
+
+mul-is-within-2 : tie.Need-mul-is-within-2 Inv-loop μ-loop
+mul-is-within-2 c = omega arith
+
+is-within-requires : tie.Need-is-within-requires Inv-loop μ-loop
+is-within-requires c κs =
+    let start = c .before .before .before .before .before .before .before in
+    (omega (arith, start .pre .2), rw (lent-length (start .args .store .now) (c .before .before .before .before .before .loop .at)) (omega (arith, slot-fits (slotLength (c .before .before .before .before .before .before .before .args .size)) (c .before .before .before .before .loop-test .taken) (c .before .before .before .before .before .before .before .pre .1) (c .before .before .before .before .before .loop .inv .2))), omega (arith, size-square (start .args .size) (start .pre .0)))
+
+returns : tie.Need-returns Inv-loop μ-loop
+returns c =
+    let loop = c .before .before .before .before .before .before .before in
+    record {
+      most = omega arith;
+      before = loop .loop .inv .3;
+      found = λ h. hit _ _ _ _ (loop .loop .inv .2) (same-bits (record { sfits = c .before .before .before .before .before .if12 .given }) (record { sfits = c .before .before .before .before .if13 .given }) (c .before .before .before .if1 .taken)) (sym (c .before .is-within .ensures) ∙ c .if2 .taken);
+    }
+
+add-j : tie.Need-add-j Inv-loop μ-loop
+add-j c = omega arith
+
+add-at : tie.Need-add-at Inv-loop μ-loop
+add-at c = omega (arith, c .before .before .before .before .loop .inv .0, slot-fits (slotLength (c .before .before .before .before .before .before .args .size)) (c .before .before .before .loop-test .taken) (c .before .before .before .before .before .before .pre .1) (c .before .before .before .before .loop .inv .2))
+
+loop-less : tie.Need-loop-less Inv-loop μ-loop
+loop-less c = omega arith
+
+loop-again : tie.Need-loop-again Inv-loop μ-loop
+loop-again c =
+    let loop = c .before .before .before .before in (
+      loop .loop .inv .0,
+      omega arith,
+      omega (arith, loop .loop .inv .0, loop .loop .inv .2),
+      misses-more _ _ _ (loop .loop .j) (loop .loop .inv .3) (⊎-elim (λ w. miss-inside _ _ _ _ (loop .loop .inv .2) (sym (w .2 .ensures) ∙ w .3 .left)) (λ w. miss-location _ _ _ _ (loop .loop .inv .2) (λ e. w .left (ap (ofZ w32) e))) (c .if1 .came)),
+    )
+
+returns-2 : tie.Need-returns-2 Inv-loop μ-loop
+returns-2 c =
+    let loop = c .before in
+    let e : loop .loop .j ≡ loop .before .before .args .count = omega arith in
+    record { most = omega arith; before = λ j h. loop .loop .inv .3 j (omega arith); found = λ h. absurd (omega arith) }
+
+pub find-spec : {M : Type 1} → statement M
+find-spec =
+    tie.close
+    (tie.spec
+    Inv-loop
+    μ-loop
+    slot-length-requires
+    loop-holds
+    mul-if1
+    shared-slice-copy-out-if1
+    shared-slice-copy-out-if1-2
+    mul-is-within
+    sub-is-within
+    part-is-within-start
+    part-is-within-end
+    mul-is-within-2
+    is-within-requires
+    returns
+    add-j
+    add-at
+    loop-less
+    loop-again
+    returns-2)

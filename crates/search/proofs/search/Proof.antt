@@ -1,0 +1,45 @@
+-- Assumes nothing.
+use mathlib.Core.Path.{refl, sym, ap, _∙_, subst}
+use lib.ListN.{length}
+use native.Mathlib.Omega.{arith}
+use Rattle.search.specs.Demands.{Robust}
+use Rattle.search.proofs.Accepting.{accepted}
+use Rattle.search.proofs.Answers.{refused-answer, refused-store, count-small, searched-answer, searched-store}
+use Rattle.search.proofs.Demands.{robust, kept-exact}
+use borrow.Author.Needs.{needs}
+use borrow.Author.Needs.{needs}
+use Rattle.search.proofs.search.Statement.{statement}
+use Rattle.search.proofs.search.Tie as tie
+use Rattle.search.proofs.search.Reads as reads
+use Rattle.search.proofs.search.Lts as lts
+use Rattle.search.proofs.answer.Reads as answer-reads
+use Rattle.search.proofs.automaton.refusal.Reads as refusal-reads
+use Rattle.search.proofs.exploration.explore.Reads as explore-reads
+
+refusal-requires : tie.Need-refusal-requires
+refusal-requires c κs = search needs
+
+returns : tie.Need-returns
+returns c =
+    let answer = refused-answer _ (c .before .refusal .ensures) (c .if1 .taken) _ in
+    (answer, (refused-store _ (c .before .refusal .ensures) (c .if1 .taken) _, (subst (Robust _) (sym answer) (robust _ _), kept-exact _ _)))
+
+explore-requires : tie.Need-explore-requires
+explore-requires c κs = accepted _ (sym (c .before .before .refusal .ensures) ∙ c .before .if1 .left)
+
+answer-requires : tie.Need-answer-requires
+answer-requires c κs = count-small _ (sym (c .before .before .before .before .refusal .ensures) ∙ c .before .before .before .if1 .left) _ _ _ (c .before .explore .ensures)
+
+same-length : tie.Need-same-length
+same-length c = search needs
+
+returns-2 : tie.Need-returns-2
+returns-2 c =
+    let ok = sym (c .before .before .before .before .before .refusal .ensures) ∙ c .before .before .before .before .if1 .left in
+    let answer = searched-answer _ ok _ _ _ (c .before .before .explore .ensures) (c .answer .ensures) in
+    (answer, (searched-store _ ok _ _ _ (c .before .before .explore .ensures), (subst (Robust _) (sym answer) (robust _ _), kept-exact _ _)))
+
+pub search-spec : {M : Type 1} → statement M
+search-spec =
+    tie.close
+    (tie.spec refusal-requires returns explore-requires answer-requires same-length returns-2)

@@ -1,0 +1,66 @@
+-- Assumes nothing.
+use Prim.Native.Nat.{_-_, _≤_}
+use mathlib.Core.Path.{_≡_, refl}
+use mathlib.Core.List.{_++_}
+use lib.ListN.{length, take, drop, length-set}
+use native.Mathlib.Omega.{arith}
+use Rattle.search.proofs.Turns.{copy-turn}
+use Rattle.search.proofs.slot.copy.Statement.{statement}
+use Rattle.search.proofs.slot.copy.Tie as tie
+
+abbrev Inv-loop : tie.InvT-loop
+Inv-loop slot₀ numbers amount i₀ slot i = (i ≤ amount) × (length slot ≡ length slot₀) × (slot ≡ take i numbers ++ drop i slot₀)
+
+abbrev μ-loop : tie.MeasureT-loop
+μ-loop slot₀ numbers amount i₀ slot i = amount - i
+
+loop-holds : tie.Need-loop-holds Inv-loop μ-loop
+loop-holds c = (omega arith, refl, refl)
+
+mul-slot : tie.Need-mul-slot Inv-loop μ-loop
+mul-slot c = omega arith
+
+shared-slice-copy-out-slot : tie.Need-shared-slice-copy-out-slot Inv-loop μ-loop
+shared-slice-copy-out-slot c = omega arith
+
+mul-t9 : tie.Need-mul-t9 Inv-loop μ-loop
+mul-t9 c = omega arith
+
+slice-set-from-slot : tie.Need-slice-set-from-slot Inv-loop μ-loop
+slice-set-from-slot c = omega arith
+
+add-i : tie.Need-add-i Inv-loop μ-loop
+add-i c = omega arith
+
+loop-less : tie.Need-loop-less Inv-loop μ-loop
+loop-less c = omega arith
+
+loop-again : tie.Need-loop-again Inv-loop μ-loop
+loop-again c =
+    let l = c .before .before .loop in
+    (omega arith, simp length-set (l .inv .1), copy-turn _ _ (l .i) (omega arith) (omega arith) (record { sfits = c .slot .given }) (l .inv .2))
+
+same-length : tie.Need-same-length Inv-loop μ-loop
+same-length c = c .before .loop .inv .1
+
+returns : tie.Need-returns Inv-loop μ-loop
+returns c =
+    let e : c .before .loop .i ≡ c .before .before .args .amount = omega arith in
+    rw e at (c .before .loop .inv .2)
+
+pub copy-spec : {M : Type 1} → statement M
+copy-spec =
+    tie.close
+    (tie.spec
+    Inv-loop
+    μ-loop
+    loop-holds
+    mul-slot
+    shared-slice-copy-out-slot
+    mul-t9
+    slice-set-from-slot
+    add-i
+    loop-less
+    loop-again
+    same-length
+    returns)

@@ -1,0 +1,94 @@
+-- What the functions of the search ask and give. A search in progress is a state of the definition; the code has it as a turn and the store.
+use Prim.Native.Nat.{ℕ, suc, _*_, _≤_, _<_}
+use mathlib.Core.Path.{_≡_}
+use mathlib.Core.Bool.{false, true}
+use mathlib.Core.List.{List}
+use lib.IntN.{ℤ, pos}
+use lib.ListN.{length, getD, drop}
+use Rattle.zones.specs.declared.fraction.Fraction.{Fraction}
+use Rattle.zones.specs.declared.pair.Pair.{Pair}
+use Rattle.zones.specs.declared.reduction.Reduced.{Reduced}
+use Rattle.zones.specs.declared.zone.Work.{Work}
+use Rattle.zones.specs.Fractions.{noLimit}
+use Rattle.zones.specs.Ranges.{Ranged, Sized, Fits32, scale, counts, lastCounts}
+use Rattle.search.specs.declared.exploration.Turn.{Turn}
+use Rattle.search.specs.Automata.{clocks, locations}
+use Rattle.search.specs.Instance.{workOf}
+use Rattle.search.specs.Search.{Node, State, Nth}
+use Rattle.search.specs.Slots.{slotLength, withinSlots, Framed}
+use Rattle.search.specs.Store.{storeOf}
+
+abbrev pub ZoneState : Type 0
+ZoneState = State (List Pair) Fraction
+
+abbrev pub ZoneNode : Type 0
+ZoneNode = Node (List Pair)
+
+-- ---- slot j, of the same location as the new one, contains it
+pub record Hits (n : ℕ) (new s : List ℤ) (j : ℕ) : Type 0 where
+  pub same : getD s (j * slotLength n) (pos 0) ≡ getD new 0 (pos 0)
+  pub inside : withinSlots new (drop (j * slotLength n) s) (n * n) ≡ true
+
+-- r is the first of the `count` slots that does, or `count`
+pub record FirstHit (n : ℕ) (new s : List ℤ) (count r : ℕ) : Type 0 where
+  pub most : r ≤ count
+  pub before : (j : ℕ) → j < r → Hits n new s j → ⊥
+  pub found : r < count → Hits n new s r
+
+-- ---- what every kept node has, so that no number of a step overflows
+pub record SoundNode (b : List ℕ) (k : ZoneNode) : Type 0 where
+  pub location : k .at < locations b
+  pub ranged : Ranged scale counts (suc (clocks b)) (workOf (k .zone) noLimit)
+  pub framed : Framed (suc (clocks b)) (k .zone)
+
+pub record SoundState (b : List ℕ) (slots : ℕ) (q : ZoneState) : Type 0 where
+  pub nodes : (j : ℕ) (k : ZoneNode) → Nth (q .kept) j k → SoundNode b k
+  pub most : length (q .kept) ≤ slots
+  pub fraction : Fits32 (q .frac)
+
+-- what has entered a location
+pub record SoundResult (b : List ℕ) (r : Reduced) : Type 0 where
+  pub fraction : Fits32 (r .work .fraction)
+  pub sized : r .empty ≡ false → Sized lastCounts (suc (clocks b)) (r .work)
+  pub framed : r .empty ≡ false → Framed (suc (clocks b)) (r .work .zone)
+
+-- ---- the store s has the kept zones of q, and past them what s₀ had; `count` is their number
+pub record Stored (n : ℕ) (s₀ : List ℤ) (q : ZoneState) (s : List ℤ) (count : ℕ) : Type 0 where
+  pub number : count ≡ length (q .kept)
+  pub store : s ≡ storeOf n (q .kept) s₀
+
+-- and the turn has the rest
+pub record Shown (n : ℕ) (s₀ : List ℤ) (q : ZoneState) (s : List ℤ) (t : Turn) : Type 0 where
+  pub stored : Stored n s₀ q s (t .count)
+  pub fraction : t .fraction ≡ q .frac
+  pub code : t .code ≡ q .code
+
+-- what an operation of the search gives from a state, from the store s and `count` kept zones to s′ and r: it shows what the definition f comes to, of every sound state that the store shows
+pub record Gives (b : List ℕ) (slots : ℕ) (s : List ℤ) (count : ℕ) (f : ZoneState → ZoneState) (s′ : List ℤ) (r : Turn) : Type 0 where
+  pub shows : (s₀ : List ℤ) (q : ZoneState) → Stored (suc (clocks b)) s₀ q s count → SoundState b slots q → Shown (suc (clocks b)) s₀ (f q) s′ r
+
+-- a search in progress, with room for `slots` slots in the store that was lent
+pub record InProgress (b : List ℕ) (slots : ℕ) (s : List ℤ) (count : ℕ) : Type 0 where
+  pub base : List ℤ
+  pub state : ZoneState
+  pub stored : Stored (suc (clocks b)) base state s count
+  pub sound : SoundState b slots state
+  pub room : slots * slotLength (suc (clocks b)) ≤ length base
+
+-- a search that goes on, at the turn t
+pub record Going (b : List ℕ) (slots : ℕ) (s : List ℤ) (t : Turn) : Type 0 where
+  pub base : List ℤ
+  pub state : ZoneState
+  pub shown : Shown (suc (clocks b)) base state s t
+  pub sound : SoundState b slots state
+  pub going : state .code ≡ 0
+  pub room : slots * slotLength (suc (clocks b)) ≤ length base
+
+-- what a part of the search gives from the store s and the turn t to s′ and r, of every sound state that they show and that goes on
+pub record Continues (b : List ℕ) (slots : ℕ) (s : List ℤ) (t : Turn) (f : ZoneState → ZoneState) (s′ : List ℤ) (r : Turn) : Type 0 where
+  pub shows : (s₀ : List ℤ) (q : ZoneState) → Shown (suc (clocks b)) s₀ q s t → SoundState b slots q → q .code ≡ 0 → Shown (suc (clocks b)) s₀ (f q) s′ r
+
+-- the zone of a node that is taken
+pub record SoundZone (b : List ℕ) (z : List Pair) : Type 0 where
+  pub ranged : Ranged scale counts (suc (clocks b)) (workOf z noLimit)
+  pub framed : Framed (suc (clocks b)) z

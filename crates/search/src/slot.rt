@@ -1,0 +1,121 @@
+use zones::pair::Pair;
+ghost use mathlib.Core.Path.{_≡_};
+ghost use mathlib.Core.List.{_++_};
+ghost use Prim.Native.Nat.{ℕ, _+_, _-_, _*_, _≤_, _<_};
+ghost use lib.ListN.{length, getD, take, drop, set, replicate};
+ghost use lib.IntN.{pos};
+ghost use lib.Signed.{_≤ℤ_};
+ghost use Rattle.zones.specs.Ranges.{AllBounded, Bounded, scale, lastCounts};
+ghost use Rattle.search.specs.Slots.{slotLength, slotOf, slotPair, zoneOf, withinSlots};
+
+// The number of numbers of a slot, for a zone of `size` indices.
+pub fn slot_length(size: usize) -> usize
+    requires { ⌜ size ≤ 9 ⌝ }
+    ensures { λ r. ⌜ r ≡ slotLength size ⌝ }
+{
+    1 + 2 * (size * size)
+}
+
+// Whether each of the new slot's pairs is the smaller or equal beside the old one's. The search
+// spends its time here: it stops at the first pair that is not.
+pub fn is_within(new: &[i32], old: &[i32], pairs: usize) -> bool
+    requires { ⌜ (1 + 2 * pairs ≤ length (now new)) × (1 + 2 * pairs ≤ length (now old)) × (pairs ≤ 81) ⌝ }
+    ensures { λ r. ⌜ r ≡ withinSlots (now (new .entry)) (now (old .entry)) pairs ⌝ }
+{
+    let mut t = 0;
+    while t < pairs {
+        let m = 1 + 2 * t;
+        let p = 2 + 2 * t;
+        if old[m] < new[m] {
+            return false;
+        }
+        if old[m] == new[m] {
+            if old[p] < new[p] {
+                return false;
+            }
+        }
+        t += 1;
+    }
+    true
+}
+
+// The slot of a zone, and zeros after it.
+pub fn encode(location: usize, z: [Pair; 81], size: usize) -> [i32; 163]
+    requires { ⌜ (size ≤ 9) × (location < 256) ⌝ }
+    requires { ⌜ AllBounded scale lastCounts size z ⌝ }
+    ensures { λ r. ⌜ r ≡ slotOf size location z ++ replicate (162 - 2 * (size * size)) (pos 0) ⌝ }
+{
+    let mut slot = [0; 163];
+    slot[0] = location as i32;
+    let last = size * 9;
+    let mut t = 0;
+    let mut at = 0;
+    while at < last {
+        if at % 9 < size {
+            put_pair(&mut slot, t, z[at]);
+            t += 1;
+        }
+        at += 1;
+    }
+    slot
+}
+
+// Pair t of a slot becomes q.
+fn put_pair(slot: &mut [i32; 163], t: usize, q: Pair)
+    requires { ⌜ (t < 81) × Bounded scale lastCounts q ⌝ }
+    ensures { λ _. ⌜ now (slot .exit) ≡ set (set (now (slot .entry)) (1 + 2 * t) (q .m)) (2 + 2 * t) (pos (q .p)) ⌝ }
+{
+    slot[1 + 2 * t] = q.m as i32;
+    slot[2 + 2 * t] = q.p as i32;
+}
+
+// The zone of a slot, (0, 0) outside its rows and columns.
+pub fn decode(slot: &[i32], size: usize) -> [Pair; 81]
+    requires { ⌜ (size ≤ 9) × (slotLength size ≤ length (now slot)) ⌝ }
+    requires { ⌜ ((t : ℕ) → t < size * size → pos 0 ≤ℤ getD (now slot) (2 + 2 * t) (pos 0)) ⌝ }
+    ensures { λ r. ⌜ r ≡ zoneOf size (now (slot .entry)) ⌝ }
+{
+    let mut z = [Pair { m: 0, p: 0 }; 81];
+    let last = size * 9;
+    let mut t = 0;
+    let mut at = 0;
+    while at < last {
+        if at % 9 < size {
+            z[at] = get_pair(slot, t);
+            t += 1;
+        }
+        at += 1;
+    }
+    z
+}
+
+// Pair t of a slot.
+fn get_pair(slot: &[i32], t: usize) -> Pair
+    requires { ⌜ (2 + 2 * t < length (now slot)) × (pos 0 ≤ℤ getD (now slot) (2 + 2 * t) (pos 0)) ⌝ }
+    ensures { λ r. ⌜ r ≡ slotPair (now (slot .entry)) t ⌝ }
+{
+    Pair {
+        m: slot[1 + 2 * t] as i64,
+        p: slot[2 + 2 * t] as u64,
+    }
+}
+
+// The first numbers of a slot become those given.
+pub fn copy(slot: &mut [i32], numbers: &[i32], amount: usize)
+    requires { ⌜ (amount ≤ length (now slot)) × (amount ≤ length (now numbers)) ⌝ }
+    ensures { λ _. ⌜ now (slot .exit) ≡ take amount (now (numbers .entry)) ++ drop amount (now (slot .entry)) ⌝ }
+{
+    let mut i = 0;
+    while i < amount {
+        slot[i] = numbers[i];
+        i += 1;
+    }
+}
+
+// The slot at `at` of the store becomes the numbers given: it is lent to the copy as a part.
+pub fn keep(store: &mut [i32], at: usize, numbers: &[i32], amount: usize)
+    requires { ⌜ (at + amount ≤ length (now store)) × (amount ≤ length (now numbers)) ⌝ }
+    ensures { λ _. ⌜ now (store .exit) ≡ take at (now (store .entry)) ++ (take amount (now (numbers .entry)) ++ drop (at + amount) (now (store .entry))) ⌝ }
+{
+    copy(&mut store[at..], numbers, amount);
+}
