@@ -1,8 +1,8 @@
 // The reader of automata and the search for their verdicts.
-pub mod automaton;
-pub mod exploration;
-pub mod slot;
-pub mod successor;
+mod automaton;
+mod exploration;
+mod slot;
+mod successor;
 pub mod verdict;
 
 use exploration::Turn;
@@ -15,6 +15,7 @@ ghost use mathlib.Core.Path.{_≡_};
 ghost use Prim.Native.Nat.{_≤_};
 ghost use lib.ListN.{length};
 ghost use Rattle.zones.specs.Fractions.{lowestTerms};
+ghost use Rattle.search.specs.Automata.{refusalOf};
 ghost use Rattle.search.specs.Demands.{Robust, KeptExact};
 ghost use Rattle.search.specs.Store.{mostSlots};
 ghost use Rattle.search.specs.Verdicts.{holdingOf, answerOf, searchAnswer, searchStore};
@@ -46,6 +47,13 @@ fn answer(t: Turn) -> Answer
         return Answer::Found(Verdict::Reached, zones);
     }
     Answer::Refused(code)
+}
+
+// The number by which an automaton is turned down at reading, 0 for none.
+pub fn refusal(automaton: &[u8]) -> u32
+    ensures { λ r. ⌜ r ≡ refusalOf (now (automaton .entry)) ⌝ }
+{
+    automaton::refusal(automaton)
 }
 
 // The verdict of an automaton, with the zones kept in the lent store: the answer and the store of document 01's search.
