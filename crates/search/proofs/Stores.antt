@@ -14,6 +14,7 @@ use mir.Syntax.{w32}
 use mir.Val.{SFits, ofZ, toZ}
 use native.Mathlib.Omega.{arith}
 use native.Mathlib.Decide.{decLt}
+use lib.Ieee.Nearest.{div-mono}
 use native.Mathlib.Nat.{not-suc-le-zero, mul-le-mul-right, le-trans, le-of-lt, div-mul-le-self}
 use Rattle.zones.specs.declared.pair.Pair.{Pair}
 use Rattle.zones.specs.Containment.{within}
@@ -188,6 +189,19 @@ capacity-small n amount = go (ltb mostSlots (amount / slotLength n)) refl
     go : (t : Bool) → ltb mostSlots (amount / slotLength n) ≡ t → cond t mostSlots (amount / slotLength n) ≤ mostSlots
     go true e = omega arith
     go false e = ltb-false mostSlots (amount / slotLength n) e
+
+pub capacity-more : (n amount amount′ : ℕ) → amount ≤ amount′ → capacityOf n amount ≤ capacityOf n amount′
+unfolding capacityOf
+capacity-more n amount amount′ h = go (ltb mostSlots (amount / slotLength n)) refl (ltb mostSlots (amount′ / slotLength n)) refl
+  where
+    more : amount / slotLength n ≤ amount′ / slotLength n
+    more = div-mono amount (slotLength n) amount′ (slotLength n) (omega arith) (omega arith) (mul-le-mul-right (slotLength n) h)
+
+    go : (t : Bool) → ltb mostSlots (amount / slotLength n) ≡ t → (u : Bool) → ltb mostSlots (amount′ / slotLength n) ≡ u → cond t mostSlots (amount / slotLength n) ≤ cond u mostSlots (amount′ / slotLength n)
+    go true e true g = omega arith
+    go true e false g = omega (arith, more, ltb-true mostSlots (amount / slotLength n) e)
+    go false e true g = ltb-false mostSlots (amount / slotLength n) e
+    go false e false g = more
 
 -- a slot that is among the first `count` lies in the store
 pub slot-fits : (L : ℕ) {j count at len : ℕ} → j < count → count * L ≤ len → at ≡ j * L → at + L ≤ len

@@ -70,7 +70,7 @@ module _ (b : List ℕ) (slots : ℕ) where
 
 module _ (b : List ℕ) (a : Accepted b) (slots : ℕ) where
   -- ---- what an expansion keeps
-  step-sound : (q : ZoneState) (j : ℕ) (k : ZoneNode) (i : ℕ) → q .code ≡ 0 → Nth (q .kept) j k → i < edges b → systemOf b .from i ≡ k .at → SoundState b slots q →
+  pub step-sound : (q : ZoneState) (j : ℕ) (k : ZoneNode) (i : ℕ) → q .code ≡ 0 → Nth (q .kept) j k → i < edges b → systemOf b .from i ≡ k .at → SoundState b slots q →
       SoundState b slots (offer (systemOf b) (zonesOf b) slots q (systemOf b .to i) (k .path ++ (i ∷ [])) (zonesOf b .succ i (k .zone) (q .frac)))
   unfolding following
   step-sound q j k i e m hi f o =

@@ -1,4 +1,5 @@
--- Document 01: the card's bytes, the runs that they allow, the search, its verdict and its store.
+-- Document 01: the card's bytes, the runs that they allow, the search, its verdict and its store; then the demands.
+-- Last, what stands between the definitions and the code.
 pub mod Automata
 pub mod Accepted
 pub mod Runs
@@ -9,5 +10,7 @@ pub mod Instance
 pub mod Slots
 pub mod Store
 pub mod Verdicts
-pub mod Exploring
 pub mod Demands
+pub mod Given
+pub mod Cards
+pub mod Exploring
