@@ -1,5 +1,5 @@
 ghost use mathlib.Core.Path.{_≡_};
-ghost use Rattle.zones.specs.Fractions.{noLimit, loweredBy, gcdOf, lowestTerms};
+ghost use Rattle.zones.specs.Fractions.{loweredBy, gcdOf, lowestTerms};
 ghost use Rattle.zones.specs.Ranges.{Fits32};
 
 // The running fraction n/d: the error e/s must stay below it. 1/0 is no limit.
@@ -9,13 +9,6 @@ pub struct Fraction {
 }
 
 impl Fraction {
-    // No limit: where every running fraction starts.
-    pub fn no_limit() -> Fraction
-        ensures { λ r. ⌜ r ≡ noLimit ⌝ }
-    {
-        Fraction { n: 1, d: 0 }
-    }
-
     // The lower of the two; on equality the one that is there.
     pub fn lowered(self, o: Fraction) -> Fraction
         requires { ⌜ Fits32 self × Fits32 o ⌝ }

@@ -1,7 +1,7 @@
 use crate::fraction::Fraction;
 ghost use mathlib.Core.Path.{_≡_};
 ghost use lib.Signed.{_≤ℤ_};
-ghost use Rattle.zones.specs.Pairs.{zeroPair, atMost, atLeast, sumOf, isLess, thresholdOf, smallerOf};
+ghost use Rattle.zones.specs.Pairs.{atMost, atLeast, sumOf, isLess, thresholdOf, smallerOf};
 ghost use Rattle.zones.specs.Ranges.{Small};
 
 // A pair stands for m + p × error.
@@ -17,13 +17,6 @@ pub struct Choice {
 }
 
 impl Pair {
-    // What each entry of the first zone is.
-    pub fn zero() -> Pair
-        ensures { λ r. ⌜ r ≡ zeroPair ⌝ }
-    {
-        Pair { m: 0, p: 0 }
-    }
-
     // An upper limit hi, loosened by the error.
     pub fn at_most(hi: u32) -> Pair
         ensures { λ r. ⌜ r ≡ atMost hi ⌝ }
