@@ -1,0 +1,148 @@
+// Document 01's search in plain Rust, step for step, on a card that is free of 1 to 8.
+use crate::plain::{less, lowered, Fraction, Pair, Work, Zone, NO_LIMIT};
+
+const NO_UPPER: u32 = u32::MAX;
+const COUNTS: u64 = 65_535;
+
+#[derive(Clone, Copy, PartialEq)]
+enum Stop {
+    No,
+    Reached,
+    Refused(u64),
+}
+
+pub struct Search<'a> {
+    card: &'a [u8],
+    clocks: usize,
+    slots: usize,
+    pub kept: Vec<(usize, Zone)>,
+    fraction: Fraction,
+    stop: Stop,
+}
+
+fn gcd(a: u64, b: u64) -> u64 {
+    if b == 0 { a } else { gcd(b, a % b) }
+}
+
+// Whether each of a's pairs is the smaller or equal beside b's.
+fn is_within(a: &Zone, b: &Zone, size: usize) -> bool {
+    (0..size).all(|i| (0..size).all(|j| !less(b[i * 9 + j], a[i * 9 + j])))
+}
+
+impl<'a> Search<'a> {
+    // The search of a card, ended.
+    pub fn of(card: &'a [u8], slots: usize) -> Search<'a> {
+        let clocks = card[5] as usize;
+        let mut s = Search { card, clocks, slots, kept: vec![], fraction: NO_LIMIT, stop: Stop::No };
+        let start = card[7] as usize;
+        s.enter(start, [Pair { m: 0, p: 0 }; 81]);
+        let mut next = 0;
+        while next < s.kept.len() && s.stop == Stop::No {
+            s.expand(next);
+            next += 1;
+        }
+        s
+    }
+
+    // The refusal, or 0 and the verdict's kind, n, d and number of zones.
+    pub fn reply(&self) -> [u64; 5] {
+        let zones = self.kept.len() as u64;
+        match self.stop {
+            Stop::Refused(number) => [number, 0, 0, 0, 0],
+            Stop::Reached => [0, 0, 0, 0, zones],
+            Stop::No => {
+                let Fraction { n, d } = self.fraction;
+                [0, 1, n / gcd(n, d), d / gcd(n, d), zones]
+            }
+        }
+    }
+
+    fn expand(&mut self, taken: usize) {
+        let (location, zone) = self.kept[taken];
+        let edges = u16::from_be_bytes([self.card[9], self.card[10]]) as usize;
+        for i in 0..edges {
+            let at = 11 + 8 * self.clocks * self.card[6] as usize + i * (3 + 8 * self.clocks);
+            if self.card[at] as usize == location {
+                self.follow(at, zone);
+            }
+            if self.stop != Stop::No {
+                return;
+            }
+        }
+    }
+
+    // Along the edge that stands at a place of the card.
+    fn follow(&mut self, at: usize, zone: Zone) {
+        let mut w = Work { zone, fraction: self.fraction };
+        self.meet(&mut w, at + 3);
+        let empty = w.reduce(self.clocks + 1);
+        self.fraction = w.fraction;
+        if !empty {
+            self.enter(self.card[at + 1] as usize, self.reset(&w.zone, self.card[at + 2]));
+        }
+    }
+
+    fn enter(&mut self, location: usize, zone: Zone) {
+        let mut w = Work { zone, fraction: self.fraction };
+        let at = 11 + 8 * self.clocks * location;
+        self.meet(&mut w, at);
+        let mut empty = w.reduce(self.clocks + 1);
+        if !empty {
+            for x in 1..=self.clocks {
+                w.zone[x * 9] = Pair { m: self.number(at + 8 * x - 4) as i64, p: 1 };
+            }
+            empty = w.reduce(self.clocks + 1);
+        }
+        self.fraction = w.fraction;
+        if !empty {
+            self.judge(location, &w.zone);
+        }
+    }
+
+    fn judge(&mut self, location: usize, zone: &Zone) {
+        let size = self.clocks + 1;
+        if location == self.card[8] as usize {
+            self.stop = Stop::Reached;
+            return;
+        }
+        let inside = |k: &&(usize, Zone)| k.0 == location && is_within(zone, &k.1, size);
+        if let Some((_, old)) = self.kept.iter().find(inside) {
+            for at in (0..size * 9).filter(|at| at % 9 < size) {
+                self.fraction = lowered(self.fraction, zone[at], old[at]);
+            }
+        } else if (0..size * 9).any(|at| at % 9 < size && COUNTS < zone[at].p) {
+            self.stop = Stop::Refused(9);
+        } else if self.kept.len() == self.slots {
+            self.stop = Stop::Refused(10);
+        } else {
+            self.kept.push((location, *zone));
+        }
+    }
+
+    // The limits that stand at a place of the card.
+    fn meet(&self, w: &mut Work, at: usize) {
+        for x in 1..=self.clocks {
+            let lo = self.number(at + 8 * x - 8);
+            let hi = self.number(at + 8 * x - 4);
+            if hi != NO_UPPER {
+                w.meet(x * 9, Pair { m: hi as i64, p: 1 });
+            }
+            w.meet(x, Pair { m: -(lo as i64), p: 1 });
+        }
+    }
+
+    fn reset(&self, zone: &Zone, byte: u8) -> Zone {
+        let source = |x: usize| if 0 < x && byte >> (x - 1) & 1 == 1 { 0 } else { x };
+        let mut z = *zone;
+        for i in 0..=self.clocks {
+            for j in 0..=self.clocks {
+                z[i * 9 + j] = zone[source(i) * 9 + source(j)];
+            }
+        }
+        z
+    }
+
+    fn number(&self, at: usize) -> u32 {
+        u32::from_be_bytes(self.card[at..at + 4].try_into().unwrap())
+    }
+}

@@ -1,0 +1,23 @@
+-- Assumes nothing.
+use borrow.Author.Needs.{needs}
+use mathlib.Core.Path.{refl}
+use Rattle.search_bench.specs.Reply.{verdictNumbers}
+use Rattle.search_bench.proofs.holds_numbers.Statement.{statement}
+use Rattle.search_bench.proofs.holds_numbers.Tie as tie
+
+enum-told : tie.Need-enum-told
+enum-told c = search needs
+
+enum-known-h : tie.Need-enum-known-h
+enum-known-h c = search needs
+
+returns : tie.Need-returns
+unfolding verdictNumbers
+returns c = rw (c .enum-told .given .1) refl
+
+returns-2 : tie.Need-returns-2
+unfolding verdictNumbers
+returns-2 c = rw (c .before .h .given .1) refl
+
+pub holds-numbers-spec : {M : Type 1} → statement M
+holds-numbers-spec = tie.close (tie.spec enum-told enum-known-h returns returns-2)

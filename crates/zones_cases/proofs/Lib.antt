@@ -1,0 +1,2 @@
+-- What is loaded can be worked on.
+pub mod Readying

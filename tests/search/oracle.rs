@@ -1,0 +1,417 @@
+//! A second search, written from document 01 alone, to hold the program against. It shares nothing
+//! with the verified library: cards are copied out, zones grow on the heap, numbers are 64 bits wide.
+
+use std::fmt;
+
+const ABSENT: u32 = u32::MAX;
+const SCALE: u32 = 1_000_000;
+const MOST_ERRORS: i64 = 65_535;
+const MOST_SLOTS: usize = 2_147_483_647;
+
+#[derive(Clone, Copy)]
+struct Limit {
+    lo: u32,
+    hi: u32,
+}
+
+struct Edge {
+    from: usize,
+    to: usize,
+    reset: u8,
+    guard: Vec<Limit>,
+}
+
+struct Card {
+    clocks: usize,
+    start: usize,
+    target: usize,
+    invariants: Vec<Vec<Limit>>,
+    edges: Vec<Edge>,
+}
+
+struct Header {
+    clocks: usize,
+    locations: usize,
+    edges: usize,
+}
+
+fn number(bytes: &[u8]) -> u32 {
+    bytes.iter().fold(0, |n, &b| n << 8 | u32::from(b))
+}
+
+fn limits(bytes: &[u8]) -> Vec<Limit> {
+    bytes
+        .chunks(8)
+        .map(|c| Limit {
+            lo: number(&c[..4]),
+            hi: number(&c[4..]),
+        })
+        .collect()
+}
+
+/// Refusals 1 to 5: past them every field stands where the formula says.
+fn header(bytes: &[u8]) -> Result<Header, u8> {
+    if bytes.len() < 11 {
+        return Err(1);
+    }
+    if number(&bytes[..4]) as usize != bytes.len() {
+        return Err(2);
+    }
+    if bytes[4] != 1 {
+        return Err(3);
+    }
+    let (clocks, locations) = (usize::from(bytes[5]), usize::from(bytes[6]));
+    let edges = number(&bytes[9..11]) as usize;
+    if !(1..=8).contains(&clocks) || !(1..=64).contains(&locations) || edges > 256 {
+        return Err(4);
+    }
+    if bytes.len() != 11 + 8 * clocks * locations + edges * (3 + 8 * clocks) {
+        return Err(5);
+    }
+    Ok(Header {
+        clocks,
+        locations,
+        edges,
+    })
+}
+
+fn edge(bytes: &[u8]) -> Edge {
+    Edge {
+        from: usize::from(bytes[0]),
+        to: usize::from(bytes[1]),
+        reset: bytes[2],
+        guard: limits(&bytes[3..]),
+    }
+}
+
+impl Card {
+    fn read(bytes: &[u8]) -> Result<Card, u8> {
+        let h = header(bytes)?;
+        let (row, first_edge) = (8 * h.clocks, 11 + 8 * h.clocks * h.locations);
+        let card = Card {
+            clocks: h.clocks,
+            start: usize::from(bytes[7]),
+            target: usize::from(bytes[8]),
+            invariants: bytes[11..first_edge].chunks(row).map(limits).collect(),
+            edges: bytes[first_edge..].chunks(3 + row).map(edge).collect(),
+        };
+        assert_eq!(card.edges.len(), h.edges);
+        card.lawful().map(|()| card)
+    }
+
+    /// Refusals 6 to 8.
+    fn lawful(&self) -> Result<(), u8> {
+        let there = |place: usize| place < self.invariants.len();
+        let ends = self.edges.iter().all(|e| there(e.from) && there(e.to));
+        if !there(self.start) || !there(self.target) || !ends {
+            return Err(6);
+        }
+        if self
+            .edges
+            .iter()
+            .any(|e| usize::from(e.reset) >> self.clocks != 0)
+        {
+            return Err(7);
+        }
+        let bounded = |l: &Limit| l.lo <= SCALE && l.hi <= SCALE;
+        let guards = |l: &Limit| l.lo <= SCALE && (l.hi <= SCALE || l.hi == ABSENT);
+        let places = self.invariants.iter().flatten().all(bounded);
+        if !places || !self.edges.iter().flat_map(|e| &e.guard).all(guards) {
+            return Err(8);
+        }
+        Ok(())
+    }
+}
+
+/// m + p × error.
+#[derive(Clone, Copy)]
+struct Pair {
+    m: i64,
+    p: i64,
+}
+
+impl Pair {
+    fn at_most(self, other: Pair) -> bool {
+        self.m < other.m || self.m == other.m && self.p <= other.p
+    }
+
+    fn plus(self, other: Pair) -> Pair {
+        Pair {
+            m: self.m + other.m,
+            p: self.p + other.p,
+        }
+    }
+}
+
+/// The running fraction; none is 1/0, no limit.
+#[derive(Clone, Copy)]
+struct Fraction(Option<(i64, i64)>);
+
+impl Fraction {
+    /// What a comparison that chose one pair over another does to the fraction.
+    fn compared(&mut self, chosen: Pair, other: Pair) {
+        if chosen.p <= other.p {
+            return;
+        }
+        let (n, d) = (other.m - chosen.m, chosen.p - other.p);
+        let lower = match self.0 {
+            None => true,
+            Some((n0, d0)) => i128::from(n) * i128::from(d0) < i128::from(n0) * i128::from(d),
+        };
+        if lower {
+            self.0 = Some((n, d));
+        }
+    }
+}
+
+fn gcd(a: i64, b: i64) -> i64 {
+    if b == 0 {
+        a
+    } else {
+        gcd(b, a % b)
+    }
+}
+
+#[derive(Clone)]
+struct Zone {
+    side: usize,
+    pairs: Vec<Pair>,
+}
+
+impl Zone {
+    fn first(clocks: usize) -> Zone {
+        let side = clocks + 1;
+        Zone {
+            side,
+            pairs: vec![Pair { m: 0, p: 0 }; side * side],
+        }
+    }
+
+    fn at(&self, row: usize, column: usize) -> Pair {
+        self.pairs[row * self.side + column]
+    }
+
+    fn put(&mut self, row: usize, column: usize, pair: Pair) {
+        self.pairs[row * self.side + column] = pair;
+    }
+
+    fn lower(&mut self, row: usize, column: usize, by: Pair, fraction: &mut Fraction) {
+        let there = self.at(row, column);
+        if there.at_most(by) {
+            fraction.compared(there, by);
+        } else {
+            fraction.compared(by, there);
+            self.put(row, column, by);
+        }
+    }
+
+    fn meet(&mut self, limits: &[Limit], fraction: &mut Fraction) {
+        for (i, l) in limits.iter().enumerate() {
+            if l.hi != ABSENT {
+                self.lower(
+                    i + 1,
+                    0,
+                    Pair {
+                        m: i64::from(l.hi),
+                        p: 1,
+                    },
+                    fraction,
+                );
+            }
+            self.lower(
+                0,
+                i + 1,
+                Pair {
+                    m: -i64::from(l.lo),
+                    p: 1,
+                },
+                fraction,
+            );
+        }
+    }
+
+    /// None is an empty zone.
+    fn reduce(mut self, fraction: &mut Fraction) -> Option<Zone> {
+        for middle in 0..self.side {
+            for cell in 0..self.pairs.len() {
+                let (row, column) = (cell / self.side, cell % self.side);
+                let by = self.at(row, middle).plus(self.at(middle, column));
+                self.lower(row, column, by, fraction);
+            }
+            if (0..self.side).any(|i| self.at(i, i).m < 0) {
+                return None;
+            }
+        }
+        Some(self)
+    }
+
+    fn reset(&self, clocks: u8) -> Zone {
+        let source = |i: usize| {
+            if i > 0 && clocks >> (i - 1) & 1 == 1 {
+                0
+            } else {
+                i
+            }
+        };
+        let mut after = self.clone();
+        for row in 0..self.side {
+            for column in 0..self.side {
+                after.put(row, column, self.at(source(row), source(column)));
+            }
+        }
+        after
+    }
+
+    fn enter(mut self, invariant: &[Limit], fraction: &mut Fraction) -> Option<Zone> {
+        self.meet(invariant, fraction);
+        let mut zone = self.reduce(fraction)?;
+        for (i, l) in invariant.iter().enumerate() {
+            zone.put(
+                i + 1,
+                0,
+                Pair {
+                    m: i64::from(l.hi),
+                    p: 1,
+                },
+            );
+        }
+        zone.reduce(fraction)
+    }
+
+    fn within(&self, other: &Zone) -> bool {
+        self.pairs
+            .iter()
+            .zip(&other.pairs)
+            .all(|(a, b)| a.at_most(*b))
+    }
+}
+
+#[derive(Clone, Copy, PartialEq, Eq, Debug)]
+pub enum Outcome {
+    Reached { zones: usize },
+    Holds { n: i64, d: i64, zones: usize },
+    HoldsAny { zones: usize },
+    Refused(u8),
+}
+
+impl fmt::Display for Outcome {
+    fn fmt(&self, f: &mut fmt::Formatter) -> fmt::Result {
+        match self {
+            Outcome::Reached { zones } => write!(f, "reached zones {}", zones),
+            Outcome::Holds { n, d, zones } => write!(f, "holds {}/{} zones {}", n, d, zones),
+            Outcome::HoldsAny { zones } => write!(f, "holds any zones {}", zones),
+            Outcome::Refused(number) => write!(f, "refused {}", number),
+        }
+    }
+}
+
+/// Why a search stops before nothing is left to take.
+enum Stop {
+    Reached,
+    Refused(u8),
+}
+
+struct Search<'a> {
+    card: &'a Card,
+    store: &'a mut [i32],
+    kept: Vec<(usize, Zone)>,
+    /// The numbers of the kept zones by location, oldest first.
+    at_place: Vec<Vec<usize>>,
+    fraction: Fraction,
+}
+
+impl Search<'_> {
+    fn run(&mut self) -> Result<(), Stop> {
+        let card = self.card;
+        self.arrive(Zone::first(card.clocks), card.start)?;
+        let mut taken = 0;
+        while taken < self.kept.len() {
+            let from = self.kept[taken].0;
+            for edge in card.edges.iter().filter(|e| e.from == from) {
+                self.follow(taken, edge)?;
+            }
+            taken += 1;
+        }
+        Ok(())
+    }
+
+    fn follow(&mut self, taken: usize, edge: &Edge) -> Result<(), Stop> {
+        let mut zone = self.kept[taken].1.clone();
+        zone.meet(&edge.guard, &mut self.fraction);
+        match zone.reduce(&mut self.fraction) {
+            Some(zone) => self.arrive(zone.reset(edge.reset), edge.to),
+            None => Ok(()),
+        }
+    }
+
+    fn arrive(&mut self, zone: Zone, place: usize) -> Result<(), Stop> {
+        match zone.enter(&self.card.invariants[place], &mut self.fraction) {
+            Some(zone) => self.judge(zone, place),
+            None => Ok(()),
+        }
+    }
+
+    fn judge(&mut self, zone: Zone, place: usize) -> Result<(), Stop> {
+        if place == self.card.target {
+            return Err(Stop::Reached);
+        }
+        let kept = &self.kept;
+        if let Some(&old) = self.at_place[place]
+            .iter()
+            .find(|&&k| zone.within(&kept[k].1))
+        {
+            for (a, b) in zone.pairs.iter().zip(&kept[old].1.pairs) {
+                self.fraction.compared(*a, *b);
+            }
+            return Ok(());
+        }
+        if zone.pairs.iter().any(|pair| pair.p > MOST_ERRORS) {
+            return Err(Stop::Refused(9));
+        }
+        self.keep(zone, place)
+    }
+
+    fn keep(&mut self, zone: Zone, place: usize) -> Result<(), Stop> {
+        let width = 1 + 2 * zone.pairs.len();
+        let slot = self.kept.len();
+        if slot >= (self.store.len() / width).min(MOST_SLOTS) {
+            return Err(Stop::Refused(10));
+        }
+        let numbers = zone.pairs.iter().flat_map(|pair| [pair.m, pair.p]);
+        let numbers = std::iter::once(place as i64).chain(numbers);
+        for (cell, n) in self.store[slot * width..].iter_mut().zip(numbers) {
+            *cell = i32::try_from(n).expect("a kept number has 32 bits");
+        }
+        self.at_place[place].push(slot);
+        self.kept.push((place, zone));
+        Ok(())
+    }
+}
+
+/// The program's answer for these bytes, with this store lent.
+pub fn search(bytes: &[u8], store: &mut [i32]) -> Outcome {
+    let card = match Card::read(bytes) {
+        Ok(card) => card,
+        Err(number) => return Outcome::Refused(number),
+    };
+    let at_place = vec![Vec::new(); card.invariants.len()];
+    let mut s = Search {
+        card: &card,
+        store,
+        kept: Vec::new(),
+        at_place,
+        fraction: Fraction(None),
+    };
+    let end = s.run();
+    let zones = s.kept.len();
+    match (end, s.fraction.0) {
+        (Err(Stop::Refused(number)), _) => Outcome::Refused(number),
+        (Err(Stop::Reached), _) => Outcome::Reached { zones },
+        (Ok(()), None) => Outcome::HoldsAny { zones },
+        (Ok(()), Some((n, d))) => Outcome::Holds {
+            n: n / gcd(n, d),
+            d: d / gcd(n, d),
+            zones,
+        },
+    }
+}

@@ -1,0 +1,132 @@
+//! Document 01's cards on the table, built as its words describe them.
+
+use crate::draft::{Draft, Edge, Limit, ABSENT};
+
+fn edge(from: u8, to: u8, reset: u8, guard: &[Limit]) -> Edge {
+    Edge {
+        from,
+        to,
+        reset,
+        guard: guard.to_vec(),
+    }
+}
+
+/// What 01 assumes unless said otherwise, with a guard and a reset byte for the only edge.
+fn usual(guard: Limit, reset: u8) -> Draft {
+    Draft {
+        start: 0,
+        target: 1,
+        invariants: vec![vec![(0, 5)], vec![(0, 9)]],
+        edges: vec![edge(0, 1, reset, &[guard])],
+    }
+}
+
+/// A usual card after one change.
+fn but(mut draft: Draft, change: impl Fn(&mut Draft)) -> Vec<u8> {
+    change(&mut draft);
+    draft.bytes()
+}
+
+/// A card's bytes with one of them changed.
+fn with_byte(mut bytes: Vec<u8>, at: usize, value: u8) -> Vec<u8> {
+    bytes[at] = value;
+    bytes
+}
+
+fn wheel() -> Vec<u8> {
+    let exact = (1, 1);
+    let free = (0, ABSENT);
+    let draft = Draft {
+        start: 0,
+        target: 2,
+        invariants: vec![vec![(0, 1); 2], vec![(0, 1); 2], vec![(0, 2); 2]],
+        edges: vec![
+            edge(0, 1, 1, &[exact, free]),
+            edge(1, 0, 2, &[free, exact]),
+            edge(1, 2, 0, &[(1, ABSENT), free]),
+        ],
+    };
+    draft.bytes()
+}
+
+/// All counts at their upper end: 63 edges lead on from place to place, the others stay at the start.
+fn largest() -> Vec<u8> {
+    let free = [(0, ABSENT); 8];
+    let onward = (0..63).map(|place| edge(place, place + 1, 255, &free));
+    let staying = (63..256).map(|_| edge(0, 0, 255, &free));
+    let draft = Draft {
+        start: 0,
+        target: 63,
+        invariants: vec![vec![(0, 5); 8]; 64],
+        edges: onward.chain(staying).collect(),
+    };
+    draft.bytes()
+}
+
+/// The letters' cards, by the name of their file.
+fn letters() -> Vec<(&'static str, Vec<u8>)> {
+    let free = (0, ABSENT);
+    let a = || usual((7, ABSENT), 0);
+    let late = |d: &mut Draft| {
+        d.edges.clear();
+        d.invariants[0][0].0 = 2;
+    };
+    vec![
+        ("A", a().bytes()),
+        ("B", usual((5, ABSENT), 0).bytes()),
+        ("C", but(usual((5, 3), 0), |d| d.invariants[0][0].1 = 9)),
+        ("D", but(a(), |d| d.edges.clear())),
+        ("E", but(a(), late)),
+        ("E-start-is-target", but(Draft { target: 0, ..a() }, late)),
+        ("F", usual((4, ABSENT), 1).bytes()),
+        ("G", but(usual(free, 1), |d| d.invariants[1][0].0 = 3)),
+        ("H", but(usual(free, 1), |d| d.edges[0].to = 0)),
+        ("J", usual((7, ABSENT), 2).bytes()),
+        ("J-nine-clocks", with_byte(a().bytes(), 5, 9)),
+        ("K", wheel()),
+    ]
+}
+
+/// The cards at and past the ends of what a limit may be.
+fn limits() -> Vec<(&'static str, Vec<u8>)> {
+    const MOST: u32 = 1_000_000;
+    let a = || usual((7, ABSENT), 0);
+    let most = |d: &mut Draft| d.invariants = vec![vec![(0, MOST)]; 2];
+    let invariant_lo = |d: &mut Draft| d.invariants[0][0].0 = MOST + 1;
+    let invariant_hi = |d: &mut Draft| d.invariants[1][0].1 = MOST + 1;
+    let without_hi = |d: &mut Draft| d.invariants[0][0].1 = ABSENT;
+    vec![
+        ("limit-1000000", but(usual((MOST, MOST), 0), most)),
+        ("limit-1000001-invariant-lo", but(a(), invariant_lo)),
+        ("limit-1000001-invariant-hi", but(a(), invariant_hi)),
+        (
+            "limit-1000001-guard-lo",
+            usual((MOST + 1, ABSENT), 0).bytes(),
+        ),
+        ("limit-1000001-guard-hi", usual((7, MOST + 1), 0).bytes()),
+        ("invariant-without-hi", but(a(), without_hi)),
+    ]
+}
+
+/// The cards at and past the ends of what a length or a count may be.
+fn counts() -> Vec<(&'static str, Vec<u8>)> {
+    let a = || usual((7, ABSENT), 0);
+    let many_edges = |d: &mut Draft| d.edges = vec![d.edges[0].clone(); 257];
+    let many_places = |d: &mut Draft| d.invariants = vec![vec![(0, 5)]; 65];
+    let alone = |d: &mut Draft| {
+        d.target = 0;
+        d.invariants.truncate(1);
+        d.edges.clear();
+    };
+    vec![
+        ("ten-bytes", a().bytes()[..10].to_vec()),
+        ("edges-257", but(a(), many_edges)),
+        ("locations-65", but(a(), many_places)),
+        ("smallest", but(a(), alone)),
+        ("largest", largest()),
+    ]
+}
+
+pub fn cards() -> Vec<(&'static str, Vec<u8>)> {
+    [letters(), limits(), counts()].concat()
+}
