@@ -21,7 +21,11 @@ pub struct Search<'a> {
 }
 
 fn gcd(a: u64, b: u64) -> u64 {
-    if b == 0 { a } else { gcd(b, a % b) }
+    if b == 0 {
+        a
+    } else {
+        gcd(b, a % b)
+    }
 }
 
 // Whether each of a's pairs is the smaller or equal beside b's.
@@ -33,7 +37,8 @@ impl<'a> Search<'a> {
     // The search of a card, ended.
     pub fn of(card: &'a [u8], slots: usize) -> Search<'a> {
         let clocks = card[5] as usize;
-        let mut s = Search { card, clocks, slots, kept: vec![], fraction: NO_LIMIT, stop: Stop::No };
+        let mut s =
+            Search { card, clocks, slots, kept: vec![], fraction: NO_LIMIT, stop: Stop::No };
         let start = card[7] as usize;
         s.enter(start, [Pair { m: 0, p: 0 }; 81]);
         let mut next = 0;

@@ -11,7 +11,13 @@ use std::time::Instant;
 
 extern "C" {
     // A slice goes as where it begins and its length.
-    fn search_bench_search(card: *const u8, length: usize, store: *mut i32, numbers: usize, reply: *mut [u64; 5]);
+    fn search_bench_search(
+        card: *const u8,
+        length: usize,
+        store: *mut i32,
+        numbers: usize,
+        reply: *mut [u64; 5],
+    );
 }
 
 // The program's store.
@@ -31,7 +37,7 @@ struct Case {
 
 fn cases() -> Vec<Case> {
     let three = heavy(Heavy { clocks: 3, top: 7, width: 21, resets: 40, seed: 0 });
-    let eight = heavy(Heavy { clocks: 8, top: 4, width: 8, resets: 40, seed: 7 });
+    let eight = heavy(Heavy { clocks: 8, top: 2, width: 60, resets: 92, seed: 14 });
     vec![
         Case { name: "3 clocks", card: three, store: STORE, repetitions: 15 },
         Case { name: "8 clocks", card: eight, store: STORE, repetitions: 15 },
@@ -42,7 +48,9 @@ fn cases() -> Vec<Case> {
 fn proved(card: &[u8], store: &mut [i32]) -> [u64; 5] {
     let mut reply = [0; 5];
     // The exported function asks nothing of its arguments but that they are there.
-    unsafe { search_bench_search(card.as_ptr(), card.len(), store.as_mut_ptr(), store.len(), &mut reply) }
+    unsafe {
+        search_bench_search(card.as_ptr(), card.len(), store.as_mut_ptr(), store.len(), &mut reply)
+    }
     reply
 }
 
