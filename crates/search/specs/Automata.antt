@@ -36,11 +36,11 @@ target s = getD s 8 0
 abbrev pub edges : List ℕ → ℕ
 edges s = be16At s 9
 
--- "8n each, per location": where the limits of location l stand
+-- "8n each" for each location: where the limits of location l stand
 unfoldable pub invariantAt : List ℕ → ℕ → ℕ
 invariantAt s l = 11 + 8 * clocks s * l
 
--- "3 + 8n each, per edge": where edge i stands
+-- "3 + 8n each" for each edge: where edge i stands
 unfoldable pub edgeAt : List ℕ → ℕ → ℕ
 edgeAt s i = 11 + 8 * clocks s * locations s + i * (3 + 8 * clocks s)
 

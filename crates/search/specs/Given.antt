@@ -1,4 +1,4 @@
--- The numbers of an answer that is given out: "d fits in four bytes", "n is at least 1", lowest terms, a count of four bytes.
+-- The numbers of an answer that is given out: n is at least 1, n/d is in lowest terms, and a record's "4 bytes n, 4 bytes d, 4 bytes zone count" suffice.
 use Prim.Native.Nat.{ℕ, _≤_, _<_}
 use mathlib.Core.Path.{_≡_}
 use Rattle.zones.specs.declared.fraction.Fraction.{Fraction}

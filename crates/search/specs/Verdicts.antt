@@ -20,7 +20,7 @@ use Rattle.search.specs.Search.{State}
 use Rattle.search.specs.Store.{storeOf, capacityOf}
 
 -- ---- document 01's numbers and values
--- "any error counting as 1/0"
+-- holding at any error counts as 1/0, as demand 3 has it
 abbrev pub fractionOf : Holding → Fraction
 fractionOf AnyError = noLimit
 fractionOf (Below f) = f
