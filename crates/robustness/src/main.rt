@@ -44,8 +44,8 @@ fn say(a: Answer) {
 }
 
 fn main() {
-    let mut card = [0u8; 21260];
-    let n = io::read_full(0, &mut card);
+    let mut bytes = [0u8; 21260];
+    let n = io::read_full(0, &mut bytes);
     let mut store = [0i32; 16384];
-    say(search(&card[..n], &mut store));
+    say(search(&bytes[..n], &mut store));
 }

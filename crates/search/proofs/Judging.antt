@@ -23,7 +23,7 @@ use Rattle.search.specs.declared.exploration.Turn.{Turn}
 use Rattle.search.specs.Accepted.{Accepted}
 use Rattle.search.specs.Automata.{clocks, locations, target}
 use Rattle.search.specs.Exploring.{ZoneState, ZoneNode, FirstHit, SoundNode, SoundState, Stored, Shown, Gives, InProgress}
-use Rattle.search.specs.Instance.{workOf, resultOf, piled, zonesOf}
+use Rattle.search.specs.Instance.{workOf, resultOf, overcounted, zonesOf}
 use Rattle.search.specs.Search.{Node, State, empty, zone, Nth, found, none, find, offer}
 use Rattle.search.specs.Semantics.{systemOf}
 use Rattle.search.specs.Slots.{slotLength, slotOf, zoneOf, Framed}
@@ -137,12 +137,12 @@ module _ (b : List ℕ) (a : Accepted b) where
         comes : (q′ : ZoneState) → Judged (systemOf b) (zonesOf b) slots q l p (zone (w .zone) (w .fraction)) q′ → offered ≡ q′
         comes q′ = computes (systemOf b) (zonesOf b) slots q l p (zone (w .zone) (w .fraction)) q′
 
-        big-yes : counts < largestCount (suc (clocks b)) (w .zone) → piled b (w .zone) ≡ true
-        unfolding piled
+        big-yes : counts < largestCount (suc (clocks b)) (w .zone) → overcounted b (w .zone) ≡ true
+        unfolding overcounted
         big-yes g = lt-ltb counts (largestCount (suc (clocks b)) (w .zone)) g
 
-        big-no : largestCount (suc (clocks b)) (w .zone) ≤ counts → piled b (w .zone) ≡ false
-        unfolding piled
+        big-no : largestCount (suc (clocks b)) (w .zone) ≤ counts → overcounted b (w .zone) ≡ false
+        unfolding overcounted
         big-no g = le-ltb counts (largestCount (suc (clocks b)) (w .zone)) g
 
         pub judged-big : counts < largestCount (suc (clocks b)) (w .zone) → Shown (suc (clocks b)) s₀ offered s (record { count = count; fraction = w .fraction; code = 9 })

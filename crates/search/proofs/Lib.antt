@@ -24,5 +24,5 @@ pub mod Taking
 pub mod Beginning
 pub mod Demands
 pub mod Answers
-pub mod Cards
+pub mod Examples
 pub mod Given

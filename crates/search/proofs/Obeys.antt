@@ -27,7 +27,7 @@ use Rattle.zones.proofs.Fractional.{enter-before, follow-before, enter-proper, 
 use Rattle.zones.proofs.Thresholds.{proper-below}
 use Rattle.search.specs.Accepted.{Accepted}
 use Rattle.search.specs.Automata.{clocks, locations, edges, start, to, invariantOf, guardOf, resetsOf}
-use Rattle.search.specs.Instance.{workOf, resultOf, entering, following, piled, zonesOf, Inside, meaningOf}
+use Rattle.search.specs.Instance.{workOf, resultOf, entering, following, overcounted, zonesOf, Inside, meaningOf}
 use Rattle.search.specs.Meaning.{Falls, Stays, Clocks, OneSided, ExactLaws, FromStart, FromZone, Laws}
 use Rattle.search.specs.Search.{Result, empty, zone, fracOf}
 use Rattle.search.specs.Semantics.{Valuation, ticks, later, zeroed, systemOf}

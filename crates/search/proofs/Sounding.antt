@@ -25,7 +25,7 @@ use Rattle.zones.proofs.Moving.{then-empty, then-live}
 use Rattle.search.specs.Accepted.{Accepted}
 use Rattle.search.specs.Automata.{clocks, locations, edges, start, target, to, invariantOf, guardOf, resetsOf}
 use Rattle.search.specs.Exploring.{ZoneState, ZoneNode, SoundNode, SoundState, SoundResult}
-use Rattle.search.specs.Instance.{workOf, resultOf, piled, zonesOf}
+use Rattle.search.specs.Instance.{workOf, resultOf, overcounted, zonesOf}
 use Rattle.search.specs.Search.{Result, empty, zone, fracOf, Node, State, Nth, found, find, offer}
 use Rattle.search.specs.Semantics.{systemOf}
 use Rattle.search.specs.Slots.{Framed}
@@ -122,8 +122,8 @@ module _ (b : List ℕ) (a : Accepted b) where
 
   -- ---- a judged state
   -- a zone that may be kept has no error count above 65,535
-  kept-sound : (l : ℕ) → l < locations b → (z : List Pair) (f : Fraction) (p : List ℕ) → Sized lastCounts (suc (clocks b)) (workOf z f) → Framed (suc (clocks b)) z → piled b z ≡ false → SoundNode b (record { at = l; zone = z; path = p })
-  unfolding piled
+  kept-sound : (l : ℕ) → l < locations b → (z : List Pair) (f : Fraction) (p : List ℕ) → Sized lastCounts (suc (clocks b)) (workOf z f) → Framed (suc (clocks b)) z → overcounted b z ≡ false → SoundNode b (record { at = l; zone = z; path = p })
+  unfolding overcounted
   kept-sound l hl z f p r g e = record {
     location = hl;
     ranged = record {

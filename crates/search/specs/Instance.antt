@@ -37,8 +37,8 @@ unfoldable pub following : List ℕ → ℕ → List Pair → Fraction → Resul
 following b i z f = resultOf (followOf (clocks b) (guardOf b i) (resetsOf b i) (invariantOf b (to b i)) (workOf z f))
 
 -- "a zone to be kept has an error count above 65,535"
-unfoldable pub piled : List ℕ → List Pair → Bool
-piled b z = ltb counts (largestCount (suc (clocks b)) z)
+unfoldable pub overcounted : List ℕ → List Pair → Bool
+overcounted b z = ltb counts (largestCount (suc (clocks b)) z)
 
 abbrev pub zonesOf : List ℕ → Zones
 zonesOf b =
@@ -50,7 +50,7 @@ zonesOf b =
       succ = following b;
       within = within (suc (clocks b));
       lowered = loweredWithin (suc (clocks b));
-      big = piled b;
+      big = overcounted b;
     }
 
 -- the search of the automaton b in a store of `capacity` slots

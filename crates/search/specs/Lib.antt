@@ -12,5 +12,5 @@ pub mod Store
 pub mod Verdicts
 pub mod Demands
 pub mod Given
-pub mod Cards
+pub mod Examples
 pub mod Exploring

@@ -23,6 +23,6 @@ begun = startOf 1 (limits 0 5 false)
 followed : Reduced
 followed = followOf 1 (limits 7 0 true) (λ x. false) (limits 0 9 false) (begun .work)
 
-card-a : (begun .empty ≡ false) × (entry (begun .work) 1 0 ≡ atMost 5) × (entry (begun .work) 0 1 ≡ record { m = pos 0; p = 0 }) × (followed .empty ≡ true) × (lowestTerms (followed .work .fraction) ≡ record { n = 1; d = 1 })
+first-example : (begun .empty ≡ false) × (entry (begun .work) 1 0 ≡ atMost 5) × (entry (begun .work) 0 1 ≡ record { m = pos 0; p = 0 }) × (followed .empty ≡ true) × (lowestTerms (followed .work .fraction) ≡ record { n = 1; d = 1 })
 unfolding begun followed limits loweredBy euclid gcdOf lowestTerms sumOf isLess thresholdOf smallerOf pairAt firstWork lowerAt meetUpper meetClock meetLimits raiseLimits home resetPlaces resetOf relaxed rowSteps roundSteps emptyIn afterMiddle reduceSteps andThen meetOf enterOf followOf startOf
-card-a = (refl, refl, refl, refl, refl)
+first-example = (refl, refl, refl, refl, refl)

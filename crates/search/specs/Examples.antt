@@ -10,17 +10,17 @@ use Rattle.search.specs.declared.verdict.Holding.the-variants.{AnyError,
 use Rattle.search.specs.declared.verdict.Verdict.the-variants.{Reached, Holds}
 use Rattle.search.specs.Verdicts.{searchAnswer, searchStore}
 
-pub record Card : Type 0 where
+pub record Example : Type 0 where
   pub bytes : List ℕ
   pub store : List ℤ
   pub answer : Answer
   pub after : List ℤ
 
 -- what is claimed of a card
-abbrev pub Right : Card → Type 0
+abbrev pub Right : Example → Type 0
 Right c = (searchAnswer (c .bytes) (length (c .store)) ≡ c .answer) × (searchStore (c .bytes) (c .store) ≡ c .after)
 
-abbrev pub AllRight : List Card → Type 0
+abbrev pub AllRight : List Example → Type 0
 AllRight [] = Unit {0}
 AllRight (c ∷ cs) = Right c × AllRight cs
 
@@ -43,8 +43,8 @@ head size n target edges = number size ++ (1 ∷ n ∷ 2 ∷ 0 ∷ target ∷ 0 
 abbrev edge : ℕ → ℕ → ℕ → ℕ → List ℕ
 edge to reset lo hi = 0 ∷ to ∷ reset ∷ limits lo hi
 
-abbrev bytesA : List ℕ
-bytesA = head 38 1 1 1 ++ (limits 0 5 ++ (limits 0 9 ++ edge 1 0 7 noUpper))
+abbrev firstBytes : List ℕ
+firstBytes = head 38 1 1 1 ++ (limits 0 5 ++ (limits 0 9 ++ edge 1 0 7 noUpper))
 
 -- ---- their stores
 -- two slots and two numbers more
@@ -61,9 +61,9 @@ first hi = kept hi ++ replicate 11 (pos 7)
 abbrev below : ℕ → ℕ → ℕ → Answer
 below n d zones = Found (Holds (Below (record { n = n; d = d }))) zones
 
-abbrev pub cards : List Card
-cards =
-    record { bytes = bytesA; store = lent; answer = below 1 1 1; after = first 5 }  -- A
+abbrev pub examples : List Example
+examples =
+    record { bytes = firstBytes; store = lent; answer = below 1 1 1; after = first 5 }  -- A
     ∷ record { bytes = head 38 1 1 1 ++ (limits 0 5 ++ (limits 0 9 ++ edge 1 0 5 noUpper)); store = lent; answer = Found Reached 1; after = first 5 }  -- B
     ∷ record { bytes = head 38 1 1 1 ++ (limits 0 9 ++ (limits 0 9 ++ edge 1 0 5 3)); store = lent; answer = below 1 1 1; after = first 9 }  -- C
     ∷ record { bytes = head 27 1 1 0 ++ (limits 0 5 ++ limits 0 9); store = lent; answer = Found (Holds AnyError) 1; after = first 5 }  -- D
@@ -73,8 +73,8 @@ cards =
     ∷ record { bytes = head 38 1 1 1 ++ (limits 0 5 ++ (limits 0 9 ++ edge 1 1 4 noUpper)); store = lent; answer = Found Reached 1; after = first 5 }  -- F
     ∷ record { bytes = head 38 1 1 1 ++ (limits 0 5 ++ (limits 3 9 ++ edge 1 1 0 noUpper)); store = lent; answer = below 3 1 1; after = first 5 }  -- G
     ∷ record { bytes = head 38 1 1 1 ++ (limits 0 5 ++ (limits 0 9 ++ edge 0 1 0 noUpper)); store = lent; answer = Found (Holds AnyError) 1; after = first 5 }  -- H
-    ∷ record { bytes = bytesA; store = replicate 8 (pos 7); answer = Refused 10; after = replicate 8 (pos 7) }  -- I
-    ∷ record { bytes = bytesA; store = replicate 9 (pos 7); answer = below 1 1 1; after = kept 5 }  -- I
+    ∷ record { bytes = firstBytes; store = replicate 8 (pos 7); answer = Refused 10; after = replicate 8 (pos 7) }  -- I
+    ∷ record { bytes = firstBytes; store = replicate 9 (pos 7); answer = below 1 1 1; after = kept 5 }  -- I
     ∷ record { bytes = head 38 1 1 1 ++ (limits 0 5 ++ (limits 0 9 ++ edge 1 2 7 noUpper)); store = lent; answer = Refused 7; after = lent }  -- J
     ∷ record { bytes = head 38 9 1 1 ++ (limits 0 5 ++ (limits 0 9 ++ edge 1 0 7 noUpper)); store = lent; answer = Refused 4; after = lent }  -- J, n of 9
     ∷ []
