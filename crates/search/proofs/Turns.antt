@@ -3,10 +3,10 @@
 use Prim.Native.Nat.{ℕ, zero, suc, _+_, _-_, _*_, _/_, _%_, _<_, _≤_}
 use mathlib.Core.Path.{_≡_, refl, sym, ap, _∙_, subst}
 use mathlib.Core.Bool.{Bool, true, false, cond}
-use mathlib.Core.List.{List, [], _∷_, _++_, append-nil}
+use mathlib.Core.List.{List, [], _∷_, _++_}
 use lib.IntN.{ℤ, pos, negsuc, natAbs}
-use lib.ListN.{length, getD, take, drop, set, replicate, length-append, length-drop, drop-of-length-le}
-use lib.Seq.{set-at, append-snoc, paste-suc, take-all, drop-drop}
+use lib.ListN.{length, getD, take, drop, set, replicate, length-append}
+use lib.Seq.{set-at, append-snoc, paste-suc}
 use lib.Signed.{_≤ℤ_, ltZ, nonNeg, yes-nonNeg}
 use lib.Dec.{T}
 use mir.Syntax.{w32, w64}
@@ -185,11 +185,3 @@ module _ (n : ℕ) (s : List ℤ) (k : ℕ) where
 pub copy-turn : (d s : List ℤ) (i : ℕ) {slot : List ℤ} → i < length d → i < length s → SFits w32 (getD s i (pos 0)) → slot ≡ take i s ++ drop i d
     → set slot i (toZ w32 (ofZ w32 (getD s i (pos 0)))) ≡ take (i + 1) s ++ drop (i + 1) d
 copy-turn d s i hd hs f e = rw (add-one i, e, toZ-ofZ w32 (getD s i (pos 0)) f) (simp zero-add at (paste-suc d 0 s i (pos 0) (omega arith) hs))
-
--- ---- `keep`: a part that was lent from `at` to the end, and has come back
-pub lent-tail : (s ys front : List ℤ) (at n : ℕ) → ys ≡ front ++ drop n (take (length s - at) (drop at s))
-    → take at s ++ (ys ++ drop (length s - at) (drop at s)) ≡ take at s ++ (front ++ drop (at + n) s)
-lent-tail s ys front at n e =
-    let none : drop (length s - at) (drop at s) ≡ [] = drop-of-length-le (drop at s) {i = length s - at} (omega (arith, length-drop at s)) in
-    let all : take (length s - at) (drop at s) ≡ drop at s = take-all (length s - at) (drop at s) (omega (arith, length-drop at s)) in
-    rw (none, e, append-nil, all, drop-drop)

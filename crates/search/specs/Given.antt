@@ -1,21 +1,30 @@
--- The numbers of an answer that is given out: n is at least 1, n/d is in lowest terms, and a record's "4 bytes n, 4 bytes d, 4 bytes zone count" suffice.
+-- What holds of every answer that is given out, beside the demands.
 use Prim.Native.Nat.{ℕ, _≤_, _<_}
+use mathlib.Core.List.{List}
+use mathlib.Core.Logic.{_⊎_}
 use mathlib.Core.Path.{_≡_}
 use Rattle.zones.specs.declared.fraction.Fraction.{Fraction}
 use Rattle.zones.specs.Fractions.{gcdOf}
 use Rattle.search.specs.declared.verdict.Answer.{Answer}
 use Rattle.search.specs.declared.verdict.Answer.the-variants.{Found, Refused}
 use Rattle.search.specs.declared.verdict.Verdict.the-variants.{Reached, Holds}
+use Rattle.search.specs.Automata.{refusalOf}
 use Rattle.search.specs.Store.{mostSlots}
-use Rattle.search.specs.Verdicts.{fractionOf}
+use Rattle.search.specs.Verdicts.{fractionOf, holdingOf, searchAnswer}
 
+-- ---- its numbers: n is at least 1, n/d is in lowest terms, and a record's "4 bytes n, 4 bytes d, 4 bytes zone count" suffice
 pub record Terms (f : Fraction) : Type 0 where
   pub least : 1 ≤ f .n
   pub n< : f .n < 4294967296
   pub d< : f .d < 4294967296
   pub lowest : gcdOf (f .n) (f .d) ≡ 1
 
-unfoldable pub Given : Answer → Type 0
-Given (Found (Holds h) zones) = Terms (fractionOf h) × (zones ≤ mostSlots)
-Given (Found Reached zones) = zones ≤ mostSlots
-Given (Refused k) = (1 ≤ k) × (k ≤ 10)
+-- and a limit of 1/0 is given as no limit. A refusal is the reader's, 1 to 8, or the search's, 9 or 10.
+unfoldable pub Given : List ℕ → Answer → Type 0
+Given b (Found (Holds h) zones) = Terms (fractionOf h) × (h ≡ holdingOf (fractionOf h)) × (zones ≤ mostSlots)
+Given b (Found Reached zones) = zones ≤ mostSlots
+Given b (Refused k) = ((k ≡ refusalOf b) × (1 ≤ k) × (k ≤ 8)) ⊎ ((refusalOf b ≡ 0) × ((k ≡ 9) ⊎ (k ≡ 10)))
+
+-- ---- it is the answer "at every store size that lets the search finish"
+unfoldable pub Lasting : List ℕ → Answer → Type 0
+Lasting b r = (r ≡ Refused 10 → ⊥) → (amount : ℕ) → (searchAnswer b amount ≡ Refused 10 → ⊥) → searchAnswer b amount ≡ r

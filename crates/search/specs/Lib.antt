@@ -12,5 +12,6 @@ pub mod Store
 pub mod Verdicts
 pub mod Demands
 pub mod Given
+pub mod Promised
 pub mod Examples
 pub mod Exploring

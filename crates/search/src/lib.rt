@@ -16,8 +16,7 @@ ghost use Prim.Native.Nat.{_≤_};
 ghost use lib.ListN.{length};
 ghost use Rattle.zones.specs.Fractions.{lowestTerms};
 ghost use Rattle.search.specs.Automata.{refusalOf};
-ghost use Rattle.search.specs.Demands.{Robust, KeptExact};
-ghost use Rattle.search.specs.Given.{Given};
+ghost use Rattle.search.specs.Promised.{Promised};
 ghost use Rattle.search.specs.Store.{mostSlots};
 ghost use Rattle.search.specs.Verdicts.{holdingOf, answerOf, searchAnswer, searchStore};
 
@@ -58,11 +57,12 @@ pub fn refusal(automaton: &[u8]) -> u32
 }
 
 // The verdict of an automaton, with the zones kept in the lent store: the answer and the store of document 01's search.
-// The answer is right of all runs (demand 3), the kept zones are the exact sets of states (demand 2), and the numbers fit.
+// The answer is right of all runs (demand 3), the kept zones are the exact sets of states (demand 2), the numbers fit, and
+// no other store's length gives another answer but 10.
 pub fn search(automaton: &[u8], store: &mut [i32]) -> Answer
     ensures { λ r. ⌜ r ≡ searchAnswer (now (automaton .entry)) (length (now (store .entry))) ⌝ }
     ensures { λ r. ⌜ now (store .exit) ≡ searchStore (now (automaton .entry)) (now (store .entry)) ⌝ }
-    ensures { λ r. ⌜ Robust (now (automaton .entry)) r × KeptExact (now (automaton .entry)) (length (now (store .entry))) × Given r ⌝ }
+    ensures { λ r. ⌜ Promised (now (automaton .entry)) (length (now (store .entry))) r ⌝ }
 {
     let number = automaton::refusal(automaton);
     if number != 0 {

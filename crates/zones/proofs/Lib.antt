@@ -23,3 +23,4 @@ pub mod Starts
 pub mod Bounding
 pub mod Examples
 pub mod Fractional
+pub mod Lent

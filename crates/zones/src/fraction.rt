@@ -38,7 +38,7 @@ impl Fraction {
 }
 
 // The greatest common divisor, by Euclid's algorithm; that of x and 0 is x.
-fn gcd(x: u64, y: u64) -> u64
+pub fn gcd(x: u64, y: u64) -> u64
     ensures { λ r. ⌜ r ≡ gcdOf x y ⌝ }
 {
     let mut a = x;

@@ -2,13 +2,10 @@
 use mathlib.Core.Path.{refl, sym, ap, _∙_, subst}
 use lib.ListN.{length}
 use native.Mathlib.Omega.{arith}
-use Rattle.search.specs.Demands.{Robust}
-use Rattle.search.specs.Given.{Given}
+use Rattle.search.specs.Promised.{Promised}
 use Rattle.search.proofs.Accepting.{accepted}
 use Rattle.search.proofs.Answers.{refused-answer, refused-store, count-small, searched-answer, searched-store}
-use Rattle.search.proofs.Demands.{robust, kept-exact}
-use Rattle.search.proofs.Given.{given}
-use borrow.Author.Needs.{needs}
+use Rattle.search.proofs.Given.{promised}
 use borrow.Author.Needs.{needs}
 use Rattle.search.proofs.search.Statement.{statement}
 use Rattle.search.proofs.search.Tie as tie
@@ -24,7 +21,7 @@ refusal-requires c κs = search needs
 returns : tie.Need-returns
 returns c =
     let answer = refused-answer _ (c .before .refusal .ensures) (c .if1 .taken) _ in
-    (answer, (refused-store _ (c .before .refusal .ensures) (c .if1 .taken) _, (subst (Robust _) (sym answer) (robust _ _), kept-exact _ _, subst Given (sym answer) (given _ _))))
+    (answer, (refused-store _ (c .before .refusal .ensures) (c .if1 .taken) _, subst (Promised _ _) (sym answer) (promised _ _)))
 
 explore-requires : tie.Need-explore-requires
 explore-requires c κs = accepted _ (sym (c .before .before .refusal .ensures) ∙ c .before .if1 .left)
@@ -39,7 +36,7 @@ returns-2 : tie.Need-returns-2
 returns-2 c =
     let ok = sym (c .before .before .before .before .before .refusal .ensures) ∙ c .before .before .before .before .if1 .left in
     let answer = searched-answer _ ok _ _ _ (c .before .before .explore .ensures) (c .answer .ensures) in
-    (answer, (searched-store _ ok _ _ _ (c .before .before .explore .ensures), (subst (Robust _) (sym answer) (robust _ _), kept-exact _ _, subst Given (sym answer) (given _ _))))
+    (answer, (searched-store _ ok _ _ _ (c .before .before .explore .ensures), subst (Promised _ _) (sym answer) (promised _ _)))
 
 pub search-spec : {M : Type 1} → statement M
 search-spec =

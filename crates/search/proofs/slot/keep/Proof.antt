@@ -1,6 +1,6 @@
 -- Assumes nothing.
 use lib.ListN.{take}
-use Rattle.search.proofs.Turns.{lent-tail}
+use Rattle.zones.proofs.Lent.{lent-tail}
 use borrow.Author.Needs.{needs}
 use Rattle.search.proofs.slot.keep.Statement.{statement}
 use Rattle.search.proofs.slot.keep.Tie as tie

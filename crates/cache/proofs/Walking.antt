@@ -1,0 +1,165 @@
+-- The turns of the loops over records: what the bytes from `at` on say, in terms of the record that stands there.
+-- Assumes nothing.
+use Prim.Native.Nat.{ℕ, zero, suc, _+_, _-_, _≤_, _<_}
+use mathlib.Core.Bool.{Bool, true, false, cond, _&&_}
+use mathlib.Core.List.{List, [], _∷_, _++_}
+use mathlib.Core.Logic.{⊎-elim}
+use mathlib.Core.Path.{_≡_, refl, sym, ap, _∙_, subst}
+use borrow.Author.Tests.{eqb-true, eqb-false, eq-eqb, ne-eqb}
+use lib.Dec.{eqb}
+use lib.ListN.{length, take, drop, length-drop}
+use lib.Seq.{take-all, take-nil, drop-drop, length-take-le}
+use native.Mathlib.Nat.{eq-zero-or-pos}
+use native.Mathlib.Omega.{arith}
+use Rattle.cache.specs.declared.lookup.Lookup.{Lookup}
+use Rattle.cache.specs.declared.lookup.Lookup.the-variants.{Absent}
+use Rattle.cache.specs.Bytes.{sameBytes}
+use Rattle.cache.specs.Records.{measured, soundRecord, filedAs, recordAutomaton}
+use Rattle.cache.specs.Lookups.{lookUp, isAbsent}
+use Rattle.cache.specs.Caches.{recordsIn, total, allSound, soundRecords, distinct}
+use Rattle.cache.proofs.Splitting.{measured-le, measured-least, records-none, records-more}
+
+pub drop-take : (k m : ℕ) (l : List ℕ) → drop k (take m l) ≡ take (m - k) (drop k l)
+drop-take zero m l = let e : m - zero ≡ m = omega arith in rw e
+drop-take (suc k) zero l = let e : zero - suc k ≡ 0 = omega arith in rw e
+drop-take (suc k) (suc m) [] = sym (take-nil (suc m - suc k))
+drop-take (suc k) (suc m) (x ∷ l) = let e : suc m - suc k ≡ m - k = omega arith in rw e (drop-take k m l)
+
+-- ---- the first record of bytes t, and the rest
+module _ (t : List ℕ) where
+  abbrev first : List ℕ
+  first = take (measured t) t
+
+  abbrev rest : List ℕ
+  rest = drop (measured t) t
+
+  none-sound : measured t ≡ 0 → soundRecords t ≡ eqb 0 (length t)
+  unfolding soundRecords total allSound
+  none-sound e = rw (soundRecords, records-none t e) (go (eqb 0 (length t)))
+    where
+      go : (b : Bool) → (b && true) ≡ b
+      go true = refl
+      go false = refl
+
+  more-sound : 0 < measured t → soundRecords t ≡ cond (soundRecord first) (soundRecords rest) false
+  unfolding soundRecords total allSound
+  more-sound h = rw (soundRecords, records-more t h, length-take-le (measured t) t (measured-le t)) (go (soundRecord first) (eqb (total (recordsIn rest)) (length rest)) refl)
+    where
+      fills : (b : Bool) → eqb (total (recordsIn rest)) (length rest) ≡ b → eqb (measured t + total (recordsIn rest)) (length t) ≡ b
+      fills true e = eq-eqb (measured t + total (recordsIn rest)) (length t) (omega (arith, eqb-true (total (recordsIn rest)) (length rest) e, length-drop (measured t) t, measured-le t))
+      fills false e = ne-eqb (measured t + total (recordsIn rest)) (length t) (λ g. eqb-false (total (recordsIn rest)) (length rest) e (omega (arith, length-drop (measured t) t, measured-le t)))
+
+      go : (a b : Bool) → eqb (total (recordsIn rest)) (length rest) ≡ b
+          → (eqb (measured t + total (recordsIn rest)) (length t) && cond a (allSound (recordsIn rest)) false) ≡ cond a (eqb (total (recordsIn rest)) (length rest) && allSound (recordsIn rest)) false
+      go true b e = rw (fills b e, e)
+      go false true e = rw (fills true e)
+      go false false e = rw (fills false e)
+
+-- ---- at a place: m is what is measured there
+module _ (s : List ℕ) (at : ℕ) {m : ℕ} (h : at ≤ length s) (e : m ≡ measured (take (length s - at) (drop at s))) where
+  measure-here : m ≡ measured (drop at s)
+  measure-here = e ∙ ap measured (take-all (length s - at) (drop at s) (omega (arith, length-drop at s)))
+
+  pub within : at + m ≤ length s
+  within = omega (arith, measure-here, measured-le (drop at s), length-drop at s)
+
+  some : (m ≡ 0 → ⊥) → 0 < measured (drop at s)
+  some z = subst (λ (k : ℕ). 0 < k) measure-here (⊎-elim (λ q. absurd (z q)) (λ p. p) (eq-zero-or-pos m))
+
+  pub least : (m ≡ 0 → ⊥) → 17 ≤ m
+  least z = omega (arith, measure-here, measured-least (drop at s) (some z))
+
+  -- the record and its automaton, as they are lent
+  abbrev here : List ℕ
+  here = take m (drop at s)
+
+  lent : take ((at + m) - at) (drop at s) ≡ here
+  lent = let q : (at + m) - at ≡ m = omega arith in rw q
+
+  own : take ((at + m) - (at + 17)) (drop (at + 17) s) ≡ recordAutomaton here
+  own =
+      let q : (at + m) - (at + 17) ≡ m - 17 = omega arith in
+      rw (q, ← drop-drop 17 at s) (sym (drop-take 17 m (drop at s)))
+
+  pub long : (m ≡ 0 → ⊥) → 17 ≤ length (take ((at + m) - at) (drop at s))
+  long z = rw lent (omega (arith, length-take-le m (drop at s) (omega (arith, length-drop at s, within)), least z))
+
+  left : drop (measured (drop at s)) (drop at s) ≡ drop (at + m) s
+  left = ap (λ (k : ℕ). drop k (drop at s)) (sym measure-here) ∙ drop-drop m at s
+
+  none-here : m ≡ 0 → recordsIn (drop at s) ≡ []
+  none-here z = records-none (drop at s) (sym measure-here ∙ z)
+
+  more-here : (m ≡ 0 → ⊥) → recordsIn (drop at s) ≡ here ∷ recordsIn (drop (at + m) s)
+  more-here z = records-more (drop at s) (some z) ∙ (λ i. take (sym measure-here i) (drop at s) ∷ recordsIn (left i))
+
+  -- ---- lookup
+  module _ (b : List ℕ) where
+    pub look-none : m ≡ 0 → lookUp (recordsIn (drop at s)) b ≡ Absent
+    unfolding lookUp
+    look-none z = rw (none-here z)
+
+    module _ (z : m ≡ 0 → ⊥) {t : Bool} (q : t ≡ sameBytes (take ((at + m) - (at + 17)) (drop (at + 17) s)) b) where
+      same-here : sameBytes (recordAutomaton here) b ≡ t
+      same-here = sym (q ∙ ap (λ (x : List ℕ). sameBytes x b) own)
+
+      pub look-found : t ≡ true → filedAs (take ((at + m) - at) (drop at s)) ≡ lookUp (recordsIn (drop at s)) b
+      unfolding lookUp
+      look-found r = rw (more-here z, same-here, r) (ap filedAs lent)
+
+      pub look-next : t ≡ false → lookUp (recordsIn (drop (at + m) s)) b ≡ lookUp (recordsIn (drop at s)) b
+      unfolding lookUp
+      look-next r = rw (more-here z, same-here, r) refl
+
+  -- ---- "no card twice"
+  pub distinct-none : m ≡ 0 → distinct (recordsIn (drop at s)) ≡ true
+  unfolding distinct
+  distinct-none z = rw (none-here z)
+
+  module _ (z : m ≡ 0 → ⊥) {t : Bool} (q : t ≡ isAbsent (lookUp (recordsIn (take (length s - (at + m)) (drop (at + m) s))) (take ((at + m) - (at + 17)) (drop (at + 17) s)))) where
+    absent-here : isAbsent (lookUp (recordsIn (drop (at + m) s)) (recordAutomaton here)) ≡ t
+    absent-here =
+        let all : take (length s - (at + m)) (drop (at + m) s) ≡ drop (at + m) s = take-all (length s - (at + m)) (drop (at + m) s) (omega (arith, length-drop (at + m) s)) in
+        sym (q ∙ (λ i. isAbsent (lookUp (recordsIn (all i)) (own i))))
+
+    pub distinct-next : t ≡ true → distinct (recordsIn (drop (at + m) s)) ≡ distinct (recordsIn (drop at s))
+    unfolding distinct
+    distinct-next r = rw (more-here z, absent-here, r) refl
+
+    pub distinct-twice : t ≡ false → false ≡ distinct (recordsIn (drop at s))
+    unfolding distinct
+    distinct-twice r = rw (more-here z, absent-here, r) refl
+
+  -- ---- sound records
+  pub sound-none : m ≡ 0 → at < length s → soundRecords (drop at s) ≡ false
+  sound-none z l = none-sound (drop at s) (sym measure-here ∙ z) ∙ ne-eqb 0 (length (drop at s)) (λ q. absurd (omega (arith, length-drop at s)))
+
+  sound-here : (m ≡ 0 → ⊥) → soundRecords (drop at s) ≡ cond (soundRecord here) (soundRecords (drop (at + m) s)) false
+  sound-here z = more-sound (drop at s) (some z)
+      ∙ (λ i. cond (soundRecord (take (sym measure-here i) (drop at s))) (soundRecords (left i)) false)
+
+  module _ (z : m ≡ 0 → ⊥) {t : Bool} (q : t ≡ soundRecord (take ((at + m) - at) (drop at s))) where
+    sound-test : soundRecord here ≡ t
+    sound-test = sym (q ∙ ap soundRecord lent)
+
+    pub sound-next : t ≡ true → soundRecords (drop (at + m) s) ≡ soundRecords (drop at s)
+    sound-next r = sym (sound-here z ∙ rw (sound-test, r))
+
+    pub sound-bad : t ≡ false → false ≡ soundRecords (drop at s)
+    sound-bad r = sym (sound-here z ∙ rw (sound-test, r))
+
+-- ---- at the end nothing is left
+module _ (s : List ℕ) (at : ℕ) (h : length s ≤ at) where
+  nothing : measured (drop at s) ≡ 0
+  nothing = omega (arith, measured-le (drop at s), length-drop at s)
+
+  pub look-end : (b : List ℕ) → lookUp (recordsIn (drop at s)) b ≡ Absent
+  unfolding lookUp
+  look-end b = rw (records-none (drop at s) nothing)
+
+  pub distinct-end : distinct (recordsIn (drop at s)) ≡ true
+  unfolding distinct
+  distinct-end = rw (records-none (drop at s) nothing)
+
+  pub sound-end : soundRecords (drop at s) ≡ true
+  sound-end = none-sound (drop at s) nothing ∙ eq-eqb 0 (length (drop at s)) (omega (arith, length-drop at s))

@@ -1,0 +1,57 @@
+use Prim.Native.Nat.{_-_, _≤_}
+use mathlib.Core.Path.{_≡_, refl}
+use mathlib.Core.List.{_++_}
+use lib.ListN.{length, take, drop, length-set}
+use native.Mathlib.Omega.{arith}
+use Rattle.cache.proofs.Turns.{copy-turn, copied}
+use Rattle.cache.proofs.bytes.copy.Statement.{statement}
+use Rattle.cache.proofs.bytes.copy.Tie as tie
+use Rattle.cache.proofs.bytes.copy.Reads as reads
+use Rattle.cache.proofs.bytes.copy.Lts as lts
+
+abbrev Inv-loop : tie.InvT-loop
+Inv-loop to₀ from amount i₀ to i = (i ≤ amount) × (length to ≡ length to₀) × (to ≡ take i from ++ drop i to₀)
+
+abbrev μ-loop : tie.MeasureT-loop
+μ-loop to₀ from amount i₀ to i = amount - i
+
+loop-holds : tie.Need-loop-holds Inv-loop μ-loop
+loop-holds c = (omega arith, refl, refl)
+
+shared-slice-read-to : tie.Need-shared-slice-read-to Inv-loop μ-loop
+shared-slice-read-to c = omega arith
+
+slice-write-to : tie.Need-slice-write-to Inv-loop μ-loop
+slice-write-to c = omega arith
+
+add-i : tie.Need-add-i Inv-loop μ-loop
+add-i c = omega arith
+
+loop-less : tie.Need-loop-less Inv-loop μ-loop
+loop-less c = omega arith
+
+loop-again : tie.Need-loop-again Inv-loop μ-loop
+loop-again c =
+    let l = c .before .before .loop in
+    (omega arith, simp length-set (l .inv .1), copy-turn _ _ (l .i) (omega arith) (omega arith) (l .inv .2))
+
+same-length : tie.Need-same-length Inv-loop μ-loop
+same-length c = c .before .loop .inv .1
+
+returns : tie.Need-returns Inv-loop μ-loop
+returns c = copied _ _ (c .before .loop .i) (omega arith) (c .before .loop .inv .2)
+
+pub copy-spec : {M : Type 1} → statement M
+copy-spec =
+    tie.close
+    (tie.spec
+    Inv-loop
+    μ-loop
+    loop-holds
+    shared-slice-read-to
+    slice-write-to
+    add-i
+    loop-less
+    loop-again
+    same-length
+    returns)

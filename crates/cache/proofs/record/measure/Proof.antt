@@ -1,0 +1,31 @@
+use mathlib.Core.Path.{sym, _∙_}
+use native.Mathlib.Omega.{arith}
+use Rattle.cache.proofs.Laws.{measured-short, measured-small, measured-over, measured-is}
+use borrow.Author.Needs.{needs}
+use Rattle.cache.proofs.record.measure.Statement.{statement}
+use Rattle.cache.proofs.record.measure.Tie as tie
+use Rattle.cache.proofs.record.measure.Reads as reads
+use Rattle.cache.proofs.record.measure.Lts as lts
+use Rattle.cache.proofs.bytes.number_at.Reads as number-at-reads
+
+returns : tie.Need-returns
+returns c = sym (measured-short _ (omega arith))
+
+number-at-requires : tie.Need-number-at-requires
+number-at-requires c κs = search needs
+
+cast-length : tie.Need-cast-length
+cast-length c = search needs
+
+returns-2 : tie.Need-returns-2
+returns-2 c = sym (measured-small _ (omega arith))
+
+returns-3 : tie.Need-returns-3
+returns-3 c = sym (measured-over _ (omega arith))
+
+returns-4 : tie.Need-returns-4
+returns-4 c = c .before .before .number-at .ensures ∙ sym (measured-is _ (omega arith) (omega arith))
+
+pub measure-spec : {M : Type 1} → statement M
+measure-spec =
+    tie.close (tie.spec returns number-at-requires cast-length returns-2 returns-3 returns-4)

@@ -1,0 +1,65 @@
+-- "Consulting: 1 to 8; 11; if the card's bytes are there, the filed verdict, nothing changed; 12; then the search, 9 and 10 included; a new record is written into the free tail of the lent shelf, the used length follows, other bytes stand."
+use Prim.Native.Nat.{ℕ, _+_, _-_}
+use mathlib.Core.Bool.{Bool, true, false, not, cond, _&&_, _||_}
+use mathlib.Core.List.{List, [], _∷_, _++_}
+use lib.Dec.{ltb, eqb}
+use lib.IntN.{ℤ}
+use lib.ListN.{length, take, drop}
+use Rattle.search.specs.declared.verdict.Answer.{Answer}
+use Rattle.search.specs.declared.verdict.Answer.the-variants.{Found, Refused}
+use Rattle.search.specs.declared.verdict.Verdict.{Verdict}
+use Rattle.search.specs.Automata.{refusalOf}
+use Rattle.search.specs.Verdicts.{searchAnswer, searchStore}
+use Rattle.cache.specs.declared.lookup.Lookup.{Lookup}
+use Rattle.cache.specs.declared.lookup.Lookup.the-variants as lookup
+use Rattle.cache.specs.Bytes.{be32}
+use Rattle.cache.specs.Records.{recordOf}
+use Rattle.cache.specs.Caches.{usedOf, recordsOf, sound}
+use Rattle.cache.specs.Lookups.{lookUp, isAbsent}
+
+-- ---- "Making an empty shelf writes 5 bytes, or refuses with 12 if fewer are lent."
+unfoldable pub makeEmptyReply : List ℕ → ℕ
+makeEmptyReply c = cond (ltb (length c) 5) 12 0
+
+unfoldable pub makeEmptyCache : List ℕ → List ℕ
+makeEmptyCache c = cond (ltb (length c) 5) c (be32 5 ++ (1 ∷ drop 5 c))
+
+-- ---- asking
+unfoldable pub lookUpIn : List ℕ → List ℕ → Lookup
+lookUpIn c b =
+    cond (not (eqb (refusalOf b) 0)) (lookup.Refused (refusalOf b))
+    (cond (sound c) (lookUp (recordsOf c) b) (lookup.Refused 11))
+
+-- ---- filing
+-- 12: "too few free bytes for the new record or header, or the new used length needs more than 4 bytes"
+unfoldable pub full : List ℕ → ℕ → Bool
+full c size = ltb (length c) (usedOf c + size) || ltb 4294967295 (usedOf c + size)
+
+-- the record r behind those that are there, and "the used length follows, other bytes stand"
+unfoldable pub appended : List ℕ → List ℕ → List ℕ
+appended c r = be32 (usedOf c + length r) ++ (take (usedOf c - 4) (drop 4 c) ++ (r ++ drop (usedOf c + length r) c))
+
+unfoldable pub filing : List ℕ → List ℕ → Answer → List ℕ
+filing c b (Found v zones) = appended c (recordOf v zones b)
+filing c b (Refused k) = c
+
+-- ---- consulting
+-- the answer that a lookup gives, or `r` where the automaton is not there
+unfoldable pub answerTo : Lookup → Answer → Answer
+answerTo (lookup.Filed v zones) r = Found v zones
+answerTo lookup.Absent r = r
+answerTo (lookup.Refused k) r = Refused k
+
+unfoldable pub consultAnswer : List ℕ → List ℕ → ℕ → Answer
+consultAnswer c b amount = answerTo (lookUpIn c b) (cond (full c (17 + length b)) (Refused 12) (searchAnswer b amount))
+
+-- whether it comes to a search
+unfoldable pub searched : List ℕ → List ℕ → Bool
+searched c b = isAbsent (lookUpIn c b) && not (full c (17 + length b))
+
+-- the cache and the store that it leaves
+unfoldable pub consultCache : List ℕ → List ℕ → ℕ → List ℕ
+consultCache c b amount = cond (searched c b) (filing c b (searchAnswer b amount)) c
+
+unfoldable pub consultStore : List ℕ → List ℕ → List ℤ → List ℤ
+consultStore c b s = cond (searched c b) (searchStore b s) s

@@ -1,0 +1,70 @@
+// Numbers in bytes, and bytes beside bytes.
+ghost use mathlib.Core.Path.{_≡_};
+ghost use mathlib.Core.List.{_++_};
+ghost use Prim.Native.Nat.{_+_, _≤_, _<_};
+ghost use lib.ListN.{length, drop};
+ghost use Rattle.search.specs.Automata.{be16At, be32At};
+ghost use Rattle.cache.specs.Bytes.{be32, sameBytes};
+
+fn wide(x: u8) -> u32
+    ensures { λ r. ⌜ (r ≡ x) × (r < 256) ⌝ }
+{
+    x as u32
+}
+
+fn be16(s: &[u8], at: usize) -> u32
+    requires { ⌜ at + 2 ≤ length (now s) ⌝ }
+    ensures { λ r. ⌜ (r ≡ be16At (now (s .entry)) at) × (r < 65536) ⌝ }
+{
+    wide(s[at]) * 256 + wide(s[at + 1])
+}
+
+// The big-endian number of the four bytes at `at`.
+pub fn number_at(s: &[u8], at: usize) -> u32
+    requires { ⌜ at + 4 ≤ length (now s) ⌝ }
+    ensures { λ r. ⌜ r ≡ be32At (now (s .entry)) at ⌝ }
+{
+    be16(s, at) * 65536 + be16(s, at + 2)
+}
+
+// The four bytes of a number.
+pub fn bytes_of(x: u32) -> [u8; 4]
+    ensures { λ r. ⌜ r ≡ be32 x ⌝ }
+{
+    [
+        (x / 16777216 % 256) as u8,
+        (x / 65536 % 256) as u8,
+        (x / 256 % 256) as u8,
+        (x % 256) as u8,
+    ]
+}
+
+// Whether two strings of bytes are the same. From the end, since automata share long beginnings.
+pub fn same(a: &[u8], b: &[u8]) -> bool
+    ensures { λ r. ⌜ r ≡ sameBytes (now (a .entry)) (now (b .entry)) ⌝ }
+{
+    if a.len() != b.len() {
+        return false;
+    }
+    let mut i = a.len();
+    while 0 < i {
+        i -= 1;
+        if a[i] != b[i] {
+            return false;
+        }
+    }
+    true
+}
+
+// The first bytes become those given.
+pub fn copy(to: &mut [u8], from: &[u8])
+    requires { ⌜ length (now from) ≤ length (now to) ⌝ }
+    ensures { λ _. ⌜ now (to .exit) ≡ now (from .entry) ++ drop (length (now (from .entry))) (now (to .entry)) ⌝ }
+{
+    let amount = from.len();
+    let mut i = 0;
+    while i < amount {
+        to[i] = from[i];
+        i += 1;
+    }
+}
