@@ -1,10 +1,16 @@
--- Laws of the definitions as the code takes them, and the theory of caches.
+-- The laws of a record and of a string of records, the turns of the loops over them, then the theory of caches.
 pub mod Same
-pub mod Turns
-pub mod Laws
 pub mod Splitting
+pub mod Reading
 pub mod Walking
-pub mod Filed
-pub mod Consults
+pub mod Turns
+pub mod Writing
+pub mod Asking
+pub mod Written
+pub mod Looking
 pub mod Sounding
+pub mod Appending
 pub mod Consulting
+pub mod LentAgain
+pub mod Filing
+pub mod Growing

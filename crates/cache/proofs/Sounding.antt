@@ -1,13 +1,13 @@
 -- A sound cache: its tests as facts, and back.
 -- Assumes nothing.
 use Prim.Native.Nat.{ℕ, _≤_}
-use mathlib.Core.Path.{_≡_, refl, sym}
-use mathlib.Core.Bool.{Bool, true, false, cond, _&&_, false≢true}
+use mathlib.Core.Path.{_≡_, refl}
+use mathlib.Core.Bool.{Bool, true, false, _&&_, false≢true}
 use mathlib.Core.List.{List}
 use borrow.Author.Tests.{leb-true, le-leb, eqb-true, eq-eqb}
 use lib.Dec.{leb, eqb}
 use lib.ListN.{length}
-use Rattle.cache.specs.Caches.{usedOf, versionOf, recordBytes, recordsOf, recordsIn, total, allSound, soundRecords, distinct, soundHeader, sound}
+use Rattle.cache.specs.Caches.{usedOf, versionOf, recordBytes, recordsOf, total, allSound, soundRecords, distinct, soundHeader, sound}
 
 pub record Sound (c : List ℕ) : Type 0 where
   pub lent : 5 ≤ length c
@@ -19,7 +19,7 @@ pub record Sound (c : List ℕ) : Type 0 where
   pub once : distinct (recordsOf c) ≡ true
 
 -- ---- two tests
-pub both : (t u : Bool) → (t && u) ≡ true → (t ≡ true) × (u ≡ true)
+both : (t u : Bool) → (t && u) ≡ true → (t ≡ true) × (u ≡ true)
 both true u e = (refl, e)
 both false u e = absurd (false≢true e)
 

@@ -1,10 +1,10 @@
 -- The records in a string of bytes, one after another: the laws of the definition, which stays shut elsewhere.
 -- Assumes nothing.
-use Prim.Native.Nat.{ℕ, zero, suc, _+_, _-_, _≤_, _<_}
-use mathlib.Core.Path.{_≡_, refl, sym, ap, _∙_, subst}
+use Prim.Native.Nat.{ℕ, zero, suc, _+_, _≤_, _<_}
+use mathlib.Core.Path.{_≡_, refl, sym, ap, _∙_}
 use mathlib.Core.Bool.{Bool, true, false, cond, _&&_}
 use mathlib.Core.List.{List, [], _∷_, _++_}
-use mathlib.Core.Logic.{_⊎_, inl, inr, ⊎-elim}
+use mathlib.Core.Logic.{⊎-elim}
 use borrow.Author.Tests.{leb-true, le-leb}
 use lib.Dec.{leb}
 use lib.ListN.{length, take, drop, length-append, length-drop}
@@ -60,9 +60,9 @@ split-same zero left′ s h h′ = split-none zero s (omega (arith, measured-le 
 split-same (suc left) zero s h h′ = split-none (suc left) s (omega (arith, measured-le s)) ∙ sym (split-none zero s (omega (arith, measured-le s)))
 split-same (suc left) (suc left′) s h h′ = ⊎-elim
     (λ e. split-none (suc left) s e ∙ sym (split-none (suc left′) s e))
-    (λ p. split-more left s p
-    ∙ ap (λ (rs : List (List ℕ)). take (measured s) s ∷ rs) (split-same left left′ (drop (measured s) s) (omega (arith, length-drop (measured s) s)) (omega (arith, length-drop (measured s) s)))
-    ∙ sym (split-more left′ s p))
+    (λ p.
+    let d = length-drop (measured s) s in
+    split-more left s p ∙ ap (λ (rs : List (List ℕ)). take (measured s) s ∷ rs) (split-same left left′ (drop (measured s) s) (omega arith) (omega arith)) ∙ sym (split-more left′ s p))
     (eq-zero-or-pos (measured s))
 
 pub records-none : (s : List ℕ) → measured s ≡ 0 → recordsIn s ≡ []
@@ -74,3 +74,63 @@ unfolding recordsIn
 records-more s h =
     split-same (length s) (suc (length s)) s (omega arith) (omega arith) ∙ split-more (length s) s h
     ∙ ap (λ (rs : List (List ℕ)). take (measured s) s ∷ rs) (split-same (length s) (length (drop (measured s) s)) (drop (measured s) s) (omega (arith, length-drop (measured s) s)) (omega arith))
+
+-- ---- one more at the end
+pub append-be32 : (s r : List ℕ) → 4 ≤ length s → be32At (s ++ r) 0 ≡ be32At s 0
+unfolding be32At be16At
+append-be32 [] r h = absurd (omega arith)
+append-be32 (a ∷ []) r h = absurd (omega arith)
+append-be32 (a ∷ b ∷ []) r h = absurd (omega arith)
+append-be32 (a ∷ b ∷ c ∷ []) r h = absurd (omega arith)
+append-be32 (a ∷ b ∷ c ∷ d ∷ s) r h = refl
+
+measured-append : (s r : List ℕ) → 0 < measured s → measured (s ++ r) ≡ measured s
+measured-append s r h =
+    let w = whole s in
+    let g : 17 ≤ measured s = w .least h in
+    measured-field (s ++ r) (measured s) (append-be32 s r (omega (arith, w .short)) ∙ sym (w .field h)) g (omega (arith, w .short, length-append s r))
+
+records-one : (r : List ℕ) → measured r ≡ length r → 0 < length r → recordsIn r ≡ r ∷ []
+records-one r e h =
+    records-more r (omega arith)
+    ∙ (λ i. take (e i) r ∷ recordsIn (drop (e i) r))
+    ∙ (λ i. take-length r i ∷ recordsIn (drop-length r i))
+    ∙ ap (λ (rs : List (List ℕ)). r ∷ rs) (records-none [] (omega (arith, measured-le [])))
+
+empty : (s : List ℕ) → length s ≡ 0 → s ≡ []
+empty [] e = refl
+empty (x ∷ s) e = absurd (omega arith)
+
+total-more : (s : List ℕ) → 0 < measured s → total (recordsIn s) ≡ measured s + total (recordsIn (drop (measured s) s))
+unfolding total
+total-more s h = ap total (records-more s h) ∙ ap (λ (n : ℕ). n + total (recordsIn (drop (measured s) s))) (length-take-le (measured s) s (measured-le s))
+
+append-none : (s r : List ℕ) → measured s ≡ 0 → total (recordsIn s) ≡ length s → measured r ≡ length r → 0 < length r → recordsIn (s ++ r) ≡ recordsIn s ++ (r ∷ [])
+unfolding total
+append-none s r z t e h =
+    let n : recordsIn s ≡ [] = records-none s z in
+    ap (λ (u : List ℕ). recordsIn (u ++ r)) (empty s (sym t ∙ ap total n)) ∙ records-one r e h ∙ ap (λ (rs : List (List ℕ)). rs ++ (r ∷ [])) (sym n)
+
+append-more : (s r : List ℕ) → 0 < measured s → recordsIn (drop (measured s) s ++ r) ≡ recordsIn (drop (measured s) s) ++ (r ∷ []) → recordsIn (s ++ r) ≡ recordsIn s ++ (r ∷ [])
+append-more s r p h =
+    let k : measured (s ++ r) ≡ measured s = measured-append s r p in
+    records-more (s ++ r) (omega arith)
+    ∙ (λ i. take (k i) (s ++ r) ∷ recordsIn (drop (k i) (s ++ r)))
+    ∙ (λ i. take-append-le (measured s) s r (measured-le s) i ∷ recordsIn (drop-append-le (measured s) s r (measured-le s) i))
+    ∙ ap (λ (rs : List (List ℕ)). take (measured s) s ∷ rs) h
+    ∙ ap (λ (rs : List (List ℕ)). rs ++ (r ∷ [])) (sym (records-more s p))
+
+append-within : (left : ℕ) (s r : List ℕ) → length s ≤ left → total (recordsIn s) ≡ length s → measured r ≡ length r → 0 < length r → recordsIn (s ++ r) ≡ recordsIn s ++ (r ∷ [])
+append-within zero s r l t e h = append-none s r (omega (arith, measured-le s)) t e h
+append-within (suc left) s r l t e h = ⊎-elim
+    (λ z. append-none s r z t e h)
+    (λ p. let d = length-drop (measured s) s in append-more s r p (append-within left (drop (measured s) s) r (omega arith) (omega (arith, total-more s p, measured-le s)) e h))
+    (eq-zero-or-pos (measured s))
+
+pub records-append : (s r : List ℕ) → total (recordsIn s) ≡ length s → measured r ≡ length r → 0 < length r → recordsIn (s ++ r) ≡ recordsIn s ++ (r ∷ [])
+records-append s r = append-within (length s) s r (omega arith)
+
+pub total-append : (rs : List (List ℕ)) (r : List ℕ) → total (rs ++ (r ∷ [])) ≡ total rs + length r
+unfolding total
+total-append [] r = omega arith
+total-append (x ∷ rs) r = omega (arith, total-append rs r)

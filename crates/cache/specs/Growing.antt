@@ -18,10 +18,11 @@ pub data Grown : List ℕ → Type 0 where
   consulted : (c b : List ℕ) (amount : ℕ) → Grown c → Grown (consultCache c b amount)
   lent-again : (c rest : List ℕ) → Grown c → Grown (take (usedOf c) c ++ rest)
 
--- c′ has come of c by consulting
+-- c′ has come of c so
 pub data Later (c : List ℕ) : List ℕ → Type 0 where
   same : Later c c
   after : (c′ b : List ℕ) (amount : ℕ) → Later c c′ → Later c (consultCache c′ b amount)
+  lent-later : (c′ rest : List ℕ) → Later c c′ → Later c (take (usedOf c′) c′ ++ rest)
 
 -- what consulting promises beside the equations: a sound cache stays sound, and on a grown one demand 3 holds of the answer
 -- and "the filed verdict is the search's, at every store size that lets the search finish"

@@ -135,6 +135,7 @@ pub fn consult(cache: &mut [u8], automaton: &[u8], store: &mut [i32]) -> Answer
     ensures { λ r. ⌜ r ≡ consultAnswer (now (cache .entry)) (now (automaton .entry)) (length (now (store .entry))) ⌝ }
     ensures { λ r. ⌜ now (cache .exit) ≡ consultCache (now (cache .entry)) (now (automaton .entry)) (length (now (store .entry))) ⌝ }
     ensures { λ r. ⌜ now (store .exit) ≡ consultStore (now (cache .entry)) (now (automaton .entry)) (now (store .entry)) ⌝ }
+    ensures { λ r. ⌜ Carried (now (cache .entry)) (now (automaton .entry)) r (now (cache .exit)) ⌝ }
 {
     match look_up(cache, automaton) {
         Lookup::Filed(v, zones) => Answer::Found(v, zones),

@@ -4,7 +4,7 @@ use mathlib.Core.Path.{sym, _∙_}
 use lib.ListN.{length}
 use native.Mathlib.Omega.{arith}
 use Rattle.zones.proofs.Lent.{lent-tail}
-use Rattle.cache.proofs.Filed.{appends}
+use Rattle.cache.proofs.Writing.{appends}
 use borrow.Author.Needs.{needs}
 use Rattle.cache.proofs.append.Statement.{statement}
 use Rattle.cache.proofs.append.Tie as tie

@@ -1,3 +1,4 @@
+use Rattle.cache.proofs.Growing.{carried-as}
 use mathlib.Core.Path.{sym, _∙_}
 use lib.ListN.{length}
 use Rattle.cache.specs.declared.lookup.Lookup.the-variants.{Absent}
@@ -36,7 +37,7 @@ returns : tie.Need-returns
 returns c =
     let a = c .before .before .before .before .before .before .before .args in
     let q = told-all (a .cache .now) (a .automaton .now) _ _ (sym (c .before .before .before .look-up .ensures) ∙ c .before .v .given .1) (length (a .store .now)) (a .store .now) in
-    (sym (q .0), (sym (q .1), sym (q .2)))
+    (sym (q .0), (sym (q .1), (sym (q .2), carried-as (a .cache .now) (a .automaton .now) (length (a .store .now)) (sym (q .0)) (sym (q .1)))))
 
 same-length-2 : tie.Need-same-length-2
 same-length-2 c = search needs
@@ -49,7 +50,9 @@ returns-2 c =
     let a = c .before .before .before .before .before .before .before .before .before .before .before .before .args in
     let q = absent-all (a .cache .now) (a .automaton .now) (sym (c .before .before .before .before .before .before .before .before .look-up .ensures) ∙ c .before .before .before .before .before .before .enum-told .given .1) (length (a .store .now)) (a .store .now) in
     let did = c .before .before .before .search-and-file .ensures in
-    (did .0 ∙ sym (q .0), (did .1 .0 ∙ sym (q .1), did .1 .1 ∙ sym (q .2)))
+    let answer = did .0 ∙ sym (q .0) in
+    let cache = did .1 .0 ∙ sym (q .1) in
+    (answer, (cache, (did .1 .1 ∙ sym (q .2), carried-as (a .cache .now) (a .automaton .now) (length (a .store .now)) (answer) (cache))))
 
 same-length-4 : tie.Need-same-length-4
 same-length-4 c = search needs
@@ -58,7 +61,7 @@ returns-3 : tie.Need-returns-3
 returns-3 c =
     let a = c .before .before .before .before .before .before .before .args in
     let q = refused-all (a .cache .now) (a .automaton .now) _ (sym (c .before .before .before .look-up .ensures) ∙ c .before .k .given .1) (length (a .store .now)) (a .store .now) in
-    (sym (q .0), (sym (q .1), sym (q .2)))
+    (sym (q .0), (sym (q .1), (sym (q .2), carried-as (a .cache .now) (a .automaton .now) (length (a .store .now)) (sym (q .0)) (sym (q .1)))))
 
 pub consult-spec : {M : Type 1} → statement M
 consult-spec =

@@ -1,6 +1,6 @@
 use mathlib.Core.Path.{refl, subst}
 use Rattle.search.specs.Given.{Given}
-use Rattle.cache.proofs.Consults.{found-fits, files-found, files-refused}
+use Rattle.cache.proofs.Asking.{found-fits, files-found, files-refused}
 use borrow.Author.Needs.{needs}
 use Rattle.cache.proofs.file.Statement.{statement}
 use Rattle.cache.proofs.file.Tie as tie

@@ -1,6 +1,6 @@
 use mathlib.Core.Path.{sym, _∙_}
 use native.Mathlib.Omega.{arith}
-use Rattle.cache.proofs.Consults.{asks-refused, asks-unsound, asks-sound}
+use Rattle.cache.proofs.Asking.{asks-refused, asks-unsound, asks-sound}
 use Rattle.cache.proofs.Sounding.{sound-facts}
 use borrow.Author.Needs.{needs}
 use Rattle.cache.proofs.look_up.Statement.{statement}

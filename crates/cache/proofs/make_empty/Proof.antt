@@ -1,6 +1,6 @@
 use mathlib.Core.Path.{sym, _∙_}
 use native.Mathlib.Omega.{arith}
-use Rattle.cache.proofs.Consults.{empty-refused, empty-unchanged, empty-done, empty-made}
+use Rattle.cache.proofs.Asking.{empty-refused, empty-unchanged, empty-done, empty-made}
 use borrow.Author.Needs.{needs}
 use Rattle.cache.proofs.make_empty.Statement.{statement}
 use Rattle.cache.proofs.make_empty.Tie as tie

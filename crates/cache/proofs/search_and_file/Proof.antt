@@ -3,7 +3,7 @@ use mathlib.Core.Path.{refl, ap, _∙_}
 use lib.ListN.{length}
 use native.Mathlib.Omega.{arith}
 use Rattle.cache.specs.Consulting.{filing}
-use Rattle.cache.proofs.Consults.{full-short, full-long, roomy}
+use Rattle.cache.proofs.Asking.{full-short, full-long, roomy}
 use borrow.Author.Needs.{needs}
 use Rattle.cache.proofs.search_and_file.Statement.{statement}
 use Rattle.cache.proofs.search_and_file.Tie as tie

@@ -1,5 +1,5 @@
 use native.Mathlib.Omega.{arith}
-use Rattle.cache.proofs.Consults.{unsound-lent, unsound-least, unsound-most, unsound-version, unsound-records, sound-distinct}
+use Rattle.cache.proofs.Asking.{unsound-lent, unsound-least, unsound-most, unsound-version, unsound-records, sound-distinct}
 use borrow.Author.Needs.{needs}
 use Rattle.cache.proofs.sound.Statement.{statement}
 use Rattle.cache.proofs.sound.Tie as tie

@@ -1,4 +1,4 @@
-use Rattle.cache.proofs.Laws.{filed-is}
+use Rattle.cache.proofs.Reading.{filed-is}
 use borrow.Author.Needs.{needs}
 use Rattle.cache.proofs.record.filed.Statement.{statement}
 use Rattle.cache.proofs.record.filed.Tie as tie

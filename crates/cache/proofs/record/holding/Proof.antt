@@ -1,5 +1,5 @@
 use mathlib.Core.Path.{sym}
-use Rattle.cache.proofs.Laws.{holding-any, holding-below}
+use Rattle.cache.proofs.Reading.{holding-any, holding-below}
 use Rattle.cache.proofs.record.holding.Statement.{statement}
 use Rattle.cache.proofs.record.holding.Tie as tie
 use Rattle.cache.proofs.record.holding.Reads as reads

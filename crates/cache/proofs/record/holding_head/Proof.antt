@@ -1,4 +1,4 @@
-use Rattle.cache.proofs.Laws.{holding-fits}
+use Rattle.cache.proofs.Reading.{holding-fits}
 use borrow.Author.Needs.{needs}
 use Rattle.cache.proofs.record.holding_head.Statement.{statement}
 use Rattle.cache.proofs.record.holding_head.Tie as tie

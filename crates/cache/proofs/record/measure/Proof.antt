@@ -1,6 +1,7 @@
-use mathlib.Core.Path.{sym, _∙_}
+use Rattle.cache.proofs.Splitting.{measured-field}
+use mathlib.Core.Path.{sym}
 use native.Mathlib.Omega.{arith}
-use Rattle.cache.proofs.Laws.{measured-short, measured-small, measured-over, measured-is}
+use Rattle.cache.proofs.Reading.{measured-short, measured-small, measured-over}
 use borrow.Author.Needs.{needs}
 use Rattle.cache.proofs.record.measure.Statement.{statement}
 use Rattle.cache.proofs.record.measure.Tie as tie
@@ -24,7 +25,7 @@ returns-3 : tie.Need-returns-3
 returns-3 c = sym (measured-over _ (omega arith))
 
 returns-4 : tie.Need-returns-4
-returns-4 c = c .before .before .number-at .ensures ∙ sym (measured-is _ (omega arith) (omega arith))
+returns-4 c = sym (measured-field _ _ (sym (c .before .before .number-at .ensures)) (omega arith) (omega arith))
 
 pub measure-spec : {M : Type 1} → statement M
 measure-spec =

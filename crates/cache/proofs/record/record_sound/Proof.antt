@@ -1,4 +1,4 @@
-use Rattle.cache.proofs.Laws.{record-by-refusal, record-by-terms}
+use Rattle.cache.proofs.Reading.{record-by-refusal, record-by-terms}
 use borrow.Author.Needs.{needs}
 use Rattle.cache.proofs.record.record_sound.Statement.{statement}
 use Rattle.cache.proofs.record.record_sound.Tie as tie

@@ -1,7 +1,7 @@
 use Prim.Native.Nat.{ℕ}
 use mathlib.Core.Path.{sym, ap, _∙_}
 use lib.Dec.{eqb}
-use Rattle.cache.proofs.Laws.{terms-reached, terms-stray, terms-kind, terms-zero, terms-holds}
+use Rattle.cache.proofs.Reading.{terms-reached, terms-stray, terms-kind, terms-zero, terms-holds}
 use borrow.Author.Needs.{needs}
 use Rattle.cache.proofs.record.terms_sound.Statement.{statement}
 use Rattle.cache.proofs.record.terms_sound.Tie as tie

@@ -1,5 +1,5 @@
 use mathlib.Core.Path.{sym}
-use Rattle.cache.proofs.Laws.{verdict-reached, verdict-holds}
+use Rattle.cache.proofs.Reading.{verdict-reached, verdict-holds}
 use borrow.Author.Needs.{needs}
 use Rattle.cache.proofs.record.verdict.Statement.{statement}
 use Rattle.cache.proofs.record.verdict.Tie as tie

@@ -1,7 +1,7 @@
 use mathlib.Core.Path.{_∙_}
 use lib.ListN.{length}
 use Rattle.zones.proofs.Lent.{lent-tail}
-use Rattle.cache.proofs.Filed.{two-parts}
+use Rattle.cache.proofs.Writing.{two-parts}
 use borrow.Author.Needs.{needs}
 use Rattle.cache.proofs.record.write.Statement.{statement}
 use Rattle.cache.proofs.record.write.Tie as tie

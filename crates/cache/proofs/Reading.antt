@@ -1,4 +1,4 @@
--- One law for each branch of the definitions of a record.
+-- A record by what is read of it: one law for each branch of its definitions.
 -- Assumes nothing.
 use Prim.Native.Nat.{ℕ, zero, suc, _-_, _<_, _≤_}
 use mathlib.Core.Bool.{Bool, true, false, cond}
@@ -33,10 +33,6 @@ module _ (s : List ℕ) where
 
   pub measured-short : length s < 17 → measured s ≡ 0
   measured-short h = elim (decLe 17 (be32At s 0)) [ yes g ↦ measured-over (omega arith) | no g ↦ measured-small (omega arith) ]
-
-  pub measured-is : 17 ≤ be32At s 0 → be32At s 0 ≤ length s → measured s ≡ be32At s 0
-  unfolding measured
-  measured-is g h = rw (measured, le-leb 17 (be32At s 0) g, le-leb (be32At s 0) (length s) h) refl
 
 -- ---- its kind, n and d
 module _ (kind : ℕ) (f : Fraction) where

@@ -1,0 +1,93 @@
+-- A cache that has grown from empty is sound, and what it files is the search's: demand 3 holds of it, and it is the answer at every store size that lets the search finish.
+-- Assumes nothing.
+use Prim.Native.Nat.{ℕ}
+use mathlib.Core.Path.{_≡_, refl, sym, subst}
+use mathlib.Core.Bool.{Bool, true, false, cond}
+use mathlib.Core.List.{List}
+use Rattle.search.specs.declared.verdict.Answer.{Answer}
+use Rattle.search.specs.declared.verdict.Answer.the-variants.{Found, Refused}
+use Rattle.search.specs.declared.verdict.Verdict.{Verdict}
+use Rattle.search.specs.Demands.{Robust}
+use Rattle.search.specs.Given.{Lasting}
+use Rattle.search.proofs.Given.{promised}
+use Rattle.cache.specs.declared.lookup.Lookup.{Lookup}
+use Rattle.cache.specs.declared.lookup.Lookup.the-variants as lookup
+use Rattle.cache.specs.Bytes.{sameBytes}
+use Rattle.cache.specs.Lookups.{lookUp, isAbsent}
+use Rattle.cache.specs.Caches.{recordsOf, sound}
+use Rattle.cache.specs.Consulting.{consultAnswer, consultCache}
+use Rattle.cache.specs.Growing.{Grown, emptied, consulted, lent-again, Carried}
+use Rattle.cache.proofs.Same.{same-equal}
+use Rattle.cache.proofs.Consulting.{Way, told, turned-down, stopped, filed, way}
+use Rattle.cache.proofs.Filing.{empty-records, empty-sound, filed-there, sound-stays}
+use Rattle.cache.proofs.LentAgain.{lent-records, lent-sound}
+
+pub grown-sound : (c : List ℕ) → Grown c → sound c ≡ true
+grown-sound _ (emptied c h) = empty-sound c h
+grown-sound _ (consulted c b amount g) = sound-stays c b amount (grown-sound c g)
+grown-sound _ (lent-again c rest g) = lent-sound c (grown-sound c g) rest
+
+-- ---- what is filed
+-- of a verdict; nothing of the rest
+abbrev Kept : List ℕ → Lookup → Type 0
+Kept b (lookup.Filed v zones) = Robust b (Found v zones) × Lasting b (Found v zones)
+Kept b lookup.Absent = Unit {0}
+Kept b (lookup.Refused k) = Unit {0}
+
+either : (x : List ℕ) (t : Bool) (l k : Lookup) → Kept x l → Kept x k → Kept x (cond t l k)
+either x true l k h g = h
+either x false l k h g = g
+
+kept-under : (b x : List ℕ) (v : Verdict) (zones : ℕ) → Kept b (lookup.Filed v zones) → (t : Bool) → sameBytes b x ≡ t → Kept x (cond t (lookup.Filed v zones) lookup.Absent)
+kept-under b x v zones h true e = subst (λ (y : List ℕ). Kept y (lookup.Filed v zones)) (same-equal b x e) h
+kept-under b x v zones h false e = tt
+
+way-kept : (c b : List ℕ) (amount : ℕ) (x : List ℕ) → Kept x (lookUp (recordsOf c) x) → {r : Answer} {c′ : List ℕ} → Way c b amount r c′ → Kept x (lookUp (recordsOf c′) x)
+way-kept c b amount x h (told v zones a f) = h
+way-kept c b amount x h (turned-down k f) = h
+way-kept c b amount x h (stopped k a f) = h
+way-kept c b amount x h (filed v zones a f e) =
+    let p = promised b amount in
+    let new : Kept b (lookup.Filed v zones) = (subst (Robust b) e (p .robust), subst (Lasting b) e (p .lasting)) in
+    rw (filed-there c b amount v zones a f e x)
+    (either x (isAbsent (lookUp (recordsOf c) x)) _ (lookUp (recordsOf c) x) (kept-under b x v zones new (sameBytes b x) refl) h)
+
+grown-kept : (c : List ℕ) → Grown c → (x : List ℕ) → Kept x (lookUp (recordsOf c) x)
+unfolding lookUp
+grown-kept _ (emptied c h) x = rw (empty-records c h) tt
+grown-kept _ (consulted c b amount g) x = way-kept c b amount x (grown-kept c g x) (way c b amount)
+grown-kept _ (lent-again c rest g) x = rw (lent-records c (grown-sound c g) rest) (grown-kept c g x)
+
+pub grown-filed : (c b : List ℕ) (v : Verdict) (zones : ℕ) → Grown c → lookUp (recordsOf c) b ≡ lookup.Filed v zones → Robust b (Found v zones) × Lasting b (Found v zones)
+grown-filed c b v zones g e = subst (Kept b) e (grown-kept c g b)
+
+-- ---- what consulting promises
+module _ (c b : List ℕ) (amount : ℕ) (g : Grown c) where
+  way-robust : {r : Answer} {c′ : List ℕ} → Way c b amount r c′ → Robust b r
+  unfolding Robust
+  way-robust (told v zones a f) = grown-filed c b v zones g (a .there) .0
+  way-robust (turned-down k f) = tt
+  way-robust (stopped k a f) = tt
+  way-robust (filed v zones a f e) = subst (Robust b) e (promised b amount .robust)
+
+  -- a refusal is not said to last: 12 is none of the search's
+  abbrev Lasts : Answer → Type 0
+  Lasts (Found v zones) = Lasting b (Found v zones)
+  Lasts (Refused k) = Unit {0}
+
+  way-lasting : {r : Answer} {c′ : List ℕ} → Way c b amount r c′ → Lasts r
+  way-lasting (told v zones a f) = grown-filed c b v zones g (a .there) .1
+  way-lasting (turned-down k f) = tt
+  way-lasting (stopped k a f) = tt
+  way-lasting (filed v zones a f e) = subst (Lasting b) e (promised b amount .lasting)
+
+pub carried : (c b : List ℕ) (amount : ℕ) → Carried c b (consultAnswer c b amount) (consultCache c b amount)
+carried c b amount = record {
+  sound = sound-stays c b amount;
+  robust = λ g. way-robust c b amount g (way c b amount);
+  lasting = λ g v zones e. subst (Lasting b) (sym e) (subst (Lasts c b amount g) e (way-lasting c b amount g (way c b amount)));
+}
+
+-- and of what comes to them
+pub carried-as : (c b : List ℕ) (amount : ℕ) {r : Answer} {c′ : List ℕ} → r ≡ consultAnswer c b amount → c′ ≡ consultCache c b amount → Carried c b r c′
+carried-as c b amount e g = rw (e, g) (carried c b amount)
