@@ -1,39 +1,5 @@
 // The cards that the search is timed on.
-const NO_UPPER: u32 = u32::MAX;
-
-// A limit is a lo and a hi, for each clock.
-type Limits<'a> = &'a [(u32, u32)];
-
-struct Edge<'a> {
-    from: u8,
-    to: u8,
-    resets: u8,
-    guard: Limits<'a>,
-}
-
-// The fixed fields and the invariants. Start is 0 and the last location the target; the edges follow.
-fn begun(clocks: u8, invariants: &[Limits], edges: u16) -> Vec<u8> {
-    let locations = invariants.len() as u8;
-    let n = 8 * clocks as u32;
-    let length = 11 + n * locations as u32 + edges as u32 * (3 + n);
-    let mut card = length.to_be_bytes().to_vec();
-    card.extend([1, clocks, locations, 0, locations - 1]);
-    card.extend(edges.to_be_bytes());
-    invariants.iter().for_each(|i| put(&mut card, i));
-    card
-}
-
-fn put(card: &mut Vec<u8>, limits: Limits) {
-    for (lo, hi) in limits {
-        card.extend(lo.to_be_bytes());
-        card.extend(hi.to_be_bytes());
-    }
-}
-
-fn join(card: &mut Vec<u8>, e: Edge) {
-    card.extend([e.from, e.to, e.resets]);
-    put(card, e.guard);
-}
+use crate::automata::{begun, join, Draws, Edge, NO_UPPER};
 
 // Document 01's card K.
 pub fn wheel() -> Vec<u8> {
@@ -71,14 +37,4 @@ pub fn heavy(h: Heavy) -> Vec<u8> {
         join(&mut card, Edge { from: 0, to: 0, resets, guard: &guard });
     }
     card
-}
-
-// A linear congruential generator: the cards are the same in each run.
-struct Draws(u64);
-
-impl Draws {
-    fn below(&mut self, bound: u32) -> u32 {
-        self.0 = self.0.wrapping_mul(6364136223846793005).wrapping_add(1442695040888963407);
-        ((self.0 >> 33) % bound as u64) as u32
-    }
 }

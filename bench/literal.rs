@@ -20,12 +20,18 @@ pub struct Search<'a> {
     stop: Stop,
 }
 
-fn gcd(a: u64, b: u64) -> u64 {
+pub fn gcd(a: u64, b: u64) -> u64 {
     if b == 0 {
         a
     } else {
         gcd(b, a % b)
     }
+}
+
+// Document 01's 1 + 2(n + 1)².
+pub fn slot_length(automaton: &[u8]) -> usize {
+    let size = automaton[5] as usize + 1;
+    1 + 2 * size * size
 }
 
 // Whether each of a's pairs is the smaller or equal beside b's.
@@ -58,6 +64,19 @@ impl<'a> Search<'a> {
             Stop::No => {
                 let Fraction { n, d } = self.fraction;
                 [0, 1, n / gcd(n, d), d / gcd(n, d), zones]
+            }
+        }
+    }
+
+    // The kept zones into their slots; the rest of the store stands.
+    pub fn store(&self, store: &mut [i32]) {
+        let size = self.clocks + 1;
+        let slots = store.chunks_exact_mut(slot_length(self.card));
+        for ((location, zone), slot) in self.kept.iter().zip(slots) {
+            slot[0] = *location as i32;
+            let places = (0..size * 9).filter(|at| at % 9 < size);
+            for (pair, at) in slot[1..].chunks_exact_mut(2).zip(places) {
+                pair.copy_from_slice(&[zone[at].m as i32, zone[at].p as i32]);
             }
         }
     }

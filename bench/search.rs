@@ -1,11 +1,12 @@
 // Times search_bench_search, of the proved crate search_bench, beside the same search in plain Rust.
 // Both must give the same answer and the same kept zones; a ratio fails nothing.
+mod automata;
 mod cards;
 mod literal;
 mod plain;
 
 use cards::{heavy, wheel, Heavy};
-use literal::Search;
+use literal::{slot_length, Search};
 use std::hint::black_box;
 use std::time::Instant;
 
@@ -54,26 +55,14 @@ fn proved(card: &[u8], store: &mut [i32]) -> [u64; 5] {
     reply
 }
 
-fn slot_length(card: &[u8]) -> usize {
-    let size = card[5] as usize + 1;
-    1 + 2 * size * size
-}
-
 fn literal(case: &Case) -> Search<'_> {
     Search::of(&case.card, case.store / slot_length(&case.card))
 }
 
 // The store that the kept zones make.
-fn stored(case: &Case, kept: &Search) -> Vec<i32> {
-    let size = case.card[5] as usize + 1;
-    let mut store = vec![];
-    for (location, zone) in &kept.kept {
-        store.push(*location as i32);
-        for at in (0..size * 9).filter(|at| at % 9 < size) {
-            store.extend([zone[at].m as i32, zone[at].p as i32]);
-        }
-    }
-    store.resize(case.store, UNTOUCHED);
+fn stored(case: &Case, search: &Search) -> Vec<i32> {
+    let mut store = vec![UNTOUCHED; case.store];
+    search.store(&mut store);
     store
 }
 

@@ -1,6 +1,6 @@
 -- The same bytes are equal lists.
 -- Assumes nothing.
-use Prim.Native.Nat.{ℕ, _-_, _<_, _≤_}
+use Prim.Native.Nat.{ℕ, _+_, _-_, _<_, _≤_}
 use mathlib.Core.Bool.{Bool, true, false, cond}
 use mathlib.Core.List.{List, [], _∷_}
 use mathlib.Core.Path.{_≡_, refl, sym, ap, _∙_, subst}
@@ -35,10 +35,24 @@ differ-same a b h = go (sameBytes a b) refl
     go true e = absurd (h (same-equal a b e))
     go false e = e
 
-pub agree-same : (a b : List ℕ) → length a ≡ length b → ((j : ℕ) → j < length a → getD a j 0 ≡ getD b j 0) → sameBytes a b ≡ true
-agree-same a b e h = ap (sameBytes a) (sym (ext-getD 0 a b e h)) ∙ equal-same a
+-- ---- compared from both ends: the bytes agree below i and from j on
+pub record Outer (a b : List ℕ) (i j : ℕ) : Type 0 where
+  pub size : length a ≡ length b
+  pub front : (k : ℕ) → k < i → getD a k 0 ≡ getD b k 0
+  pub back : (k : ℕ) → j ≤ k → k < length a → getD a k 0 ≡ getD b k 0
 
--- where they agree from i on, and just before i
-pub one-more : (a b : List ℕ) (i : ℕ) → getD a (i - 1) 0 ≡ getD b (i - 1) 0 → ((j : ℕ) → i ≤ j → j < length a → getD a j 0 ≡ getD b j 0)
-    → (j : ℕ) → i - 1 ≤ j → j < length a → getD a j 0 ≡ getD b j 0
-one-more a b i e h j l m = elim (decLe i j) [ yes g ↦ h j g m | no g ↦ subst (λ (k : ℕ). getD a k 0 ≡ getD b k 0) (omega arith) e ]
+pub outer-start : (a b : List ℕ) → length a ≡ length b → Outer a b 0 (length a)
+outer-start a b e = record { size = e; front = λ k h. absurd (omega arith); back = λ k h g. absurd (omega arith) }
+
+pub outer-turn : (a b : List ℕ) (i j : ℕ) → Outer a b i j → getD a i 0 ≡ getD b i 0 → getD a (j - 1) 0 ≡ getD b (j - 1) 0 → Outer a b (i + 1) (j - 1)
+outer-turn a b i j o e g = record {
+  size = o .size;
+  front = λ k h. elim (decLe i k) [ yes l ↦ subst Same-at (omega arith) e | no l ↦ o .front k (omega arith) ];
+  back = λ k h m. elim (decLe j k) [ yes l ↦ o .back k l m | no l ↦ subst Same-at (omega arith) g ];
+}
+  where
+    Same-at : ℕ → Type 0
+    Same-at k = getD a k 0 ≡ getD b k 0
+
+pub outer-same : (a b : List ℕ) (i j : ℕ) → Outer a b i j → j ≤ i → sameBytes a b ≡ true
+outer-same a b i j o h = ap (sameBytes a) (sym (ext-getD 0 a b (o .size) (λ k l. elim (decLe j k) [ yes g ↦ o .back k g l | no g ↦ o .front k (omega arith) ]))) ∙ equal-same a

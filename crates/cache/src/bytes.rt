@@ -39,19 +39,24 @@ pub fn bytes_of(x: u32) -> [u8; 4]
     ]
 }
 
-// Whether two strings of bytes are the same. From the end, since automata share long beginnings.
+// Whether two strings of bytes are the same: from both ends, since automata share long beginnings or ends.
 pub fn same(a: &[u8], b: &[u8]) -> bool
     ensures { λ r. ⌜ r ≡ sameBytes (now (a .entry)) (now (b .entry)) ⌝ }
 {
     if a.len() != b.len() {
         return false;
     }
-    let mut i = a.len();
-    while 0 < i {
-        i -= 1;
+    let mut i = 0;
+    let mut j = a.len();
+    while i < j {
+        j -= 1;
         if a[i] != b[i] {
             return false;
         }
+        if a[j] != b[j] {
+            return false;
+        }
+        i += 1;
     }
     true
 }

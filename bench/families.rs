@@ -1,0 +1,87 @@
+// The automata of a cache: families of one automaton each, whose members differ in one number or two.
+use crate::automata::{begun, join, Draws, Edge, NO_UPPER};
+
+pub const MEMBERS: usize = 10;
+const SCALE: u32 = 1_000_000;
+// Every lo is at least this, but for the one that tells the members of a family apart.
+const LEAST: u32 = 1_000;
+
+pub struct Shape {
+    pub clocks: u8,
+    pub locations: u8,
+    pub edges: u16,
+}
+
+// 19 bytes, and 21,259.
+pub const SMALLEST: Shape = Shape { clocks: 1, locations: 1, edges: 0 };
+pub const LARGEST: Shape = Shape { clocks: 8, locations: 64, edges: 256 };
+
+// Of any size, the small more often.
+pub fn any(draws: &mut Draws) -> Shape {
+    let mut fewer = |bound| draws.below(bound).min(draws.below(bound));
+    let (locations, edges) = (1 + fewer(64) as u8, fewer(257) as u16);
+    Shape { clocks: 1 + draws.below(8) as u8, locations, edges }
+}
+
+pub fn small(draws: &mut Draws) -> Shape {
+    let mut from = |least, bound| least + draws.below(bound);
+    Shape { clocks: from(1, 3) as u8, locations: from(2, 6) as u8, edges: from(1, 24) as u16 }
+}
+
+// Which bytes the members of a family share.
+#[derive(Clone, Copy, PartialEq)]
+pub enum Shared {
+    Beginnings,
+    Ends,
+}
+
+pub fn family(draws: &mut Draws, shape: &Shape, shared: Shared) -> Vec<Vec<u8>> {
+    let automaton = drawn(draws, shape);
+    let mut members = vec![];
+    for number in 0..MEMBERS as u32 {
+        let at = place(draws, shape, shared);
+        let mut member = automaton.clone();
+        member[at..at + 4].copy_from_slice(&number.to_be_bytes());
+        members.push(member);
+    }
+    members
+}
+
+// A drawn clock's lo: of the guard of one of the last quarter of the edges, or of the first location's invariant.
+fn place(draws: &mut Draws, s: &Shape, shared: Shared) -> usize {
+    let limits = 8 * s.clocks as usize;
+    let lo = 8 * draws.below(s.clocks as u32) as usize;
+    if shared == Shared::Ends {
+        return 11 + lo;
+    }
+    if s.edges == 0 {
+        return 11 + limits * (s.locations as usize - 1) + lo;
+    }
+    let edges = s.edges as u32;
+    let edge = (edges - 1 - draws.below((edges + 3) / 4)) as usize;
+    11 + limits * s.locations as usize + edge * (3 + limits) + 3 + lo
+}
+
+fn drawn(draws: &mut Draws, s: &Shape) -> Vec<u8> {
+    let invariants: Vec<_> = (0..s.locations).map(|_| limits(draws, s.clocks, 0)).collect();
+    let lent: Vec<_> = invariants.iter().map(|i| &i[..]).collect();
+    let mut automaton = begun(s.clocks, &lent, s.edges);
+    for _ in 0..s.edges {
+        let mut location = || draws.below(s.locations as u32) as u8;
+        let (from, to) = (location(), location());
+        let resets = draws.below(1 << s.clocks) as u8;
+        let guard = limits(draws, s.clocks, 25);
+        join(&mut automaton, Edge { from, to, resets, guard: &guard });
+    }
+    automaton
+}
+
+// For each clock a lo and a hi; so many of a hundred have no upper limit.
+fn limits(draws: &mut Draws, clocks: u8, open: u32) -> Vec<(u32, u32)> {
+    let mut limit = || {
+        let lo = LEAST + draws.below(SCALE - LEAST + 1);
+        let hi = draws.below(SCALE + 1);
+        (lo, if draws.below(100) < open { NO_UPPER } else { hi })
+    };
+    (0..clocks).map(|_| limit()).collect()
+}

@@ -1,0 +1,2 @@
+-- An answer told in numbers.
+pub mod Telling

@@ -1,0 +1,2 @@
+-- The answers as numbers.
+pub mod Replies

@@ -1,0 +1,49 @@
+//! Holds the proved library's cache, document 01's shelf, to a second one: every reply, every byte
+//! of the cache, every number of the store, and what lies around them. A used length that needs
+//! more than four bytes is left out, since it takes 4 GiB. The last line is 'N passed, M failed'.
+
+mod automata;
+mod calls;
+#[allow(dead_code)]
+#[path = "../search/draft.rs"]
+mod draft;
+mod grown;
+mod oracle;
+mod order;
+mod random;
+#[path = "../search/oracle.rs"]
+mod search;
+#[path = "../search/table.rs"]
+mod table;
+mod tally;
+mod unsound;
+
+use std::process::exit;
+use tally::Tally;
+
+fn main() {
+    let mut tally = Tally::default();
+    let parts: [fn(&mut Tally); 15] = [
+        order::layout,
+        order::empty,
+        order::room,
+        order::full,
+        order::order,
+        unsound::singly,
+        unsound::cut,
+        unsound::every_byte,
+        random::damage,
+        random::noise,
+        grown::large,
+        grown::narrow,
+        grown::shared_beginnings,
+        grown::past_three_bytes,
+        grown::piled_up,
+    ];
+    for part in parts {
+        part(&mut tally);
+    }
+    tally.sum_up();
+    println!("{} passed, {} failed", tally.passed, tally.failed);
+    exit(i32::from(tally.failed > 0));
+}

@@ -1,0 +1,235 @@
+//! Caches grown from empty by nothing but consulting.
+
+use crate::automata::{self, slot};
+use crate::calls::{random_bytes, Call, Lent};
+use crate::draft::{Dice, Draft};
+use crate::oracle::Cache;
+use crate::tally::Tally;
+use crate::unsound::record;
+use std::collections::BTreeMap;
+
+fn used(cache: &[u8]) -> usize {
+    u32::from_be_bytes([0, 1, 2, 3].map(|i| cache[i])) as usize
+}
+
+struct Grown {
+    cache: Vec<u8>,
+    /// What the first answer for an automaton was: kind, n, d, zones.
+    filed: BTreeMap<Vec<u8>, [u64; 4]>,
+}
+
+impl Grown {
+    fn empty(tally: &mut Tally, dice: &mut Dice, what: &str, lent: usize) -> Grown {
+        let before = random_bytes(dice, lent);
+        let before = Lent::new(dice, &before, &[], 0);
+        Grown {
+            cache: tally.must(what, Call::MakeEmpty, &before, 0).lent.cache,
+            filed: BTreeMap::new(),
+        }
+    }
+
+    /// Beside the comparison, what document 01 says of any consulting, without a second cache.
+    fn consult(&mut self, tally: &mut Tally, what: &str, before: &Lent) {
+        let left = tally.call(what, Call::Consult, before);
+        let after = left.lent;
+        let automaton = &before.automaton;
+        let same_cache = after.cache == before.cache;
+        let lawful = match (left.reply, self.filed.get(automaton)) {
+            (0, Some(verdict)) => {
+                *verdict == after.verdict() && same_cache && after.store == before.store
+            }
+            (0, None) => used(&after.cache) == used(&before.cache) + 17 + automaton.len(),
+            (9, filed) | (10, filed) => same_cache && filed.is_none(),
+            (_, filed) => same_cache && after.store == before.store && filed.is_none(),
+        };
+        tally.check(lawful, || {
+            format!("{}: reply {} against 01", what, left.reply)
+        });
+        if left.reply == 0 {
+            self.filed.insert(automaton.clone(), after.verdict());
+        }
+        self.cache = after.cache;
+    }
+
+    fn look_up(&self, tally: &mut Tally, dice: &mut Dice, what: &str, automaton: &[u8]) {
+        let before = Lent::new(dice, &self.cache, automaton, 0);
+        let after = tally.must(what, Call::LookUp, &before, 0).lent;
+        let filed = self.filed.get(automaton);
+        let found = filed.map_or(after.numbers[0] == 0, |verdict| {
+            after.numbers[0] == 1 && *verdict == after.verdict()
+        });
+        tally.check(found, || format!("{}: not what was filed", what));
+    }
+}
+
+const STORES: [usize; 9] = [0, 0, 8, 9, 40, 163, 800, 3_000, 6_000];
+
+/// A cache with room for all, with automata of every kind, each consulted several times.
+pub fn large(tally: &mut Tally) {
+    let mut dice = Dice::new(11);
+    let automata = automata::accepted(&mut dice, 130);
+    let refused = automata::refused();
+    let mut grown = Grown::empty(tally, &mut dice, "a large cache", 120_000);
+    for turn in 0..700 {
+        let what = format!("a large cache, turn {}", turn);
+        let automaton = if dice.chance(10) {
+            &refused[dice.range(0, refused.len() as u32 - 1) as usize].1
+        } else {
+            &automata[dice.range(0, automata.len() as u32 - 1) as usize]
+        };
+        let store = dice.pick(&STORES);
+        let before = Lent::new(&mut dice, &grown.cache, automaton, store);
+        grown.consult(tally, &what, &before);
+        tally.call(&what, Call::Refusal, &before);
+        if turn % 20 == 0 {
+            tally.must(&what, Call::Sound, &before, 0);
+        }
+    }
+    for (turn, automaton) in automata.iter().enumerate() {
+        let what = format!("a large cache in the end, automaton {}", turn);
+        grown.look_up(tally, &mut dice, &what, automaton);
+    }
+    every_store(tally, &mut dice, &grown);
+}
+
+/// The filed verdict is the search's at every store that lets the search finish, and no smaller
+/// store does.
+fn every_store(tally: &mut Tally, dice: &mut Dice, grown: &Grown) {
+    for (turn, (automaton, verdict)) in grown.filed.iter().enumerate() {
+        let what = format!("filed automaton {} with a store of its own", turn);
+        let exact = verdict[3] as usize * slot(automaton);
+        for store in [exact, exact + 1, exact + 50 * slot(automaton)] {
+            let before = Lent::new(dice, &grown.cache, automaton, store);
+            let found = tally.must(&what, Call::Search, &before, 0).lent.verdict();
+            tally.check(found == *verdict, || format!("{}: {:?}", what, found));
+        }
+        let mut empty = Grown::empty(tally, dice, &what, 17 + automaton.len() + 5);
+        if exact > 0 {
+            let before = Lent::new(dice, &empty.cache, automaton, exact - 1);
+            tally.must(&what, Call::Search, &before, 10);
+            empty.consult(tally, &what, &before);
+        }
+        let before = Lent::new(dice, &empty.cache, automaton, exact);
+        empty.consult(tally, &what, &before);
+        let same = empty.filed.get(automaton) == Some(verdict);
+        tally.check(same, || format!("{}: another verdict is filed", what));
+        // The cache is full now; a store isn't needed any more.
+        let before = Lent::new(dice, &empty.cache, automaton, 0);
+        empty.consult(tally, &what, &before);
+    }
+}
+
+/// Caches that become full, so that 12 comes between answers.
+pub fn narrow(tally: &mut Tally) {
+    for seed in 100..140 {
+        let mut dice = Dice::new(seed);
+        let mut automata = automata::accepted(&mut dice, 20);
+        automata.retain(|automaton| automaton.len() < 500);
+        let room = dice.range(5, 1_500) as usize;
+        let title = format!("a narrow cache, seed {}", seed);
+        let mut grown = Grown::empty(tally, &mut dice, &title, room);
+        for turn in 0..40 {
+            let what = format!("{}, turn {}", title, turn);
+            let automaton = &automata[dice.range(0, automata.len() as u32 - 1) as usize];
+            let store = dice.pick(&STORES[..7]);
+            let before = Lent::new(&mut dice, &grown.cache, automaton, store);
+            grown.consult(tally, &what, &before);
+            grown.look_up(tally, &mut dice, &what, automaton);
+        }
+    }
+}
+
+/// Automata that are alike up to the last byte, or but for one of the first fields.
+fn alike(clocks: usize) -> Vec<Vec<u8>> {
+    let full = || automata::long(clocks, 255, (3, 500));
+    let changes: [fn(&mut Draft); 8] = [
+        |_| (),
+        |d| d.edges[255].guard.last_mut().expect("a clock").1 = 501,
+        |d| d.edges[255].reset = 0,
+        |d| d.edges[255].to = 2,
+        |d| d.edges[254].to = 2,
+        |d| d.start = 1,
+        |d| d.target = 1,
+        |d| d.invariants[0][0].0 = 1,
+    ];
+    let mut all = vec![
+        automata::long(clocks, 254, (3, 500)).bytes(),
+        automata::long(clocks, 254, (3, 600)).bytes(),
+    ];
+    for change in changes {
+        let mut draft = full();
+        change(&mut draft);
+        all.push(draft.bytes());
+    }
+    all
+}
+
+/// Only automata that differ late, or early and at equal length, tell a whole comparison from one
+/// of lengths or of some bytes.
+pub fn shared_beginnings(tally: &mut Tally) {
+    for clocks in [1, 8] {
+        let mut dice = Dice::new(21 + clocks as u64);
+        let automata = alike(clocks);
+        let title = format!("shared beginnings, {} clocks", clocks);
+        let room = automata
+            .iter()
+            .map(|automaton| 17 + automaton.len())
+            .sum::<usize>();
+        let mut grown = Grown::empty(tally, &mut dice, &title, 5 + room);
+        for (turn, automaton) in automata.iter().enumerate() {
+            let what = format!("{}, turn {}", title, turn);
+            let before = Lent::new(&mut dice, &grown.cache, automaton, 2_000);
+            grown.consult(tally, &what, &before);
+            for other in &automata {
+                grown.look_up(tally, &mut dice, &what, other);
+            }
+        }
+        let filed = grown.filed.len();
+        tally.check(filed == automata.len(), || {
+            format!("{}: {} filed", title, filed)
+        });
+    }
+}
+
+/// 9, in a search and in a consultation: the store has all zones kept before it, the cache stands.
+pub fn piled_up(tally: &mut Tally) {
+    let mut dice = Dice::new(31);
+    let automaton = automata::wheel();
+    let mut grown = Grown::empty(tally, &mut dice, "9", 5_000);
+    let filed = Lent::new(&mut dice, &grown.cache, &automata::named("A"), 9);
+    grown.consult(tally, "9, before it", &filed);
+    let before = Lent::new(&mut dice, &grown.cache, &automaton, 65_535 * 19 + 1);
+    tally.must("9", Call::Search, &before, 9);
+    tally.must("9", Call::Consult, &before, 9);
+    let before = Lent::new(&mut dice, &grown.cache[..60], &automaton, 65_535 * 19);
+    tally.must("9 without room", Call::Consult, &before, 12);
+}
+
+/// A used length that comes to need its first byte, once written and once read.
+pub fn past_three_bytes(tally: &mut Tally) {
+    let mut dice = Dice::new(141);
+    let largest = automata::named("largest");
+    let turned = |turn: usize| {
+        let mut automaton = largest.clone();
+        automaton[16..18].copy_from_slice(&(turn as u16).to_be_bytes());
+        automaton
+    };
+    let count = (1 << 24) / (17 + largest.len());
+    let records = (0..count).map(|turn| record(&turned(turn), 0, 0, 0, 63));
+    let cache = Cache {
+        records: records.collect(),
+    };
+    let mut lent = cache.bytes();
+    lent.resize((1 << 24) + 30_000, 7);
+    let before = Lent::new(&mut dice, &lent, &turned(count), 63 * slot(&largest));
+    let left = tally
+        .must("past three bytes", Call::Consult, &before, 0)
+        .lent;
+    let first = left.cache[0];
+    tally.check(before.cache[0] == 0 && first == 1, || {
+        format!("past three bytes: {}", first)
+    });
+    tally.must("past three bytes, again", Call::Consult, &left, 0);
+    let before = Lent::new(&mut dice, &left.cache, &turned(count + 1), 9);
+    tally.must("past three bytes, full", Call::Consult, &before, 12);
+}

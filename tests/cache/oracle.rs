@@ -1,0 +1,198 @@
+//! A second cache, document 01's shelf, written from that document alone, to hold the proved one
+//! against. It copies every record out; to file a verdict it writes the whole used part anew.
+
+use crate::search::{self, Outcome};
+use std::collections::BTreeSet;
+
+const BAD: u32 = 11;
+const FULL: u32 = 12;
+const VERSION: u8 = 1;
+const HEADER: usize = 5;
+
+#[derive(Clone, Copy, PartialEq, Eq, Debug)]
+pub struct Verdict {
+    pub kind: u8,
+    pub n: u32,
+    pub d: u32,
+    pub zones: u32,
+}
+
+#[derive(Clone)]
+pub struct Record {
+    pub verdict: Verdict,
+    pub automaton: Vec<u8>,
+}
+
+#[derive(Clone, Default)]
+pub struct Cache {
+    pub records: Vec<Record>,
+}
+
+/// The next bytes of what is left, unless it is too short.
+fn take<'a>(left: &mut &'a [u8], count: usize) -> Option<&'a [u8]> {
+    let first = left.get(..count)?;
+    *left = &left[count..];
+    Some(first)
+}
+
+fn number(left: &mut &[u8]) -> Option<u32> {
+    let bytes = take(left, 4)?;
+    Some(bytes.iter().fold(0, |n, &b| n << 8 | u32::from(b)))
+}
+
+fn common(a: u32, b: u32) -> u32 {
+    if b == 0 {
+        a
+    } else {
+        common(b, a % b)
+    }
+}
+
+impl Verdict {
+    fn lawful(&self) -> bool {
+        match self.kind {
+            0 => self.n == 0 && self.d == 0,
+            1 => self.n >= 1 && (self.d > 0 || self.n == 1) && common(self.n, self.d) == 1,
+            _ => false,
+        }
+    }
+
+    fn of(outcome: Outcome) -> Result<Verdict, u32> {
+        let (kind, n, d, zones) = match outcome {
+            Outcome::Reached { zones } => (0, 0, 0, zones),
+            Outcome::Holds { n, d, zones } => (1, n, d, zones),
+            Outcome::HoldsAny { zones } => (1, 1, 0, zones),
+            Outcome::Refused(number) => return Err(u32::from(number)),
+        };
+        let four = |number: i64| u32::try_from(number).expect("a verdict's number has four bytes");
+        Ok(Verdict {
+            kind,
+            n: four(n),
+            d: four(d),
+            zones: four(zones as i64),
+        })
+    }
+}
+
+impl Record {
+    /// The record that begins here, be it lawful or not.
+    fn read(left: &mut &[u8]) -> Option<Record> {
+        let length = number(left)? as usize;
+        let mut body = take(left, length.checked_sub(4)?)?;
+        let verdict = Verdict {
+            kind: take(&mut body, 1)?[0],
+            n: number(&mut body)?,
+            d: number(&mut body)?,
+            zones: number(&mut body)?,
+        };
+        Some(Record {
+            verdict,
+            automaton: body.to_vec(),
+        })
+    }
+
+    pub fn length(&self) -> usize {
+        17 + self.automaton.len()
+    }
+
+    fn bytes(&self) -> Vec<u8> {
+        let mut bytes = (self.length() as u32).to_be_bytes().to_vec();
+        bytes.push(self.verdict.kind);
+        for number in [self.verdict.n, self.verdict.d, self.verdict.zones] {
+            bytes.extend(number.to_be_bytes());
+        }
+        bytes.extend(&self.automaton);
+        bytes
+    }
+}
+
+impl Cache {
+    /// None is an unsound cache.
+    fn read(lent: &[u8]) -> Option<Cache> {
+        let used = number(&mut &lent[..])? as usize;
+        let mut left = lent.get(..used)?;
+        if take(&mut left, HEADER)?[4] != VERSION {
+            return None;
+        }
+        let mut cache = Cache::default();
+        while !left.is_empty() {
+            cache.records.push(Record::read(&mut left)?);
+        }
+        if cache.lawful() {
+            Some(cache)
+        } else {
+            None
+        }
+    }
+
+    fn lawful(&self) -> bool {
+        let automata: BTreeSet<&[u8]> = self.records.iter().map(|r| &r.automaton[..]).collect();
+        automata.len() == self.records.len()
+            && automata.iter().all(|a| refusal(a).is_ok())
+            && self.records.iter().all(|r| r.verdict.lawful())
+    }
+
+    fn filed(&self, automaton: &[u8]) -> Option<Verdict> {
+        let record = self.records.iter().find(|r| r.automaton == automaton)?;
+        Some(record.verdict)
+    }
+
+    pub fn length(&self) -> usize {
+        HEADER + self.records.iter().map(Record::length).sum::<usize>()
+    }
+
+    /// The used part. Nothing asks here whether the records are lawful.
+    pub fn bytes(&self) -> Vec<u8> {
+        let used = u32::try_from(self.length()).expect("a used length has four bytes");
+        let mut bytes = used.to_be_bytes().to_vec();
+        bytes.push(VERSION);
+        bytes.extend(self.records.iter().flat_map(Record::bytes));
+        bytes
+    }
+}
+
+/// Refusals 1 to 8. The search judges them first, and without a store it ends at its first zone.
+pub fn refusal(automaton: &[u8]) -> Result<(), u32> {
+    match search::search(automaton, &mut []) {
+        Outcome::Refused(number) if number <= 8 => Err(u32::from(number)),
+        _ => Ok(()),
+    }
+}
+
+pub fn searched(automaton: &[u8], store: &mut [i32]) -> Result<Verdict, u32> {
+    Verdict::of(search::search(automaton, store))
+}
+
+pub fn make_empty(lent: &mut [u8]) -> Result<(), u32> {
+    let empty = Cache::default().bytes();
+    lent.get_mut(..HEADER).ok_or(FULL)?.copy_from_slice(&empty);
+    Ok(())
+}
+
+pub fn sound(lent: &[u8]) -> Result<(), u32> {
+    Cache::read(lent).map(|_| ()).ok_or(BAD)
+}
+
+pub fn look_up(lent: &[u8], automaton: &[u8]) -> Result<Option<Verdict>, u32> {
+    refusal(automaton)?;
+    Ok(Cache::read(lent).ok_or(BAD)?.filed(automaton))
+}
+
+pub fn consult(lent: &mut [u8], automaton: &[u8], store: &mut [i32]) -> Result<Verdict, u32> {
+    if let Some(verdict) = look_up(lent, automaton)? {
+        return Ok(verdict);
+    }
+    let mut cache = Cache::read(lent).ok_or(BAD)?;
+    let length = cache.length() + 17 + automaton.len();
+    // Lengths past four bytes are not run: such a cache would take 4 GiB.
+    if length > lent.len() || u32::try_from(length).is_err() {
+        return Err(FULL);
+    }
+    let verdict = searched(automaton, store)?;
+    cache.records.push(Record {
+        verdict,
+        automaton: automaton.to_vec(),
+    });
+    lent[..length].copy_from_slice(&cache.bytes());
+    Ok(verdict)
+}

@@ -1,0 +1,152 @@
+//! What was compared, what failed, and which replies were met.
+
+use crate::calls::{self, Call, Lent};
+use std::collections::BTreeMap;
+
+const MOST_PRINTED: usize = 20;
+/// A comparison in which a reply hardly occurs would say little about it.
+const LEAST: usize = 20;
+
+#[derive(Default)]
+pub struct Tally {
+    pub passed: usize,
+    pub failed: usize,
+    met: BTreeMap<String, usize>,
+}
+
+/// What a call must leave.
+pub struct Left {
+    pub reply: u32,
+    pub lent: Lent,
+}
+
+fn hex(bytes: &[u8]) -> String {
+    let first: String = bytes
+        .iter()
+        .take(80)
+        .map(|b| format!("{:02x}", b))
+        .collect();
+    let more = if bytes.len() > 80 { ".." } else { "" };
+    format!("{}{} ({} bytes)", first, more, bytes.len())
+}
+
+/// The first place in which two parts differ.
+fn first_difference<T: PartialEq>(got: &[T], expected: &[T]) -> Option<usize> {
+    (0..expected.len()).find(|&i| got.get(i) != Some(&expected[i]))
+}
+
+fn difference(before: &Lent, got: Option<u32>, ours: &Lent, left: &Left) -> String {
+    format!(
+        "reply {:?}, not {}; numbers {:?}, not {:?}; the cache differs at {:?}, the store of {} at \
+         {:?}\n  cache {}\n  automaton {}",
+        got,
+        left.reply,
+        ours.numbers,
+        left.lent.numbers,
+        first_difference(&ours.cache, &left.lent.cache),
+        before.store.len(),
+        first_difference(&ours.store, &left.lent.store),
+        hex(&before.cache),
+        hex(&before.automaton)
+    )
+}
+
+fn kind([kind, _, d, _]: [u64; 4]) -> &'static str {
+    match (kind, d) {
+        (0, _) => "reached",
+        (_, 0) => "any error",
+        _ => "n/d",
+    }
+}
+
+/// The call with its reply; of an answer also its kind, and whether it was filed before.
+fn label(call: Call, before: &Lent, left: &Left) -> String {
+    let verdict = kind(left.lent.verdict());
+    match (call, left.reply) {
+        (Call::Search, 0) => format!("Search {}", verdict),
+        (Call::LookUp, 0) if left.lent.numbers[0] == 0 => "LookUp not there".into(),
+        (Call::LookUp, 0) => format!("LookUp {}", verdict),
+        (Call::Consult, 0) if left.lent.cache == before.cache => {
+            format!("Consult filed {}", verdict)
+        }
+        (Call::Consult, 0) => format!("Consult searched {}", verdict),
+        (_, reply) => format!("{:?} {}", call, reply),
+    }
+}
+
+/// Every label that the comparison has to meet.
+fn possible() -> Vec<String> {
+    let mut labels: Vec<String> = vec!["LookUp not there".into()];
+    for verdict in ["reached", "n/d", "any error"] {
+        for call in ["Search", "LookUp", "Consult filed", "Consult searched"] {
+            labels.push(format!("{} {}", call, verdict));
+        }
+    }
+    let numbers: [(Call, &[u32]); 6] = [
+        (Call::Refusal, &[0, 1, 2, 3, 4, 5, 6, 7, 8]),
+        (Call::Search, &[1, 2, 3, 4, 5, 6, 7, 8, 9, 10]),
+        (Call::MakeEmpty, &[0, 12]),
+        (Call::Sound, &[0, 11]),
+        (Call::LookUp, &[1, 2, 3, 4, 5, 6, 7, 8, 11]),
+        (Call::Consult, &[1, 2, 3, 4, 5, 6, 7, 8, 9, 10, 11, 12]),
+    ];
+    for (call, replies) in numbers {
+        labels.extend(replies.iter().map(|reply| format!("{:?} {}", call, reply)));
+    }
+    labels
+}
+
+impl Tally {
+    pub fn check(&mut self, ok: bool, otherwise: impl Fn() -> String) {
+        if ok {
+            self.passed += 1;
+            return;
+        }
+        self.failed += 1;
+        if self.failed <= MOST_PRINTED {
+            println!("FAILED {}", otherwise());
+        }
+    }
+
+    /// Makes a call on both sides and compares all that they leave. Gives back the second cache's
+    /// side, so that what follows does not build on a failure.
+    pub fn call(&mut self, what: &str, call: Call, before: &Lent) -> Left {
+        let (mut ours, mut lent) = (before.clone(), before.clone());
+        let reply = calls::expected(call, &mut lent);
+        let got = calls::proved(call, &mut ours);
+        let left = Left { reply, lent };
+        *self.met.entry(label(call, before, &left)).or_default() += 1;
+        self.check(got == Some(reply) && ours == left.lent, || {
+            format!(
+                "{}, {:?}: {}",
+                what,
+                call,
+                difference(before, got, &ours, &left)
+            )
+        });
+        left
+    }
+
+    /// The same where the test knows the reply without the second cache.
+    pub fn must(&mut self, what: &str, call: Call, before: &Lent, reply: u32) -> Left {
+        let left = self.call(what, call, before);
+        self.check(left.reply == reply, || {
+            format!(
+                "{}, {:?}: the second cache replies {}, not {}",
+                what, call, left.reply, reply
+            )
+        });
+        left
+    }
+
+    pub fn sum_up(&mut self) {
+        let calls: usize = self.met.values().sum();
+        println!("{} calls: {:?}", calls, self.met);
+        for label in possible() {
+            let times = self.met.get(&label).copied().unwrap_or(0);
+            // Each 9 takes seconds, since 65,535 zones have to be kept before it.
+            let least = if label.ends_with(" 9") { 1 } else { LEAST };
+            self.check(times >= least, || format!("only {} times {}", times, label));
+        }
+    }
+}
