@@ -18,7 +18,7 @@ use Rattle.cache.specs.declared.lookup.Lookup.the-variants as lookup
 use Rattle.cache.specs.Records.{recordOf}
 use Rattle.cache.specs.Lookups.{lookUp, isAbsent}
 use Rattle.cache.specs.Caches.{recordsOf, sound}
-use Rattle.cache.specs.Consulting.{lookUpIn, full, appended, filing, answerTo, consultAnswer, searched, consultCache, consultStore}
+use Rattle.cache.specs.Consulting.{lookUpIn, full, appended, filing, ifRoom, answerTo, consultAnswer, searched, consultCache, consultStore}
 
 -- ---- a lookup that is not refused
 abbrev pub Says : Lookup → Type 0
@@ -106,9 +106,9 @@ module _ (c b : List ℕ) (e : lookUpIn c b ≡ lookup.Absent) where
     searched-store s = rw (consultStore, searched-true)
 
   pub absent-all : (amount : ℕ) (s : List ℤ)
-      → (consultAnswer c b amount ≡ cond (full c (17 + length b)) (Refused 12) (searchAnswer b amount))
-      × (consultCache c b amount ≡ cond (full c (17 + length b)) c (filing c b (searchAnswer b amount)))
-      × (consultStore c b s ≡ cond (full c (17 + length b)) s (searchStore b s))
+      → (consultAnswer c b amount ≡ ifRoom c b (searchAnswer b amount) (Refused 12))
+      × (consultCache c b amount ≡ ifRoom c b (filing c b (searchAnswer b amount)) c)
+      × (consultStore c b s ≡ ifRoom c b (searchStore b s) s)
   absent-all amount s = go (full c (17 + length b)) refl
     where
       go : (t : Bool) → full c (17 + length b) ≡ t

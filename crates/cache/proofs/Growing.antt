@@ -1,24 +1,28 @@
 -- A cache that has grown from empty is sound, and what it files is the search's: demand 3 holds of it, and it is the answer at every store size that lets the search finish.
 -- Assumes nothing.
-use Prim.Native.Nat.{ℕ}
-use mathlib.Core.Path.{_≡_, refl, sym, subst}
+use Prim.Native.Nat.{ℕ, _≤_}
+use mathlib.Core.Path.{_≡_, refl, sym, _∙_, subst}
 use mathlib.Core.Bool.{Bool, true, false, cond}
 use mathlib.Core.List.{List}
+use lib.IntN.{ℤ}
+use lib.ListN.{length}
 use Rattle.search.specs.declared.verdict.Answer.{Answer}
 use Rattle.search.specs.declared.verdict.Answer.the-variants.{Found, Refused}
 use Rattle.search.specs.declared.verdict.Verdict.{Verdict}
 use Rattle.search.specs.Demands.{Robust}
 use Rattle.search.specs.Given.{Lasting}
+use Rattle.search.specs.Verdicts.{searchAnswer, searchStore}
 use Rattle.search.proofs.Given.{promised}
 use Rattle.cache.specs.declared.lookup.Lookup.{Lookup}
 use Rattle.cache.specs.declared.lookup.Lookup.the-variants as lookup
 use Rattle.cache.specs.Bytes.{sameBytes}
 use Rattle.cache.specs.Lookups.{lookUp, isAbsent}
-use Rattle.cache.specs.Caches.{recordsOf, sound}
-use Rattle.cache.specs.Consulting.{consultAnswer, consultCache}
+use Rattle.cache.specs.Caches.{usedOf, recordsOf, sound}
+use Rattle.cache.specs.Consulting.{lookUpIn, filing, ifRoom, consultAnswer, consultCache, consultStore}
 use Rattle.cache.specs.Growing.{Grown, emptied, consulted, lent-again, Carried}
 use Rattle.cache.proofs.Same.{same-equal}
-use Rattle.cache.proofs.Consulting.{Way, told, turned-down, stopped, filed, way}
+use Rattle.cache.proofs.Sounding.{sound-facts}
+use Rattle.cache.proofs.Consulting.{asked, told-all, refused-all, absent-all, Way, told, turned-down, stopped, filed, way}
 use Rattle.cache.proofs.Filing.{empty-records, empty-sound, filed-there, sound-stays}
 use Rattle.cache.proofs.LentAgain.{lent-records, lent-sound}
 
@@ -88,6 +92,24 @@ carried c b amount = record {
   lasting = λ g v zones e. subst (Lasting b) (sym e) (subst (Lasts c b amount g) e (way-lasting c b amount g (way c b amount)));
 }
 
--- and of what comes to them
-pub carried-as : (c b : List ℕ) (amount : ℕ) {r : Answer} {c′ : List ℕ} → r ≡ consultAnswer c b amount → c′ ≡ consultCache c b amount → Carried c b r c′
-carried-as c b amount e g = rw (e, g) (carried c b amount)
+-- ---- `consult`: its contract, from what the lookup said
+module _ (c b : List ℕ) (s : List ℤ) where
+  abbrev Meets : Answer → List ℕ → List ℤ → Type 0
+  Meets r c′ s′ = (r ≡ consultAnswer c b (length s)) × ((c′ ≡ consultCache c b (length s)) × ((s′ ≡ consultStore c b s) × Carried c b r c′))
+
+  meets : {r : Answer} {c′ : List ℕ} {s′ : List ℤ} → r ≡ consultAnswer c b (length s) → c′ ≡ consultCache c b (length s) → s′ ≡ consultStore c b s → Meets r c′ s′
+  meets e g h = (e, (g, (h, rw (e, g) (carried c b (length s)))))
+
+  pub meets-told : {l : Lookup} (v : Verdict) (zones : ℕ) → l ≡ lookUpIn c b → l ≡ lookup.Filed v zones → Meets (Found v zones) c s
+  meets-told v zones e g = let q = told-all c b v zones (sym e ∙ g) (length s) s in meets (sym (q .0)) (sym (q .1)) (sym (q .2))
+
+  pub meets-refused : {l : Lookup} (k : ℕ) → l ≡ lookUpIn c b → l ≡ lookup.Refused k → Meets (Refused k) c s
+  meets-refused k e g = let q = refused-all c b k (sym e ∙ g) (length s) s in meets (sym (q .0)) (sym (q .1)) (sym (q .2))
+
+  pub meets-absent : {l : Lookup} {r : Answer} {c′ : List ℕ} {s′ : List ℤ} → l ≡ lookUpIn c b → l ≡ lookup.Absent
+      → r ≡ ifRoom c b (searchAnswer b (length s)) (Refused 12) → c′ ≡ ifRoom c b (filing c b (searchAnswer b (length s))) c → s′ ≡ ifRoom c b (searchStore b s) s → Meets r c′ s′
+  meets-absent e g x y z = let q = absent-all c b (sym e ∙ g) (length s) s in meets (x ∙ sym (q .0)) (y ∙ sym (q .1)) (z ∙ sym (q .2))
+
+-- ---- `search_and_file` is called on a sound cache
+pub absent-room : (c b : List ℕ) {l : Lookup} → l ≡ lookUpIn c b → l ≡ lookup.Absent → (5 ≤ usedOf c) × (usedOf c ≤ length c)
+absent-room c b e g = let f = sound-facts c (asked c b lookup.Absent (sym e ∙ g) tt .sound) in (f .least, f .most)

@@ -3,6 +3,7 @@ pub mod Same
 pub mod Splitting
 pub mod Reading
 pub mod Walking
+pub mod Distinct
 pub mod Turns
 pub mod Writing
 pub mod Asking
@@ -14,3 +15,4 @@ pub mod Consulting
 pub mod LentAgain
 pub mod Filing
 pub mod Growing
+pub mod Examples

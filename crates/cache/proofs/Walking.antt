@@ -15,8 +15,8 @@ use Rattle.cache.specs.declared.lookup.Lookup.{Lookup}
 use Rattle.cache.specs.declared.lookup.Lookup.the-variants.{Absent}
 use Rattle.cache.specs.Bytes.{sameBytes}
 use Rattle.cache.specs.Records.{measured, soundRecord, filedAs, recordAutomaton}
-use Rattle.cache.specs.Lookups.{lookUp, isAbsent}
-use Rattle.cache.specs.Caches.{recordsIn, total, allSound, soundRecords, distinct}
+use Rattle.cache.specs.Lookups.{lookUp}
+use Rattle.cache.specs.Caches.{recordsIn, total, allSound, soundRecords}
 use Rattle.cache.proofs.Splitting.{measured-le, measured-least, records-none, records-more}
 
 pub drop-take : (k m : ℕ) (l : List ℕ) → drop k (take m l) ≡ take (m - k) (drop k l)
@@ -70,13 +70,13 @@ module _ (s : List ℕ) (at : ℕ) {m : ℕ} (h : at ≤ length s) (e : m ≡ me
   least z = omega (arith, measure-here, measured-least (drop at s) (some z))
 
   -- the record and its automaton, as they are lent
-  abbrev here : List ℕ
+  abbrev pub here : List ℕ
   here = take m (drop at s)
 
   lent : take ((at + m) - at) (drop at s) ≡ here
   lent = let q : (at + m) - at ≡ m = omega arith in rw q
 
-  own : take ((at + m) - (at + 17)) (drop (at + 17) s) ≡ recordAutomaton here
+  pub own : take ((at + m) - (at + 17)) (drop (at + 17) s) ≡ recordAutomaton here
   own =
       let q : (at + m) - (at + 17) ≡ m - 17 = omega arith in
       rw (q, ← drop-drop 17 at s) (sym (drop-take 17 m (drop at s)))
@@ -87,10 +87,10 @@ module _ (s : List ℕ) (at : ℕ) {m : ℕ} (h : at ≤ length s) (e : m ≡ me
   left : drop (measured (drop at s)) (drop at s) ≡ drop (at + m) s
   left = ap (λ (k : ℕ). drop k (drop at s)) (sym measure-here) ∙ drop-drop m at s
 
-  none-here : m ≡ 0 → recordsIn (drop at s) ≡ []
+  pub none-here : m ≡ 0 → recordsIn (drop at s) ≡ []
   none-here z = records-none (drop at s) (sym measure-here ∙ z)
 
-  more-here : (m ≡ 0 → ⊥) → recordsIn (drop at s) ≡ here ∷ recordsIn (drop (at + m) s)
+  pub more-here : (m ≡ 0 → ⊥) → recordsIn (drop at s) ≡ here ∷ recordsIn (drop (at + m) s)
   more-here z = records-more (drop at s) (some z) ∙ (λ i. take (sym measure-here i) (drop at s) ∷ recordsIn (left i))
 
   -- ---- lookup
@@ -110,25 +110,6 @@ module _ (s : List ℕ) (at : ℕ) {m : ℕ} (h : at ≤ length s) (e : m ≡ me
       pub look-next : t ≡ false → lookUp (recordsIn (drop (at + m) s)) b ≡ lookUp (recordsIn (drop at s)) b
       unfolding lookUp
       look-next r = rw (more-here z, same-here, r) refl
-
-  -- ---- "no card twice"
-  pub distinct-none : m ≡ 0 → distinct (recordsIn (drop at s)) ≡ true
-  unfolding distinct
-  distinct-none z = rw (none-here z)
-
-  module _ (z : m ≡ 0 → ⊥) {t : Bool} (q : t ≡ isAbsent (lookUp (recordsIn (take (length s - (at + m)) (drop (at + m) s))) (take ((at + m) - (at + 17)) (drop (at + 17) s)))) where
-    absent-here : isAbsent (lookUp (recordsIn (drop (at + m) s)) (recordAutomaton here)) ≡ t
-    absent-here =
-        let all : take (length s - (at + m)) (drop (at + m) s) ≡ drop (at + m) s = take-all (length s - (at + m)) (drop (at + m) s) (omega (arith, length-drop (at + m) s)) in
-        sym (q ∙ (λ i. isAbsent (lookUp (recordsIn (all i)) (own i))))
-
-    pub distinct-next : t ≡ true → distinct (recordsIn (drop (at + m) s)) ≡ distinct (recordsIn (drop at s))
-    unfolding distinct
-    distinct-next r = rw (more-here z, absent-here, r) refl
-
-    pub distinct-twice : t ≡ false → false ≡ distinct (recordsIn (drop at s))
-    unfolding distinct
-    distinct-twice r = rw (more-here z, absent-here, r) refl
 
   -- ---- sound records
   pub sound-none : m ≡ 0 → at < length s → soundRecords (drop at s) ≡ false
@@ -153,13 +134,12 @@ module _ (s : List ℕ) (at : ℕ) (h : length s ≤ at) where
   nothing : measured (drop at s) ≡ 0
   nothing = omega (arith, measured-le (drop at s), length-drop at s)
 
+  pub none-left : recordsIn (drop at s) ≡ []
+  none-left = records-none (drop at s) nothing
+
   pub look-end : (b : List ℕ) → lookUp (recordsIn (drop at s)) b ≡ Absent
   unfolding lookUp
-  look-end b = rw (records-none (drop at s) nothing)
-
-  pub distinct-end : distinct (recordsIn (drop at s)) ≡ true
-  unfolding distinct
-  distinct-end = rw (records-none (drop at s) nothing)
+  look-end b = rw none-left
 
   pub sound-end : soundRecords (drop at s) ≡ true
   sound-end = none-sound (drop at s) nothing ∙ eq-eqb 0 (length (drop at s)) (omega (arith, length-drop at s))

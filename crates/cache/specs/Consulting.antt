@@ -1,7 +1,8 @@
 -- "Consulting: 1 to 8; 11; if the card's bytes are there, the filed verdict, nothing changed; 12; then the search, 9 and 10 included; a new record is written into the free tail of the lent shelf, the used length follows, other bytes stand."
-use Prim.Native.Nat.{ℕ, _+_, _-_}
+use Prim.Native.Nat.{ℕ, _+_, _-_, _≤_}
 use mathlib.Core.Bool.{Bool, true, false, not, cond, _&&_, _||_}
 use mathlib.Core.List.{List, [], _∷_, _++_}
+use mathlib.Core.Path.{_≡_}
 use lib.Dec.{ltb, eqb}
 use lib.IntN.{ℤ}
 use lib.ListN.{length, take, drop}
@@ -35,6 +36,13 @@ lookUpIn c b =
 unfoldable pub full : List ℕ → ℕ → Bool
 full c size = ltb (length c) (usedOf c + size) || ltb 4294967295 (usedOf c + size)
 
+-- a record of so many bytes has room behind the used ones
+pub record Room (c : List ℕ) (used size : ℕ) : Type 0 where
+  pub header : used ≡ usedOf c
+  pub least : 5 ≤ used
+  pub lent : used + size ≤ length c
+  pub bytes : used + size ≤ 4294967295
+
 -- the record r behind those that are there, and "the used length follows, other bytes stand"
 unfoldable pub appended : List ℕ → List ℕ → List ℕ
 appended c r = be32 (usedOf c + length r) ++ (take (usedOf c - 4) (drop 4 c) ++ (r ++ drop (usedOf c + length r) c))
@@ -44,6 +52,10 @@ filing c b (Found v zones) = appended c (recordOf v zones b)
 filing c b (Refused k) = c
 
 -- ---- consulting
+-- of an automaton that is not filed: what comes of the search, or of 12 where there is no room
+abbrev pub ifRoom : {X : Type 0} → List ℕ → List ℕ → X → X → X
+ifRoom c b searched twelve = cond (full c (17 + length b)) twelve searched
+
 -- the answer that a lookup gives, or `r` where the automaton is not there
 unfoldable pub answerTo : Lookup → Answer → Answer
 answerTo (lookup.Filed v zones) r = Found v zones
@@ -51,7 +63,7 @@ answerTo lookup.Absent r = r
 answerTo (lookup.Refused k) r = Refused k
 
 unfoldable pub consultAnswer : List ℕ → List ℕ → ℕ → Answer
-consultAnswer c b amount = answerTo (lookUpIn c b) (cond (full c (17 + length b)) (Refused 12) (searchAnswer b amount))
+consultAnswer c b amount = answerTo (lookUpIn c b) (ifRoom c b (searchAnswer b amount) (Refused 12))
 
 -- whether it comes to a search
 unfoldable pub searched : List ℕ → List ℕ → Bool

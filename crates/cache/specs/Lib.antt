@@ -5,3 +5,4 @@ pub mod Lookups
 pub mod Caches
 pub mod Consulting
 pub mod Growing
+pub mod Examples

@@ -8,6 +8,7 @@ use bytes::bytes_of;
 use bytes::copy;
 use bytes::number_at;
 use lookup::Lookup;
+use record::HEAD;
 use record::head;
 use record::write;
 use records::all_distinct;
@@ -18,7 +19,6 @@ use search::search;
 use search::verdict::Answer;
 use search::verdict::Verdict;
 ghost use mathlib.Core.Path.{_≡_};
-ghost use mathlib.Core.Bool.{cond};
 ghost use mathlib.Core.List.{_++_};
 ghost use Prim.Native.Nat.{_+_, _≤_};
 ghost use lib.ListN.{length};
@@ -26,7 +26,7 @@ ghost use Rattle.search.specs.declared.verdict.Answer.the-variants.{Refused};
 ghost use Rattle.search.specs.Given.{Given};
 ghost use Rattle.search.specs.Verdicts.{searchAnswer, searchStore};
 ghost use Rattle.cache.specs.Caches.{usedOf, sound};
-ghost use Rattle.cache.specs.Consulting.{makeEmptyReply, makeEmptyCache, lookUpIn, full, appended, filing, consultAnswer, consultCache, consultStore};
+ghost use Rattle.cache.specs.Consulting.{makeEmptyReply, makeEmptyCache, lookUpIn, Room, appended, ifRoom, filing, consultAnswer, consultCache, consultStore};
 ghost use Rattle.cache.specs.Growing.{Carried};
 
 const HEADER: usize = 5;
@@ -88,7 +88,7 @@ pub fn look_up(cache: &[u8], automaton: &[u8]) -> Lookup
 
 // A record behind those that are there: the free part is lent to its writer, then the used length follows.
 fn append(cache: &mut [u8], used: usize, head: &[u8], automaton: &[u8])
-    requires { ⌜ (used ≡ usedOf (now cache)) × (5 ≤ used) × (used + (length (now head) + length (now automaton)) ≤ length (now cache)) × (used + (length (now head) + length (now automaton)) ≤ 4294967295) ⌝ }
+    requires { ⌜ Room (now cache) used (length (now head) + length (now automaton)) ⌝ }
     ensures { λ _. ⌜ now (cache .exit) ≡ appended (now (cache .entry)) (now (head .entry) ++ now (automaton .entry)) ⌝ }
 {
     let next = used + (head.len() + automaton.len());
@@ -98,12 +98,13 @@ fn append(cache: &mut [u8], used: usize, head: &[u8], automaton: &[u8])
 
 // A verdict is filed, a refusal is not.
 fn file(cache: &mut [u8], used: usize, automaton: &[u8], answer: Answer)
-    requires { ⌜ (used ≡ usedOf (now cache)) × (5 ≤ used) × (used + (17 + length (now automaton)) ≤ length (now cache)) × (used + (17 + length (now automaton)) ≤ 4294967295) × Given (now automaton) answer ⌝ }
+    requires { ⌜ Room (now cache) used (17 + length (now automaton)) ⌝ }
+    requires { ⌜ Given (now automaton) answer ⌝ }
     ensures { λ _. ⌜ now (cache .exit) ≡ filing (now (cache .entry)) (now (automaton .entry)) answer ⌝ }
 {
     match answer {
         Answer::Found(v, zones) => {
-            let length = (17 + automaton.len()) as u32;
+            let length = (HEAD + automaton.len()) as u32;
             append(cache, used, &head(length, v, zones), automaton);
         }
         Answer::Refused(k) => {}
@@ -113,12 +114,12 @@ fn file(cache: &mut [u8], used: usize, automaton: &[u8], answer: Answer)
 // The search of an automaton that is not in the sound cache, its verdict filed.
 fn search_and_file(cache: &mut [u8], automaton: &[u8], store: &mut [i32]) -> Answer
     requires { ⌜ (5 ≤ usedOf (now cache)) × (usedOf (now cache) ≤ length (now cache)) ⌝ }
-    ensures { λ r. ⌜ r ≡ cond (full (now (cache .entry)) (17 + length (now (automaton .entry)))) (Refused 12) (searchAnswer (now (automaton .entry)) (length (now (store .entry)))) ⌝ }
-    ensures { λ r. ⌜ now (cache .exit) ≡ cond (full (now (cache .entry)) (17 + length (now (automaton .entry)))) (now (cache .entry)) (filing (now (cache .entry)) (now (automaton .entry)) (searchAnswer (now (automaton .entry)) (length (now (store .entry))))) ⌝ }
-    ensures { λ r. ⌜ now (store .exit) ≡ cond (full (now (cache .entry)) (17 + length (now (automaton .entry)))) (now (store .entry)) (searchStore (now (automaton .entry)) (now (store .entry))) ⌝ }
+    ensures { λ r. ⌜ r ≡ ifRoom (now (cache .entry)) (now (automaton .entry)) (searchAnswer (now (automaton .entry)) (length (now (store .entry)))) (Refused 12) ⌝ }
+    ensures { λ r. ⌜ now (cache .exit) ≡ ifRoom (now (cache .entry)) (now (automaton .entry)) (filing (now (cache .entry)) (now (automaton .entry)) (searchAnswer (now (automaton .entry)) (length (now (store .entry))))) (now (cache .entry)) ⌝ }
+    ensures { λ r. ⌜ now (store .exit) ≡ ifRoom (now (cache .entry)) (now (automaton .entry)) (searchStore (now (automaton .entry)) (now (store .entry))) (now (store .entry)) ⌝ }
 {
     let used = number_at(cache, 0) as usize;
-    let length = 17 + automaton.len();
+    let length = HEAD + automaton.len();
     if cache.len() - used < length {
         return Answer::Refused(12);
     }

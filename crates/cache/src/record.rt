@@ -17,7 +17,7 @@ ghost use Rattle.search.specs.Verdicts.{holdingOf, kindOf, termsOf};
 ghost use Rattle.cache.specs.Records.{measured, soundTerms, soundRecord, verdictAs, filedAs, headOf, Fits};
 
 // The bytes of a record before its automaton.
-const HEAD: usize = 17;
+pub const HEAD: usize = 17;
 
 const REACHED: u8 = 0;
 

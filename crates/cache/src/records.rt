@@ -1,12 +1,13 @@
 // The records of a cache, one after another.
 use crate::bytes::same;
 use crate::lookup::Lookup;
+use crate::record::HEAD;
 use crate::record::filed;
 use crate::record::measure;
 use crate::record::record_sound;
 ghost use mathlib.Core.Path.{_≡_};
 ghost use Rattle.cache.specs.Caches.{soundRecords, distinct, recordsIn};
-ghost use Rattle.cache.specs.Lookups.{lookUp, isAbsent};
+ghost use Rattle.cache.specs.Lookups.{lookUp, neitherFiled};
 
 // Whether sound records fill the bytes exactly.
 pub fn records_sound(bytes: &[u8]) -> bool
@@ -38,7 +39,7 @@ pub fn look_in(bytes: &[u8], automaton: &[u8]) -> Lookup
         if length == 0 {
             return Lookup::Absent;
         }
-        let own = at + 17;
+        let own = at + HEAD;
         let next = at + length;
         if same(&bytes[own..next], automaton) {
             return filed(&bytes[at..next]);
@@ -48,17 +49,30 @@ pub fn look_in(bytes: &[u8], automaton: &[u8]) -> Lookup
     Lookup::Absent
 }
 
-fn is_absent(bytes: &[u8], automaton: &[u8]) -> bool
-    ensures { λ r. ⌜ r ≡ isAbsent (lookUp (recordsIn (now (bytes .entry))) (now (automaton .entry))) ⌝ }
+// Whether neither of two automata stands in the records: one walk for both, since walking is what takes the time.
+fn neither_filed(bytes: &[u8], a: &[u8], b: &[u8]) -> bool
+    ensures { λ r. ⌜ r ≡ neitherFiled (recordsIn (now (bytes .entry))) (now (a .entry)) (now (b .entry)) ⌝ }
 {
-    match look_in(bytes, automaton) {
-        Lookup::Filed(v, zones) => false,
-        Lookup::Absent => true,
-        Lookup::Refused(k) => false,
+    let mut at = 0;
+    while at < bytes.len() {
+        let length = measure(&bytes[at..]);
+        if length == 0 {
+            return true;
+        }
+        let own = at + HEAD;
+        let next = at + length;
+        if same(&bytes[own..next], a) {
+            return false;
+        }
+        if same(&bytes[own..next], b) {
+            return false;
+        }
+        at = next;
     }
+    true
 }
 
-// Whether no automaton stands in two of the records.
+// Whether no automaton stands in two of the records: two of them against all that follow, at each turn.
 pub fn all_distinct(bytes: &[u8]) -> bool
     ensures { λ r. ⌜ r ≡ distinct (recordsIn (now (bytes .entry))) ⌝ }
 {
@@ -68,9 +82,22 @@ pub fn all_distinct(bytes: &[u8]) -> bool
         if length == 0 {
             return true;
         }
-        let own = at + 17;
-        let next = at + length;
-        if is_absent(&bytes[next..], &bytes[own..next]) {
+        let own = at + HEAD;
+        let second = at + length;
+        let second_length = measure(&bytes[second..]);
+        if second_length == 0 {
+            return true;
+        }
+        let second_own = second + HEAD;
+        let next = second + second_length;
+        if same(&bytes[second_own..next], &bytes[own..second]) {
+            return false;
+        }
+        if neither_filed(
+            &bytes[next..],
+            &bytes[own..second],
+            &bytes[second_own..next],
+        ) {
             at = next;
         } else {
             return false;

@@ -52,7 +52,7 @@ returns c =
     let a = c .before .before .before .before .before .before .before .before .before .before .before .before .before .args in
     let wrote = c .before .before .before .before .before .before .before .before .write .ensures ∙ sym (append-assoc (a .head .now) (a .automaton .now) _) in
     let behind = lent-tail (a .cache .now) _ (a .head .now ++ a .automaton .now) (a .used) (length (a .head .now) + length (a .automaton .now)) wrote in
-    c .before .before .copy .ensures ∙ appends (a .cache .now) (a .head .now) (a .automaton .now) (a .used) (c .before .before .before .before .before .before .before .before .before .before .before .before .before .pre .0) (omega arith) (omega arith) behind (c .before .before .before .before .bytes-of .ensures)
+    c .before .before .copy .ensures ∙ appends (a .cache .now) (a .head .now) (a .automaton .now) (a .used) (c .before .before .before .before .before .before .before .before .before .before .before .before .before .pre .header) (omega arith) (omega arith) behind (c .before .before .before .before .bytes-of .ensures)
 
 pub append-spec : {M : Type 1} → statement M
 append-spec =

@@ -19,7 +19,7 @@ cast-length : tie.Need-cast-length
 cast-length c = search needs
 
 head-requires : tie.Need-head-requires
-head-requires c κs = found-fits _ _ _ (subst (Given _) (c .before .before .answer .given .1) (c .before .before .before .before .before .before .pre .4))
+head-requires c κs = found-fits _ _ _ (subst (Given _) (c .before .before .answer .given .1) (c .before .before .before .before .before .before .pre .1))
 
 slice-aggregate-append : tie.Need-slice-aggregate-append
 slice-aggregate-append c = search needs

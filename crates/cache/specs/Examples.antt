@@ -1,0 +1,60 @@
+-- Worked examples: document 01's card A, consulted, and what is answered and left.
+use Prim.Native.Nat.{ℕ}
+use mathlib.Core.List.{List, [], _∷_, _++_}
+use mathlib.Core.Path.{_≡_}
+use lib.ListN.{replicate}
+use Rattle.search.specs.declared.verdict.Answer.{Answer}
+use Rattle.search.specs.declared.verdict.Answer.the-variants.{Found, Refused}
+use Rattle.search.specs.declared.verdict.Holding.the-variants.{Below}
+use Rattle.search.specs.declared.verdict.Verdict.the-variants.{Holds}
+use Rattle.cache.specs.Consulting.{consultAnswer, consultCache}
+
+-- `amount` is the length of the store
+pub record Example : Type 0 where
+  pub cache : List ℕ
+  pub amount : ℕ
+  pub answer : Answer
+  pub after : List ℕ
+
+-- "Card A is `00000026 01 01 02 00 01 0001 00000000 00000005 00000000 00000009 00 01 00 00000007 FFFFFFFF`"
+abbrev pub cardA : List ℕ
+cardA = 0 ∷ 0 ∷ 0 ∷ 38 ∷ 1 ∷ 1 ∷ 2 ∷ 0 ∷ 1 ∷ 0 ∷ 1 ∷ 0 ∷ 0 ∷ 0 ∷ 0 ∷ 0 ∷ 0 ∷ 0 ∷ 5 ∷ 0 ∷ 0 ∷ 0 ∷ 0 ∷ 0 ∷ 0 ∷ 0 ∷ 9 ∷ 0 ∷ 1 ∷ 0 ∷ 0 ∷ 0 ∷ 0 ∷ 7 ∷ 255 ∷ 255 ∷ 255 ∷ 255 ∷ []
+
+abbrev pub Right : Example → Type 0
+Right x = (consultAnswer (x .cache) cardA (x .amount) ≡ x .answer) × (consultCache (x .cache) cardA (x .amount) ≡ x .after)
+
+abbrev pub AllRight : List Example → Type 0
+AllRight [] = Unit {0}
+AllRight (x ∷ xs) = Right x × AllRight xs
+
+-- an empty cache with so many bytes behind it
+abbrev pub empty : ℕ → List ℕ
+empty free = 0 ∷ 0 ∷ 0 ∷ 5 ∷ 1 ∷ replicate free 9
+
+-- "holds 1/1, one zone": the record takes 17 + 38 bytes, the cache 60
+abbrev recordA : List ℕ
+recordA = 0 ∷ 0 ∷ 0 ∷ 55 ∷ 1 ∷ 0 ∷ 0 ∷ 0 ∷ 1 ∷ 0 ∷ 0 ∷ 0 ∷ 1 ∷ 0 ∷ 0 ∷ 0 ∷ 1 ∷ cardA
+
+abbrev filed : ℕ → List ℕ
+filed free = 0 ∷ 0 ∷ 0 ∷ 60 ∷ 1 ∷ (recordA ++ replicate free 9)
+
+abbrev holds : Answer
+holds = Found (Holds (Below (record { n = 1; d = 1 }))) 1
+
+-- a foreign version, and the same record twice
+abbrev foreign : List ℕ
+foreign = 0 ∷ 0 ∷ 0 ∷ 5 ∷ 2 ∷ []
+
+abbrev twice : List ℕ
+twice = 0 ∷ 0 ∷ 0 ∷ 115 ∷ 1 ∷ (recordA ++ recordA)
+
+abbrev pub examples : List Example
+examples =
+    record { cache = empty 58; amount = 9; answer = holds; after = filed 3 }
+    ∷ record { cache = empty 55; amount = 9; answer = holds; after = filed 0 }
+    ∷ record { cache = empty 58; amount = 8; answer = Refused 10; after = empty 58 }
+    ∷ record { cache = empty 54; amount = 8; answer = Refused 12; after = empty 54 }
+    ∷ record { cache = filed 0; amount = 0; answer = holds; after = filed 0 }
+    ∷ record { cache = foreign; amount = 9; answer = Refused 11; after = foreign }
+    ∷ record { cache = twice; amount = 9; answer = Refused 11; after = twice }
+    ∷ []
