@@ -1,18 +1,23 @@
-// Times the cache of the proved crate exports, document 01's shelf, beside the same work in plain Rust.
-// Both must give the same replies, caches and stores; a ratio fails nothing.
-mod automata;
-mod exported;
+// Times the cache of the proved crate exports, document 01's shelf, beside the same work in plain
+// Rust. Both must give the same replies, caches and stores; a ratio fails nothing.
+
+#[path = "../tests/draft.rs"]
+mod draft;
+mod draws;
 mod families;
 mod filed;
+#[path = "../tests/library.rs"]
+mod library;
 mod literal;
 mod plain;
+mod times;
 
-use automata::{begun, join, Draws, Edge, NO_UPPER};
-use families::{any, family, small, Shared, LARGEST, MEMBERS, SMALLEST};
-use filed::{record, Verdict};
-use literal::gcd;
+use draws::Draws;
+use families::{any, family, small, Shape, Shared, LARGEST, MEMBERS, SMALLEST};
+use filed::record;
+use literal::{gcd, Verdict};
 use std::hint::black_box;
-use std::time::Instant;
+use times::{best, nanoseconds};
 
 const SEED: u64 = 340;
 // The program's store.
@@ -22,6 +27,9 @@ const FREE: usize = 100;
 // What free bytes and store have before, to see that the rest of them stands.
 const UNTOUCHED: u8 = 0xA5;
 const UNUSED: i32 = -7;
+// Document 01's card A, whose search is short. Limits that are drawn are larger, so it is in no
+// cache.
+const ABSENT: &[u8] = include_bytes!("../examples/A.card");
 
 // ---- caches
 struct Cache {
@@ -32,7 +40,8 @@ struct Cache {
 // Soundness asks only that a verdict is in lowest terms, not that it is the search's.
 fn verdict(draws: &mut Draws) -> Verdict {
     let zones = draws.below(1 << 16) as u64;
-    let (n, d) = (1 + draws.below(1_000_000) as u64, 1 + draws.below(1_000) as u64);
+    let n = 1 + draws.below(1_000_000) as u64;
+    let d = 1 + draws.below(1_000) as u64;
     match draws.below(8) {
         0 => [0, 0, 0, zones],
         1 => [1, 1, 0, zones],
@@ -42,13 +51,21 @@ fn verdict(draws: &mut Draws) -> Verdict {
 
 fn cache(draws: &mut Draws, automata: Vec<Vec<u8>>) -> Cache {
     let mut bytes = vec![0; 5];
-    assert_eq!(exported::make_empty(&mut bytes), 0, "an empty cache");
-    automata.iter().for_each(|a| bytes.extend(record(verdict(draws), a)));
+    assert_eq!(library::make_empty(&mut bytes), 0, "an empty cache");
+    automata
+        .iter()
+        .for_each(|a| bytes.extend(record(verdict(draws), a)));
     let used = bytes.len() as u32;
     bytes[..4].copy_from_slice(&used.to_be_bytes());
     bytes.resize(bytes.len() + FREE, UNTOUCHED);
-    assert_eq!(exported::sound(&bytes), 0, "the cache is sound");
+    assert_eq!(library::sound(&bytes), 0, "the cache is sound");
     Cache { automata, bytes }
+}
+
+fn families(draws: &mut Draws, shapes: &[Shape], shared: Shared) -> Cache {
+    let members = shapes.iter().flat_map(|s| family(draws, s, shared));
+    let automata = members.collect();
+    cache(draws, automata)
 }
 
 // 340 automata, the smallest and the largest possible among them.
@@ -56,23 +73,14 @@ fn varied(shared: Shared) -> Cache {
     let draws = &mut Draws(SEED);
     let mut shapes = vec![SMALLEST, LARGEST];
     shapes.resize_with(340 / MEMBERS, || any(draws));
-    let automata = shapes.iter().flat_map(|s| family(draws, s, shared)).collect();
-    cache(draws, automata)
+    families(draws, &shapes, shared)
 }
 
 fn of_small(records: usize) -> Cache {
     let draws = &mut Draws(SEED);
     let mut shapes = vec![];
     shapes.resize_with(records / MEMBERS, || small(draws));
-    let automata = shapes.iter().flat_map(|s| family(draws, s, Shared::Beginnings)).collect();
-    cache(draws, automata)
-}
-
-// Document 01's card A, whose search is short. Limits that are drawn are larger, so it is in no cache.
-fn absent() -> Vec<u8> {
-    let mut automaton = begun(1, &[&[(0, 5)], &[(0, 9)]], 1);
-    join(&mut automaton, Edge { from: 0, to: 1, resets: 0, guard: &[(7, NO_UPPER)] });
-    automaton
+    families(draws, &shapes, Shared::Beginnings)
 }
 
 // ---- the two sides
@@ -87,17 +95,21 @@ fn left(consult: Consult, bytes: &[u8], automaton: &[u8]) -> impl PartialEq {
 }
 
 fn agree(bytes: &[u8], automaton: &[u8]) {
-    assert_eq!(exported::sound(bytes), filed::sound(bytes), "soundness");
-    let found = exported::look_up(bytes, automaton);
+    assert_eq!(library::sound(bytes), filed::sound(bytes), "soundness");
+    let found = library::look_up(bytes, automaton);
     assert_eq!(found, filed::look_up(bytes, automaton), "lookup");
-    assert_eq!(found, filed::look_up_walking(bytes, automaton), "lookup without a list");
-    let ours = left(exported::consult, bytes, automaton);
-    assert!(ours == left(filed::consult, bytes, automaton), "reply, cache or store of consulting");
+    let walking = filed::look_up_walking(bytes, automaton);
+    assert_eq!(found, walking, "lookup without a list");
+    let ours = left(library::consult, bytes, automaton);
+    let rust = left(filed::consult, bytes, automaton);
+    assert!(ours == rust, "reply, cache or store of consulting");
 }
 
 // Every beginning, and every byte changed in some ways.
 fn edits(bytes: &[u8]) -> Vec<Vec<u8>> {
-    let mut edits: Vec<_> = (0..=bytes.len()).map(|length| bytes[..length].to_vec()).collect();
+    let mut edits: Vec<_> = (0..=bytes.len())
+        .map(|length| bytes[..length].to_vec())
+        .collect();
     for at in 0..bytes.len() {
         for change in [1, 2, 16, 255] {
             let mut edit = bytes.to_vec();
@@ -108,7 +120,8 @@ fn edits(bytes: &[u8]) -> Vec<Vec<u8>> {
     edits
 }
 
-// They agree also on caches and automata that are turned down, and on two records that become the same.
+// They agree also on caches and automata that are turned down, and on two records that become the
+// same.
 fn agree_on_edits() {
     let draws = &mut Draws(SEED);
     let automata = family(draws, &SMALLEST, Shared::Beginnings);
@@ -116,9 +129,9 @@ fn agree_on_edits() {
         let Cache { bytes, .. } = cache(draws, automata[..records].to_vec());
         for edit in edits(&bytes) {
             agree(&edit, &automata[0]);
-            agree(&edit, &absent());
+            agree(&edit, ABSENT);
         }
-        for edit in edits(&absent()) {
+        for edit in edits(ABSENT) {
             agree(&bytes, &edit);
             agree(&[], &edit);
         }
@@ -127,31 +140,20 @@ fn agree_on_edits() {
 
 // ---- times
 fn microseconds<T>(f: impl FnOnce() -> T) -> f64 {
-    let start = Instant::now();
-    black_box(f());
-    start.elapsed().as_nanos() as f64 / 1e3
-}
-
-// The sides take turns, and each has the best of its times.
-fn best<const N: usize>(times: u32, mut side: impl FnMut(usize) -> f64) -> [f64; N] {
-    let mut best = [f64::INFINITY; N];
-    for _ in 0..times {
-        for (i, best) in best.iter_mut().enumerate() {
-            *best = best.min(side(i));
-        }
-    }
-    best
+    nanoseconds(f) / 1e3
 }
 
 // Ours, Rust's, and Rust's without a list of the records.
 fn looked_up(times: u32, bytes: &[u8], automaton: &[u8]) -> [f64; 3] {
-    const SIDES: [LookUp; 3] = [exported::look_up, filed::look_up, filed::look_up_walking];
+    const SIDES: [LookUp; 3] = [library::look_up, filed::look_up, filed::look_up_walking];
     agree(bytes, automaton);
-    best(times, |i| microseconds(|| SIDES[i](black_box(bytes), black_box(automaton))))
+    best(times, |i| {
+        microseconds(|| SIDES[i](black_box(bytes), black_box(automaton)))
+    })
 }
 
 fn consulted(times: u32, bytes: &[u8], automaton: &[u8]) -> [f64; 2] {
-    const SIDES: [Consult; 2] = [exported::consult, filed::consult];
+    const SIDES: [Consult; 2] = [library::consult, filed::consult];
     agree(bytes, automaton);
     let (mut cache, mut store) = (bytes.to_vec(), vec![UNUSED; STORE]);
     best(times, |i| {
@@ -176,21 +178,26 @@ fn ask(alike: &str, shared: Shared) {
     let (records, mean) = (automata.len(), mean(&automata));
     println!("{records} automata of {least} to {most} bytes, mean {mean}, alike in their {alike}");
     println!("asked         us Rattle    us Rust  ratio");
-    let hits = [("hit, first", 0), ("hit, middle", records / 2), ("hit, last", records - 1)];
+    let hits = [
+        ("hit, first", 0),
+        ("hit, middle", records / 2),
+        ("hit, last", records - 1),
+    ];
     for (asked, at) in hits {
         let [ours, rust] = consulted(40, &bytes, &automata[at]);
         line(asked, ours, rust);
     }
-    let [ours, rust, _] = looked_up(40, &bytes, &absent());
+    let [ours, rust, _] = looked_up(40, &bytes, ABSENT);
     line("miss, lookup", ours, rust);
-    let [ours, rust] = consulted(40, &bytes, &absent());
+    let [ours, rust] = consulted(40, &bytes, ABSENT);
     line("miss, filed", ours, rust);
 }
 
 fn grow(records: usize, times: u32) {
     let Cache { automata, bytes } = of_small(records);
-    let [ours, rust, walking] = looked_up(times, &bytes, &absent());
-    print!("{records:7}  {:10} {ours:10.0} {rust:10.0} {:6.2}", mean(&automata), ours / rust);
+    let [ours, rust, walking] = looked_up(times, &bytes, ABSENT);
+    let (mean, ratio) = (mean(&automata), ours / rust);
+    print!("{records:7}  {mean:10} {ours:10.0} {rust:10.0} {ratio:6.2}");
     println!(" {walking:11.0} {:6.2}", ours / walking);
 }
 

@@ -1,5 +1,7 @@
-// The automata of a cache: families of one automaton each, whose members differ in one number or two.
-use crate::automata::{begun, join, Draws, Edge, NO_UPPER};
+// The automata of a cache: families of one automaton each, whose members differ in one number or
+// two.
+use crate::draft::{Draft, Edge, Limit, NO_UPPER};
+use crate::draws::Draws;
 
 pub const MEMBERS: usize = 10;
 const SCALE: u32 = 1_000_000;
@@ -13,19 +15,35 @@ pub struct Shape {
 }
 
 // 19 bytes, and 21,259.
-pub const SMALLEST: Shape = Shape { clocks: 1, locations: 1, edges: 0 };
-pub const LARGEST: Shape = Shape { clocks: 8, locations: 64, edges: 256 };
+pub const SMALLEST: Shape = Shape {
+    clocks: 1,
+    locations: 1,
+    edges: 0,
+};
+pub const LARGEST: Shape = Shape {
+    clocks: 8,
+    locations: 64,
+    edges: 256,
+};
 
 // Of any size, the small more often.
 pub fn any(draws: &mut Draws) -> Shape {
     let mut fewer = |bound| draws.below(bound).min(draws.below(bound));
     let (locations, edges) = (1 + fewer(64) as u8, fewer(257) as u16);
-    Shape { clocks: 1 + draws.below(8) as u8, locations, edges }
+    Shape {
+        clocks: 1 + draws.below(8) as u8,
+        locations,
+        edges,
+    }
 }
 
 pub fn small(draws: &mut Draws) -> Shape {
     let mut from = |least, bound| least + draws.below(bound);
-    Shape { clocks: from(1, 3) as u8, locations: from(2, 6) as u8, edges: from(1, 24) as u16 }
+    Shape {
+        clocks: from(1, 3) as u8,
+        locations: from(2, 6) as u8,
+        edges: from(1, 24) as u16,
+    }
 }
 
 // Which bytes the members of a family share.
@@ -47,7 +65,8 @@ pub fn family(draws: &mut Draws, shape: &Shape, shared: Shared) -> Vec<Vec<u8>> 
     members
 }
 
-// A drawn clock's lo: of the guard of one of the last quarter of the edges, or of the first location's invariant.
+// A drawn clock's lo: of the guard of one of the last quarter of the edges, or of the first
+// location's invariant.
 fn place(draws: &mut Draws, s: &Shape, shared: Shared) -> usize {
     let limits = 8 * s.clocks as usize;
     let lo = 8 * draws.below(s.clocks as u32) as usize;
@@ -63,25 +82,37 @@ fn place(draws: &mut Draws, s: &Shape, shared: Shared) -> usize {
 }
 
 fn drawn(draws: &mut Draws, s: &Shape) -> Vec<u8> {
-    let invariants: Vec<_> = (0..s.locations).map(|_| limits(draws, s.clocks, 0)).collect();
-    let lent: Vec<_> = invariants.iter().map(|i| &i[..]).collect();
-    let mut automaton = begun(s.clocks, &lent, s.edges);
-    for _ in 0..s.edges {
-        let mut location = || draws.below(s.locations as u32) as u8;
-        let (from, to) = (location(), location());
-        let resets = draws.below(1 << s.clocks) as u8;
-        let guard = limits(draws, s.clocks, 25);
-        join(&mut automaton, Edge { from, to, resets, guard: &guard });
-    }
-    automaton
+    let draft = Draft {
+        start: 0,
+        target: s.locations - 1,
+        invariants: (0..s.locations)
+            .map(|_| limits(draws, s.clocks, 0))
+            .collect(),
+        edges: (0..s.edges).map(|_| edge(draws, s)).collect(),
+    };
+    draft.bytes()
 }
 
-// For each clock a lo and a hi; so many of a hundred have no upper limit.
-fn limits(draws: &mut Draws, clocks: u8, open: u32) -> Vec<(u32, u32)> {
+fn edge(draws: &mut Draws, s: &Shape) -> Edge {
+    let mut location = || draws.below(s.locations as u32) as u8;
+    let (from, to) = (location(), location());
+    let reset = draws.below(1 << s.clocks) as u8;
+    let guard = limits(draws, s.clocks, 25);
+    Edge {
+        from,
+        to,
+        reset,
+        guard,
+    }
+}
+
+// So many of a hundred have no upper limit.
+fn limits(draws: &mut Draws, clocks: u8, open: u32) -> Vec<Limit> {
     let mut limit = || {
         let lo = LEAST + draws.below(SCALE - LEAST + 1);
         let hi = draws.below(SCALE + 1);
-        (lo, if draws.below(100) < open { NO_UPPER } else { hi })
+        let is_open = draws.below(100) < open;
+        (lo, if is_open { NO_UPPER } else { hi })
     };
     (0..clocks).map(|_| limit()).collect()
 }

@@ -1,6 +1,6 @@
-// Document 01's shelf in plain Rust, step for step: at each asking whether the cache is sound, then the lookup, then the
-// search and its record.
-use crate::literal::{gcd, slot_length, Search};
+// Document 01's shelf in plain Rust, step for step: at each asking whether the cache is sound, then
+// the lookup, then the search and its record.
+use crate::literal::{gcd, slot_length, Search, Verdict};
 
 const HEADER: usize = 5;
 const HEAD: usize = 17;
@@ -9,9 +9,6 @@ const NO_UPPER: u32 = u32::MAX;
 const MOST_SLOTS: usize = 2_147_483_647;
 // What four bytes can say.
 const LONGEST: usize = 4_294_967_295;
-
-// Kind, n, d and zones.
-pub type Verdict = [u64; 4];
 
 fn number(bytes: &[u8], at: usize) -> u32 {
     u32::from_be_bytes(bytes[at..at + 4].try_into().unwrap())
@@ -22,7 +19,11 @@ fn refusal(a: &[u8]) -> u32 {
     if a.len() < 11 {
         return 1;
     }
-    let (n, m, edges) = (a[5] as usize, a[6] as usize, u16::from_be_bytes([a[9], a[10]]) as usize);
+    let (n, m, edges) = (
+        a[5] as usize,
+        a[6] as usize,
+        u16::from_be_bytes([a[9], a[10]]) as usize,
+    );
     if number(a, 0) as usize != a.len() {
         2
     } else if a[4] != 1 {
@@ -92,12 +93,16 @@ fn is_sound(record: &[u8]) -> bool {
     terms && refusal(&record[HEAD..]) == 0
 }
 
-// How to find that no automaton stands twice: each is compared with all later ones, listed first or where they lie.
+// How to find that no automaton stands twice: each is compared with all later ones, listed first or
+// where they lie.
 type Distinct = fn(Records) -> bool;
 
 fn listed(records: Records) -> bool {
     let automata: Vec<&[u8]> = records.map(|r| &r[HEAD..]).collect();
-    automata.iter().enumerate().all(|(i, a)| !automata[i + 1..].contains(a))
+    automata
+        .iter()
+        .enumerate()
+        .all(|(i, a)| !automata[i + 1..].contains(a))
 }
 
 fn walked(mut records: Records) -> bool {
@@ -156,13 +161,12 @@ pub fn consult(cache: &mut [u8], automaton: &[u8], store: &mut [i32]) -> Result<
     if cache.len() < end || LONGEST < end {
         return Err(12);
     }
-    let search = Search::of(automaton, (store.len() / slot_length(automaton)).min(MOST_SLOTS));
+    let search = Search::of(
+        automaton,
+        (store.len() / slot_length(automaton)).min(MOST_SLOTS),
+    );
     search.store(store);
-    let [refused, kind, n, d, zones] = search.reply();
-    if refused != 0 {
-        return Err(refused as u32);
-    }
-    let verdict = [kind, n, d, zones];
+    let verdict = search.answer()?;
     cache[used..end].copy_from_slice(&record(verdict, automaton));
     cache[..4].copy_from_slice(&(end as u32).to_be_bytes());
     Ok(verdict)
@@ -171,7 +175,9 @@ pub fn consult(cache: &mut [u8], automaton: &[u8], store: &mut [i32]) -> Result<
 pub fn record([kind, n, d, zones]: Verdict, automaton: &[u8]) -> Vec<u8> {
     let mut record = ((HEAD + automaton.len()) as u32).to_be_bytes().to_vec();
     record.push(kind as u8);
-    [n, d, zones].iter().for_each(|x| record.extend((*x as u32).to_be_bytes()));
+    [n, d, zones]
+        .iter()
+        .for_each(|x| record.extend((*x as u32).to_be_bytes()));
     record.extend(automaton);
     record
 }

@@ -1,18 +1,21 @@
-// Document 01's search in plain Rust, step for step, on a card that is free of 1 to 8.
+// Document 01's search in plain Rust, step for step, on an automaton that is free of 1 to 8.
 use crate::plain::{less, lowered, Fraction, Pair, Work, Zone, NO_LIMIT};
 
 const NO_UPPER: u32 = u32::MAX;
 const COUNTS: u64 = 65_535;
 
+// Kind, n, d and zones.
+pub type Verdict = [u64; 4];
+
 #[derive(Clone, Copy, PartialEq)]
 enum Stop {
     No,
     Reached,
-    Refused(u64),
+    Refused(u32),
 }
 
 pub struct Search<'a> {
-    card: &'a [u8],
+    automaton: &'a [u8],
     clocks: usize,
     slots: usize,
     pub kept: Vec<(usize, Zone)>,
@@ -28,6 +31,11 @@ pub fn gcd(a: u64, b: u64) -> u64 {
     }
 }
 
+// A limit, loosened by the error.
+fn loosened(m: i64) -> Pair {
+    Pair { m, p: 1 }
+}
+
 // Document 01's 1 + 2(n + 1)².
 pub fn slot_length(automaton: &[u8]) -> usize {
     let size = automaton[5] as usize + 1;
@@ -40,12 +48,18 @@ fn is_within(a: &Zone, b: &Zone, size: usize) -> bool {
 }
 
 impl<'a> Search<'a> {
-    // The search of a card, ended.
-    pub fn of(card: &'a [u8], slots: usize) -> Search<'a> {
-        let clocks = card[5] as usize;
-        let mut s =
-            Search { card, clocks, slots, kept: vec![], fraction: NO_LIMIT, stop: Stop::No };
-        let start = card[7] as usize;
+    // The search of an automaton, ended.
+    pub fn of(automaton: &'a [u8], slots: usize) -> Search<'a> {
+        let clocks = automaton[5] as usize;
+        let mut s = Search {
+            automaton,
+            clocks,
+            slots,
+            kept: vec![],
+            fraction: NO_LIMIT,
+            stop: Stop::No,
+        };
+        let start = automaton[7] as usize;
         s.enter(start, [Pair { m: 0, p: 0 }; 81]);
         let mut next = 0;
         while next < s.kept.len() && s.stop == Stop::No {
@@ -55,15 +69,15 @@ impl<'a> Search<'a> {
         s
     }
 
-    // The refusal, or 0 and the verdict's kind, n, d and number of zones.
-    pub fn reply(&self) -> [u64; 5] {
+    // The verdict, or a refusal.
+    pub fn answer(&self) -> Result<Verdict, u32> {
         let zones = self.kept.len() as u64;
         match self.stop {
-            Stop::Refused(number) => [number, 0, 0, 0, 0],
-            Stop::Reached => [0, 0, 0, 0, zones],
+            Stop::Refused(number) => Err(number),
+            Stop::Reached => Ok([0, 0, 0, zones]),
             Stop::No => {
                 let Fraction { n, d } = self.fraction;
-                [0, 1, n / gcd(n, d), d / gcd(n, d), zones]
+                Ok([1, n / gcd(n, d), d / gcd(n, d), zones])
             }
         }
     }
@@ -71,7 +85,7 @@ impl<'a> Search<'a> {
     // The kept zones into their slots; the rest of the store stands.
     pub fn store(&self, store: &mut [i32]) {
         let size = self.clocks + 1;
-        let slots = store.chunks_exact_mut(slot_length(self.card));
+        let slots = store.chunks_exact_mut(slot_length(self.automaton));
         for ((location, zone), slot) in self.kept.iter().zip(slots) {
             slot[0] = *location as i32;
             let places = (0..size * 9).filter(|at| at % 9 < size);
@@ -83,10 +97,10 @@ impl<'a> Search<'a> {
 
     fn expand(&mut self, taken: usize) {
         let (location, zone) = self.kept[taken];
-        let edges = u16::from_be_bytes([self.card[9], self.card[10]]) as usize;
+        let edges = u16::from_be_bytes([self.automaton[9], self.automaton[10]]) as usize;
         for i in 0..edges {
-            let at = 11 + 8 * self.clocks * self.card[6] as usize + i * (3 + 8 * self.clocks);
-            if self.card[at] as usize == location {
+            let at = 11 + 8 * self.clocks * self.automaton[6] as usize + i * (3 + 8 * self.clocks);
+            if self.automaton[at] as usize == location {
                 self.follow(at, zone);
             }
             if self.stop != Stop::No {
@@ -95,25 +109,32 @@ impl<'a> Search<'a> {
         }
     }
 
-    // Along the edge that stands at a place of the card.
+    // Along the edge that stands at a place of the automaton.
     fn follow(&mut self, at: usize, zone: Zone) {
-        let mut w = Work { zone, fraction: self.fraction };
+        let mut w = Work {
+            zone,
+            fraction: self.fraction,
+        };
         self.meet(&mut w, at + 3);
         let empty = w.reduce(self.clocks + 1);
         self.fraction = w.fraction;
         if !empty {
-            self.enter(self.card[at + 1] as usize, self.reset(&w.zone, self.card[at + 2]));
+            let zone = self.reset(&w.zone, self.automaton[at + 2]);
+            self.enter(self.automaton[at + 1] as usize, zone);
         }
     }
 
     fn enter(&mut self, location: usize, zone: Zone) {
-        let mut w = Work { zone, fraction: self.fraction };
+        let mut w = Work {
+            zone,
+            fraction: self.fraction,
+        };
         let at = 11 + 8 * self.clocks * location;
         self.meet(&mut w, at);
         let mut empty = w.reduce(self.clocks + 1);
         if !empty {
             for x in 1..=self.clocks {
-                w.zone[x * 9] = Pair { m: self.number(at + 8 * x - 4) as i64, p: 1 };
+                w.zone[x * 9] = loosened(self.number(at + 8 * x - 4) as i64);
             }
             empty = w.reduce(self.clocks + 1);
         }
@@ -125,7 +146,7 @@ impl<'a> Search<'a> {
 
     fn judge(&mut self, location: usize, zone: &Zone) {
         let size = self.clocks + 1;
-        if location == self.card[8] as usize {
+        if location == self.automaton[8] as usize {
             self.stop = Stop::Reached;
             return;
         }
@@ -143,20 +164,21 @@ impl<'a> Search<'a> {
         }
     }
 
-    // The limits that stand at a place of the card.
+    // The limits that stand at a place of the automaton.
     fn meet(&self, w: &mut Work, at: usize) {
         for x in 1..=self.clocks {
             let lo = self.number(at + 8 * x - 8);
             let hi = self.number(at + 8 * x - 4);
             if hi != NO_UPPER {
-                w.meet(x * 9, Pair { m: hi as i64, p: 1 });
+                w.meet(x * 9, loosened(hi as i64));
             }
-            w.meet(x, Pair { m: -(lo as i64), p: 1 });
+            w.meet(x, loosened(-(lo as i64)));
         }
     }
 
     fn reset(&self, zone: &Zone, byte: u8) -> Zone {
-        let source = |x: usize| if 0 < x && byte >> (x - 1) & 1 == 1 { 0 } else { x };
+        let is_reset = |x: usize| 0 < x && byte >> (x - 1) & 1 == 1;
+        let source = |x: usize| if is_reset(x) { 0 } else { x };
         let mut z = *zone;
         for i in 0..=self.clocks {
             for j in 0..=self.clocks {
@@ -167,6 +189,6 @@ impl<'a> Search<'a> {
     }
 
     fn number(&self, at: usize) -> u32 {
-        u32::from_be_bytes(self.card[at..at + 4].try_into().unwrap())
+        u32::from_be_bytes(self.automaton[at..at + 4].try_into().unwrap())
     }
 }

@@ -1,4 +1,5 @@
-// Pairs, the running fraction and reduction in plain Rust, for the benchmarks to time the proved code against.
+// Pairs, the running fraction and reduction in plain Rust, for the benchmarks to time the proved
+// code against.
 #[derive(Clone, Copy)]
 pub struct Pair {
     pub m: i64,
@@ -58,7 +59,13 @@ impl Work {
                 for j in 0..size {
                     let to = self.zone[i * 9 + k];
                     let from = self.zone[k * 9 + j];
-                    self.meet(i * 9 + j, Pair { m: to.m + from.m, p: to.p + from.p });
+                    self.meet(
+                        i * 9 + j,
+                        Pair {
+                            m: to.m + from.m,
+                            p: to.p + from.p,
+                        },
+                    );
                 }
             }
             if (0..size).any(|i| self.zone[i * 10].m < 0) {

@@ -1,10 +1,11 @@
 // Times zones_bench_reduce, of the proved crate zones_bench, beside the same work in plain Rust.
 // Both must give the same checksum; a ratio fails nothing.
 mod plain;
+mod times;
 
 use plain::{Pair, Work, Zone, NO_LIMIT};
 use std::hint::black_box;
-use std::time::Instant;
+use times::{best, nanoseconds};
 
 extern "C" {
     fn zones_bench_reduce(size: usize, times: u64) -> u64;
@@ -35,8 +36,14 @@ fn plain(size: usize, times: u64) -> u64 {
     let z = square();
     let mut sum = 0;
     for t in 0..times {
-        let mut w = Work { zone: z, fraction: NO_LIMIT };
-        w.zone[9] = Pair { m: (t % 64) as i64, p: t % 16 };
+        let mut w = Work {
+            zone: z,
+            fraction: NO_LIMIT,
+        };
+        w.zone[9] = Pair {
+            m: (t % 64) as i64,
+            p: t % 16,
+        };
         w.reduce(size);
         sum = (sum + w.zone[size - 1].p % PRIME + w.fraction.n % PRIME) % PRIME;
     }
@@ -50,26 +57,25 @@ fn proved(size: usize, times: u64) -> u64 {
 
 // Nanoseconds for one reduction.
 fn timed(f: fn(usize, u64) -> u64, size: usize, times: u64) -> f64 {
-    let start = Instant::now();
-    black_box(f(black_box(size), black_box(times)));
-    start.elapsed().as_nanos() as f64 / times as f64
+    nanoseconds(|| f(black_box(size), black_box(times))) / times as f64
 }
 
 fn main() {
     for size in 0..12 {
         for times in [0, 1, 2, 63, 64, 65, 1000] {
-            assert_eq!(proved(size, times), plain(size, times), "size {size}, times {times}");
+            assert_eq!(
+                proved(size, times),
+                plain(size, times),
+                "size {size}, times {times}"
+            );
         }
     }
     println!("clocks  ns Rattle    ns Rust  ratio");
     for clocks in 1..=8 {
         let size = clocks + 1;
         let times = 2_000_000 / (size * size * size) as u64;
-        let (mut ours, mut rust) = (f64::INFINITY, f64::INFINITY);
-        for _ in 0..REPETITIONS {
-            ours = ours.min(timed(proved, size, times));
-            rust = rust.min(timed(plain, size, times));
-        }
+        let sides = [proved, plain];
+        let [ours, rust] = best(REPETITIONS, |side| timed(sides[side], size, times));
         println!("{clocks:6} {ours:10.0} {rust:10.0} {:6.2}", ours / rust);
     }
 }

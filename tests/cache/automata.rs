@@ -1,21 +1,10 @@
 //! The automata that caches are filled with and asked for.
 
-use crate::draft::{self, Dice, Draft, Edge, Lean, Limit, Size, ABSENT};
-use crate::{oracle, table};
+use crate::draft::{Draft, Edge, Limit, NO_UPPER};
+use crate::drawn::{self, Dice, Lean, Size};
+use crate::oracle;
+use crate::table::{self, named, with_byte};
 use std::collections::BTreeSet;
-
-/// One of document 01's automata.
-pub fn named(name: &str) -> Vec<u8> {
-    let all = table::cards();
-    let found = all.into_iter().find(|(there, _)| *there == name);
-    found.expect("an automaton of document 01").1
-}
-
-pub fn with_byte(bytes: &[u8], at: usize, value: u8) -> Vec<u8> {
-    let mut changed = bytes.to_vec();
-    changed[at] = value;
-    changed
-}
 
 /// Automata that are turned down, each with its number. Those made from A differ from it in a byte.
 pub fn refused() -> Vec<(u32, Vec<u8>)> {
@@ -43,8 +32,8 @@ pub fn refused() -> Vec<(u32, Vec<u8>)> {
         (6, &[(7, 2), (8, 2), (27, 2), (28, 255)]),
         (7, &[(29, 2), (29, 0x81)]),
     ];
-    for (number, places) in changes {
-        let changed = places.iter().map(|&(at, value)| with_byte(&a, at, value));
+    for (number, bytes) in changes {
+        let changed = bytes.iter().map(|&(at, value)| with_byte(&a, at, value));
         all.extend(changed.map(|automaton| (number, automaton)));
     }
     all
@@ -58,9 +47,9 @@ fn random(dice: &mut Dice) -> Vec<u8> {
     let lean = some_lean(dice);
     let size = Size::drawn(dice);
     match dice.range(0, 9) {
-        0 => draft::shortcut(dice).bytes(),
-        1 => draft::crowd(dice.range(2, 5) as usize, dice.range(1, 30) as usize).bytes(),
-        _ => draft::drawn(dice, lean, &size).bytes(),
+        0 => drawn::shortcut(dice).bytes(),
+        1 => drawn::crowd(dice.range(2, 5) as usize, dice.range(1, 30) as usize).bytes(),
+        _ => drawn::drawn(dice, lean, &size).bytes(),
     }
 }
 
@@ -73,7 +62,10 @@ fn unique(automata: Vec<Vec<u8>>) -> Vec<Vec<u8>> {
 
 /// Different automata free of 1 to 8: document 01's and random ones.
 pub fn accepted(dice: &mut Dice, count: usize) -> Vec<Vec<u8>> {
-    let mut all: Vec<Vec<u8>> = table::cards().into_iter().map(|(_, bytes)| bytes).collect();
+    let mut all: Vec<Vec<u8>> = table::automata()
+        .into_iter()
+        .map(|(_, bytes)| bytes)
+        .collect();
     all.retain(|automaton| oracle::refusal(automaton).is_ok());
     all.extend((0..count).map(|_| random(dice)));
     unique(all)
@@ -89,7 +81,7 @@ pub fn small(dice: &mut Dice, count: usize) -> Vec<Vec<u8>> {
             edges: dice.range(0, 2),
         };
         let lean = some_lean(dice);
-        all.push(draft::drawn(dice, lean, &size).bytes());
+        all.push(drawn::drawn(dice, lean, &size).bytes());
         all = unique(all);
     }
     all
@@ -101,26 +93,26 @@ pub fn slot(automaton: &[u8]) -> usize {
     1 + 2 * side * side
 }
 
-/// A wheel of many places, for 9: each new zone is compared only with those of its place, so that
-/// it comes sooner than with document 01's K, which has two.
+/// A wheel of many locations, for 9: each new zone is compared only with those of its location, so
+/// that it comes sooner than with document 01's K, which has two.
 pub fn wheel() -> Vec<u8> {
-    const PLACES: u8 = 62;
-    let edge = |place: u8| {
-        let clock = place % 2;
-        let mut guard = vec![(0, ABSENT); 2];
+    const LOCATIONS: u8 = 62;
+    let edge = |from: u8| {
+        let clock = from % 2;
+        let mut guard = vec![(0, NO_UPPER); 2];
         guard[usize::from(clock)] = (1, 1);
         Edge {
-            from: place,
-            to: (place + 1) % PLACES,
+            from,
+            to: (from + 1) % LOCATIONS,
             reset: 1 << clock,
             guard,
         }
     };
     let draft = Draft {
         start: 0,
-        target: PLACES,
-        invariants: vec![vec![(0, 1); 2]; usize::from(PLACES) + 1],
-        edges: (0..PLACES).map(edge).collect(),
+        target: LOCATIONS,
+        invariants: vec![vec![(0, 1); 2]; usize::from(LOCATIONS) + 1],
+        edges: (0..LOCATIONS).map(edge).collect(),
     };
     draft.bytes()
 }

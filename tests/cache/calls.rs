@@ -1,48 +1,12 @@
 //! One call of the library's functions: by the library, on lent parts with guards around them, and
 //! by the second cache.
 
-use crate::draft::Dice;
+use crate::drawn::Dice;
+use crate::library::{
+    robustness_consult, robustness_look_up, robustness_make_empty, robustness_refusal,
+    robustness_search, robustness_sound,
+};
 use crate::oracle::{self, Verdict};
-
-extern "C" {
-    // A slice goes as where it begins and its length.
-    fn robustness_refusal(automaton: *const u8, automaton_len: usize) -> u32;
-    fn robustness_search(
-        automaton: *const u8,
-        automaton_len: usize,
-        store: *mut i32,
-        store_len: usize,
-        kind: *mut u64,
-        n: *mut u64,
-        d: *mut u64,
-        zones: *mut u64,
-    ) -> u32;
-    fn robustness_make_empty(cache: *mut u8, cache_len: usize) -> u32;
-    fn robustness_sound(cache: *const u8, cache_len: usize) -> u32;
-    fn robustness_look_up(
-        cache: *const u8,
-        cache_len: usize,
-        automaton: *const u8,
-        automaton_len: usize,
-        filed: *mut u64,
-        kind: *mut u64,
-        n: *mut u64,
-        d: *mut u64,
-        zones: *mut u64,
-    ) -> u32;
-    fn robustness_consult(
-        cache: *mut u8,
-        cache_len: usize,
-        automaton: *const u8,
-        automaton_len: usize,
-        store: *mut i32,
-        store_len: usize,
-        kind: *mut u64,
-        n: *mut u64,
-        d: *mut u64,
-        zones: *mut u64,
-    ) -> u32;
-}
 
 #[derive(Clone, Copy, PartialEq, Eq, Debug)]
 pub enum Call {
@@ -133,7 +97,7 @@ pub fn proved(call: Call, lent: &mut Lent) -> Option<u32> {
     let mut numbers = lent.numbers.map(|number| Guarded::new(&[number]));
     let (a, c, s) = (automaton.start(), cache.start(), store.start());
     let [filed, kind, n, d, zones] = [0, 1, 2, 3, 4].map(|i| numbers[i].start());
-    // The functions ask nothing of their arguments but that they are there.
+    // Not by the safe calls: these pointers reach past the parts, where the guards are.
     let reply = unsafe {
         match call {
             Call::Refusal => robustness_refusal(a, a_len),

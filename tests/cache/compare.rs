@@ -4,10 +4,15 @@
 
 mod automata;
 mod calls;
-#[allow(dead_code)]
-#[path = "../search/draft.rs"]
+#[path = "../checks.rs"]
+mod checks;
+#[path = "../draft.rs"]
 mod draft;
+#[path = "../search/drawn.rs"]
+mod drawn;
 mod grown;
+#[path = "../library.rs"]
+mod library;
 mod oracle;
 mod order;
 mod random;
@@ -18,10 +23,10 @@ mod table;
 mod tally;
 mod unsound;
 
-use std::process::exit;
+use std::process::ExitCode;
 use tally::Tally;
 
-fn main() {
+fn main() -> ExitCode {
     let mut tally = Tally::default();
     let parts: [fn(&mut Tally); 15] = [
         order::layout,
@@ -43,7 +48,5 @@ fn main() {
     for part in parts {
         part(&mut tally);
     }
-    tally.sum_up();
-    println!("{} passed, {} failed", tally.passed, tally.failed);
-    exit(i32::from(tally.failed > 0));
+    tally.sum_up()
 }

@@ -2,8 +2,10 @@
 
 use crate::automata::{self, slot};
 use crate::calls::{random_bytes, Call, Lent};
-use crate::draft::{Dice, Draft};
+use crate::draft::Draft;
+use crate::drawn::Dice;
 use crate::oracle::Cache;
+use crate::table::named;
 use crate::tally::Tally;
 use crate::unsound::record;
 use std::collections::BTreeMap;
@@ -73,9 +75,9 @@ pub fn large(tally: &mut Tally) {
     for turn in 0..700 {
         let what = format!("a large cache, turn {}", turn);
         let automaton = if dice.chance(10) {
-            &refused[dice.range(0, refused.len() as u32 - 1) as usize].1
+            &dice.one(&refused).1
         } else {
-            &automata[dice.range(0, automata.len() as u32 - 1) as usize]
+            dice.one(&automata)
         };
         let store = dice.pick(&STORES);
         let before = Lent::new(&mut dice, &grown.cache, automaton, store);
@@ -130,7 +132,7 @@ pub fn narrow(tally: &mut Tally) {
         let mut grown = Grown::empty(tally, &mut dice, &title, room);
         for turn in 0..40 {
             let what = format!("{}, turn {}", title, turn);
-            let automaton = &automata[dice.range(0, automata.len() as u32 - 1) as usize];
+            let automaton = dice.one(&automata);
             let store = dice.pick(&STORES[..7]);
             let before = Lent::new(&mut dice, &grown.cache, automaton, store);
             grown.consult(tally, &what, &before);
@@ -196,7 +198,7 @@ pub fn piled_up(tally: &mut Tally) {
     let mut dice = Dice::new(31);
     let automaton = automata::wheel();
     let mut grown = Grown::empty(tally, &mut dice, "9", 5_000);
-    let filed = Lent::new(&mut dice, &grown.cache, &automata::named("A"), 9);
+    let filed = Lent::new(&mut dice, &grown.cache, &named("A"), 9);
     grown.consult(tally, "9, before it", &filed);
     let before = Lent::new(&mut dice, &grown.cache, &automaton, 65_535 * 19 + 1);
     tally.must("9", Call::Search, &before, 9);
@@ -208,7 +210,7 @@ pub fn piled_up(tally: &mut Tally) {
 /// A used length that comes to need its first byte, once written and once read.
 pub fn past_three_bytes(tally: &mut Tally) {
     let mut dice = Dice::new(141);
-    let largest = automata::named("largest");
+    let largest = named("largest");
     let turned = |turn: usize| {
         let mut automaton = largest.clone();
         automaton[16..18].copy_from_slice(&(turn as u16).to_be_bytes());

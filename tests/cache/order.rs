@@ -1,9 +1,10 @@
 //! Room, the making of an empty cache, and which refusal comes before which.
 
-use crate::automata::{self, named, slot, with_byte};
+use crate::automata::{self, slot};
 use crate::calls::{random_bytes, Call, Lent};
-use crate::draft::Dice;
+use crate::drawn::Dice;
 use crate::oracle::{Cache, Verdict};
+use crate::table::{named, with_byte};
 use crate::tally::Tally;
 use crate::unsound::record;
 

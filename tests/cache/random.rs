@@ -2,20 +2,12 @@
 
 use crate::automata;
 use crate::calls::{random_bytes, Call, Lent};
-use crate::draft::Dice;
+use crate::drawn::Dice;
 use crate::oracle::{self, Cache, Record, Verdict};
 use crate::tally::Tally;
 use crate::unsound::{put, VERDICTS};
 
 const TURNS: usize = 9_000;
-
-fn some<'a, T>(dice: &mut Dice, among: &'a [T]) -> &'a T {
-    &among[dice.range(0, among.len() as u32 - 1) as usize]
-}
-
-fn below(dice: &mut Dice, end: usize) -> usize {
-    dice.range(0, end as u32 - 1) as usize
-}
 
 fn verdict(dice: &mut Dice, lawful: bool) -> Verdict {
     let (kind, n, d, right) = dice.pick(&VERDICTS);
@@ -28,7 +20,7 @@ fn verdict(dice: &mut Dice, lawful: bool) -> Verdict {
 
 /// A sound cache of a few records.
 fn sound(dice: &mut Dice, automata: &[Vec<u8>]) -> Cache {
-    let first = below(dice, automata.len() - 5);
+    let first = dice.below(automata.len() - 5);
     let count = dice.range(0, 5) as usize;
     let some = &automata[first..first + count];
     let records = some.iter().map(|automaton| Record {
@@ -46,15 +38,15 @@ fn spoil_records(dice: &mut Dice, cache: &mut Cache) {
     if count == 0 {
         return;
     }
-    let (k, other) = (below(dice, count), below(dice, count));
+    let (k, other) = (dice.below(count), dice.below(count));
     let automaton = &mut cache.records[k].automaton;
     match dice.range(0, 5) {
         0 => cache.records.swap(k, other),
         1 => cache.records[k].verdict = verdict(dice, false),
         2 => cache.records.insert(other, cache.records[k].clone()),
-        3 => cache.records[k].automaton = some(dice, &automata::refused()).1.clone(),
+        3 => cache.records[k].automaton = dice.one(&automata::refused()).1.clone(),
         4 => {
-            let at = below(dice, automaton.len());
+            let at = dice.below(automaton.len());
             automaton[at] = dice.pick(&[0, 1, 2, 3, 9, 255]);
         }
         _ => {
@@ -65,7 +57,7 @@ fn spoil_records(dice: &mut Dice, cache: &mut Cache) {
 
 /// A damage to the bytes.
 fn spoil_bytes(dice: &mut Dice, bytes: &mut Vec<u8>, used: usize) {
-    let at = below(dice, bytes.len());
+    let at = dice.below(bytes.len());
     match dice.range(0, 6) {
         0 => bytes[at] = dice.range(0, 255) as u8,
         1 => bytes[at] ^= 1 << dice.range(0, 7),
@@ -111,9 +103,9 @@ fn asked(dice: &mut Dice, automata: &[Vec<u8>], cache: &[u8]) -> Vec<u8> {
         }
     }
     if dice.chance(80) {
-        return some(dice, automata).clone();
+        return dice.one(automata).clone();
     }
-    some(dice, &automata::refused()).1.clone()
+    dice.one(&automata::refused()).1.clone()
 }
 
 pub fn damage(tally: &mut Tally) {
@@ -146,7 +138,7 @@ pub fn noise(tally: &mut Tally) {
         if length >= 9 && dice.chance(50) {
             put(&mut cache, 5, length as u32 - 5);
         }
-        let automaton = some(&mut dice, &automata);
+        let automaton = dice.one(&automata);
         let before = Lent::new(&mut dice, &cache, automaton, 100);
         for call in [Call::Sound, Call::LookUp, Call::Consult] {
             tally.call(&what, call, &before);

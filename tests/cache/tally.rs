@@ -1,16 +1,16 @@
 //! What was compared, what failed, and which replies were met.
 
 use crate::calls::{self, Call, Lent};
+use crate::checks::Checks;
 use std::collections::BTreeMap;
+use std::process::ExitCode;
 
-const MOST_PRINTED: usize = 20;
 /// A comparison in which a reply hardly occurs would say little about it.
 const LEAST: usize = 20;
 
 #[derive(Default)]
 pub struct Tally {
-    pub passed: usize,
-    pub failed: usize,
+    checks: Checks,
     met: BTreeMap<String, usize>,
 }
 
@@ -20,14 +20,9 @@ pub struct Left {
     pub lent: Lent,
 }
 
-fn hex(bytes: &[u8]) -> String {
-    let first: String = bytes
-        .iter()
-        .take(80)
-        .map(|b| format!("{:02x}", b))
-        .collect();
-    let more = if bytes.len() > 80 { ".." } else { "" };
-    format!("{}{} ({} bytes)", first, more, bytes.len())
+fn beginning(bytes: &[u8]) -> String {
+    let first = &bytes[..bytes.len().min(80)];
+    format!("{:02x?} ({} bytes)", first, bytes.len())
 }
 
 /// The first place in which two parts differ.
@@ -46,8 +41,8 @@ fn difference(before: &Lent, got: Option<u32>, ours: &Lent, left: &Left) -> Stri
         first_difference(&ours.cache, &left.lent.cache),
         before.store.len(),
         first_difference(&ours.store, &left.lent.store),
-        hex(&before.cache),
-        hex(&before.automaton)
+        beginning(&before.cache),
+        beginning(&before.automaton)
     )
 }
 
@@ -98,14 +93,7 @@ fn possible() -> Vec<String> {
 
 impl Tally {
     pub fn check(&mut self, ok: bool, otherwise: impl Fn() -> String) {
-        if ok {
-            self.passed += 1;
-            return;
-        }
-        self.failed += 1;
-        if self.failed <= MOST_PRINTED {
-            println!("FAILED {}", otherwise());
-        }
+        self.checks.check(ok, otherwise);
     }
 
     /// Makes a call on both sides and compares all that they leave. Gives back the second cache's
@@ -139,7 +127,7 @@ impl Tally {
         left
     }
 
-    pub fn sum_up(&mut self) {
+    pub fn sum_up(mut self) -> ExitCode {
         let calls: usize = self.met.values().sum();
         println!("{} calls: {:?}", calls, self.met);
         for label in possible() {
@@ -148,5 +136,6 @@ impl Tally {
             let least = if label.ends_with(" 9") { 1 } else { LEAST };
             self.check(times >= least, || format!("only {} times {}", times, label));
         }
+        self.checks.sum_up()
     }
 }

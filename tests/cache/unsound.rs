@@ -1,9 +1,10 @@
 //! Every way in which a cache can be unsound, singly, and what is sound just beside it.
 
-use crate::automata::{self, named, with_byte};
+use crate::automata;
 use crate::calls::{random_bytes, Call, Lent};
-use crate::draft::Dice;
+use crate::drawn::Dice;
 use crate::oracle::{Cache, Record, Verdict};
+use crate::table::{named, with_byte};
 use crate::tally::Tally;
 
 const MOST: u32 = u32::MAX;

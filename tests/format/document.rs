@@ -15,8 +15,15 @@ struct Line {
 fn line(text: &str) -> Line {
     let (left, said) = text.split_once('#').expect("what a line says");
     let mut words = left.split_whitespace().map(String::from);
-    let offset = words.next().and_then(|w| w.parse().ok()).expect("an offset");
-    Line { offset, words: words.collect(), said: said.into() }
+    let offset = words
+        .next()
+        .and_then(|w| w.parse().ok())
+        .expect("an offset");
+    Line {
+        offset,
+        words: words.collect(),
+        said: said.into(),
+    }
 }
 
 // The marked code block of a document.
@@ -33,11 +40,19 @@ fn byte(word: &str) -> u8 {
 
 impl Dump {
     pub fn bytes(&self) -> Vec<u8> {
-        self.0.iter().flat_map(|l| &l.words).map(|w| byte(w)).collect()
+        self.0
+            .iter()
+            .flat_map(|l| &l.words)
+            .map(|w| byte(w))
+            .collect()
     }
 
     pub fn numbers(&self) -> Vec<i32> {
-        self.0.iter().flat_map(|l| &l.words).map(|w| w.parse().expect("a number")).collect()
+        self.0
+            .iter()
+            .flat_map(|l| &l.words)
+            .map(|w| w.parse().expect("a number"))
+            .collect()
     }
 
     // Whether each offset is the number of words before it.
@@ -54,7 +69,10 @@ impl Dump {
     pub fn is_annotated(&self) -> bool {
         self.0.iter().filter(|l| l.words.len() <= 4).all(|l| {
             let value = l.words.iter().fold(0, |v: u32, w| v * 256 + byte(w) as u32);
-            let said = l.said.split(|c: char| !c.is_ascii_digit()).filter_map(|w| w.parse().ok());
+            let said = l
+                .said
+                .split(|c: char| !c.is_ascii_digit())
+                .filter_map(|w| w.parse().ok());
             said.last().map_or(true, |number: u32| number == value)
         })
     }
@@ -69,9 +87,18 @@ pub type Row = Vec<String>;
 
 // The rows of the first table under a heading.
 pub fn table(text: &str, heading: &str) -> Vec<Row> {
-    let under = text.lines().skip_while(|l| l.trim_start_matches('#') != format!(" {heading}"));
-    let rows = under.skip_while(|l| !l.starts_with('|')).take_while(|l| l.starts_with('|'));
-    let cells = |line: &str| line.trim_matches('|').split('|').map(|c| c.trim().into()).collect();
+    let under = text
+        .lines()
+        .skip_while(|l| l.trim_start_matches('#') != format!(" {heading}"));
+    let rows = under
+        .skip_while(|l| !l.starts_with('|'))
+        .take_while(|l| l.starts_with('|'));
+    let cells = |line: &str| {
+        line.trim_matches('|')
+            .split('|')
+            .map(|c| c.trim().into())
+            .collect()
+    };
     rows.skip(2).map(cells).collect()
 }
 
@@ -100,6 +127,15 @@ pub struct Sizes {
 }
 
 impl Sizes {
+    pub const fn new(n: usize, m: usize, edges: usize, length: usize) -> Sizes {
+        Sizes {
+            n,
+            m,
+            edges,
+            length,
+        }
+    }
+
     // Of a length such as 11 + 8nm + E(3 + 8n).
     pub fn value(&self, length: &str) -> usize {
         let written: String = length.split_whitespace().collect();

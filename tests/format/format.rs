@@ -1,20 +1,25 @@
-// Holds docs/FORMAT.md to itself and to the proved library: its tables add up, its dumps have their fields where the tables
-// say, and the library reads and writes exactly the dumps.
+// Holds docs/FORMAT.md to itself and to the proved library: its tables add up, its dumps have their
+// fields where the tables say, and the library reads and writes exactly the dumps.
+
+#[path = "../checks.rs"]
+mod checks;
 mod document;
+#[path = "../library.rs"]
 mod library;
 mod own;
 mod ranges;
 
+use checks::Checks;
 use document::{dump, Dump};
-use library::{consult, look_up, make_empty, refused, search, sound, Reply, BEFORE};
+use library::{consult, look_up, make_empty, search, sound, Verdict};
 use std::process::ExitCode;
 
 // What bytes and stores have before, to see that they stand.
 const BYTE: u8 = 0xA5;
 const NUMBER: i32 = -7;
 
-// Card A holds up to 1/1, with one zone.
-const HOLDS: Reply = (0, [1, 1, 1, 1]);
+// Document 01's card A holds up to 1/1, with one zone.
+const HOLDS: Verdict = [1, 1, 1, 1];
 
 // The document, its dumps, and the file that its automaton is.
 struct Format {
@@ -33,7 +38,7 @@ impl Format {
     fn is_searched(&self) -> bool {
         let slot = self.slot.numbers();
         let mut store = vec![NUMBER; slot.len()];
-        search(&self.automaton.bytes(), &mut store) == HOLDS && store == slot
+        search(&self.automaton.bytes(), &mut store) == Ok(HOLDS) && store == slot
     }
 
     // With lent bytes and numbers to spare, which stand.
@@ -44,7 +49,7 @@ impl Format {
         expected.extend([BYTE; 3]);
         numbers.extend([NUMBER; 3]);
         make_empty(&mut cache) == 0
-            && consult(&mut cache, &self.automaton.bytes(), &mut store) == HOLDS
+            && consult(&mut cache, &self.automaton.bytes(), &mut store) == Ok(HOLDS)
             && cache == expected
             && store == numbers
     }
@@ -54,32 +59,42 @@ impl Format {
         let mut cache = vec![BYTE; expected.len()];
         let mut store = vec![NUMBER; self.slot.numbers().len()];
         make_empty(&mut cache) == 0
-            && consult(&mut cache, &self.automaton.bytes(), &mut store) == HOLDS
+            && consult(&mut cache, &self.automaton.bytes(), &mut store) == Ok(HOLDS)
             && cache == expected
     }
 
     fn is_found(&self) -> bool {
         let (cache, automaton) = (self.cache.bytes(), self.automaton.bytes());
-        sound(&cache) == 0 && look_up(&cache, &automaton) == (1, HOLDS)
+        sound(&cache) == 0 && look_up(&cache, &automaton) == Ok(Some(HOLDS))
     }
 
     // No store is asked for where the verdict is filed.
     fn is_consulted_again(&self) -> bool {
         let mut cache = self.cache.bytes();
-        consult(&mut cache, &self.automaton.bytes(), &mut []) == HOLDS && cache == self.cache.bytes()
+        consult(&mut cache, &self.automaton.bytes(), &mut []) == Ok(HOLDS)
+            && cache == self.cache.bytes()
     }
 
     // 1 to 8, each by another length or one other byte of the automaton.
     fn automata_are_refused(&self) -> bool {
-        let edits = [(10, 0, 0), (37, 0, 0), (38, 4, 2), (38, 5, 9), (39, 3, 39), (38, 7, 2), (38, 29, 2), (38, 30, 1)];
+        let edits = [
+            (10, 0, 0),
+            (37, 0, 0),
+            (38, 4, 2),
+            (38, 5, 9),
+            (39, 3, 39),
+            (38, 7, 2),
+            (38, 29, 2),
+            (38, 30, 1),
+        ];
         edits.iter().zip(1..).all(|(&(length, at, byte), number)| {
             let mut automaton = self.automaton.bytes();
             automaton.resize(length, 0);
             automaton[at] = byte;
             let (mut cache, mut store) = (self.cache.bytes(), self.slot.numbers());
-            search(&automaton, &mut store) == refused(number)
-                && look_up(&cache, &automaton) == (BEFORE, refused(number))
-                && consult(&mut cache, &automaton, &mut store) == refused(number)
+            search(&automaton, &mut store) == Err(number)
+                && look_up(&cache, &automaton) == Err(number)
+                && consult(&mut cache, &automaton, &mut store) == Err(number)
                 && (cache, store) == (self.cache.bytes(), self.slot.numbers())
         })
     }
@@ -89,7 +104,7 @@ impl Format {
         let (automaton, mut store) = (self.automaton.bytes(), self.slot.numbers());
         store.pop();
         store.fill(NUMBER);
-        search(&automaton, &mut store) == refused(10) && store.iter().all(|x| *x == NUMBER)
+        search(&automaton, &mut store) == Err(10) && store.iter().all(|x| *x == NUMBER)
     }
 
     // 11: another version.
@@ -98,8 +113,8 @@ impl Format {
         cache[4] = 2;
         let before = cache.clone();
         sound(&cache) == 11
-            && look_up(&cache, &automaton) == (BEFORE, refused(11))
-            && consult(&mut cache, &automaton, &mut []) == refused(11)
+            && look_up(&cache, &automaton) == Err(11)
+            && consult(&mut cache, &automaton, &mut []) == Err(11)
             && cache == before
     }
 
@@ -110,7 +125,11 @@ impl Format {
         let before = cache.clone();
         let reply = consult(&mut cache, &self.automaton.bytes(), &mut [NUMBER; 9]);
         let mut short = [BYTE; 4];
-        empty == 0 && reply == refused(12) && cache == before && make_empty(&mut short) == 12 && short == [BYTE; 4]
+        empty == 0
+            && reply == Err(12)
+            && cache == before
+            && make_empty(&mut short) == 12
+            && short == [BYTE; 4]
     }
 }
 
@@ -123,13 +142,28 @@ const CHECKS: [Check; 20] = [
     ("the dumps' offsets and lengths", Format::dumps_are_counted),
     ("the dumps' annotations", Format::dumps_are_annotated),
     ("the lengths in the text", Format::lengths_are_said),
-    ("the fields stand in the dumps where the tables say", Format::fields_stand),
+    (
+        "the fields stand in the dumps where the tables say",
+        Format::fields_stand,
+    ),
     ("the automaton is the example file", Format::is_example),
-    ("the automaton's search leaves the slot", Format::is_searched),
-    ("consulting an empty cache leaves the cache", Format::is_filed),
+    (
+        "the automaton's search leaves the slot",
+        Format::is_searched,
+    ),
+    (
+        "consulting an empty cache leaves the cache",
+        Format::is_filed,
+    ),
     ("the cache without a byte to spare", Format::fits_exactly),
-    ("the cache is sound, and the automaton is found in it", Format::is_found),
-    ("consulting the cache changes nothing", Format::is_consulted_again),
+    (
+        "the cache is sound, and the automaton is found in it",
+        Format::is_found,
+    ),
+    (
+        "consulting the cache changes nothing",
+        Format::is_consulted_again,
+    ),
     ("the ranges of counts", Format::counts_are_ranged),
     ("the ranges of limits", Format::limits_are_ranged),
     ("the refusals are 1 to 12", Format::refusals_are_listed),
@@ -141,17 +175,20 @@ const CHECKS: [Check; 20] = [
 
 fn main() -> ExitCode {
     let mut arguments = std::env::args().skip(1);
-    let mut file = || std::fs::read(arguments.next().expect("the document and an example")).expect("a file");
+    let mut file =
+        || std::fs::read(arguments.next().expect("the document and an example")).expect("a file");
     let text = String::from_utf8(file()).expect("text");
     let [automaton, slot, cache] = ["automaton", "slot", "cache"].map(|mark| dump(&text, mark));
-    let format = Format { text, example: file(), automaton, slot, cache };
-    let mut failed = 0;
+    let format = Format {
+        text,
+        example: file(),
+        automaton,
+        slot,
+        cache,
+    };
+    let mut checks = Checks::default();
     for (name, check) in CHECKS {
-        if !check(&format) {
-            println!("FAILED {name}");
-            failed += 1;
-        }
+        checks.check(check(&format), || name.into());
     }
-    println!("{} passed, {failed} failed", CHECKS.len() - failed);
-    ExitCode::from((failed > 0) as u8)
+    checks.sum_up()
 }

@@ -1,10 +1,11 @@
-// What docs/FORMAT.md is held to by itself: its tables, its dumps and the lengths in its text agree.
+// What docs/FORMAT.md is held to by itself: its tables, its dumps and the lengths in its text
+// agree.
 use crate::document::{headings_with_offsets, table, Dump, Row, Sizes};
 use crate::Format;
 
-const SMALLEST: Sizes = Sizes { n: 1, m: 1, edges: 0, length: 19 };
-const LARGEST: Sizes = Sizes { n: 8, m: 64, edges: 256, length: 21_259 };
-const OTHER: Sizes = Sizes { n: 3, m: 5, edges: 7, length: 320 };
+pub const SMALLEST: Sizes = Sizes::new(1, 1, 0, 19);
+const LARGEST: Sizes = Sizes::new(8, 64, 256, 21_259);
+const OTHER: Sizes = Sizes::new(3, 5, 7, 320);
 
 // The last row is the total, and has no offset.
 pub fn total(text: &str, heading: &str, sizes: Sizes) -> usize {
@@ -27,22 +28,34 @@ impl Format {
     pub fn sizes(&self) -> Sizes {
         let a = self.automaton.bytes();
         let edges = a[9] as usize * 256 + a[10] as usize;
-        Sizes { n: a[5] as usize, m: a[6] as usize, edges, length: a.len() }
+        Sizes::new(a[5] as usize, a[6] as usize, edges, a.len())
     }
 
     pub fn tables_add_up(&self) -> bool {
         let found = headings_with_offsets(&self.text);
-        let known = ["Automaton", "Limits", "Edge", "Slot", "Pair", "Cache", "Record"];
+        let known = [
+            "Automaton",
+            "Limits",
+            "Edge",
+            "Slot",
+            "Pair",
+            "Cache",
+            "Record",
+        ];
         let all = [SMALLEST, LARGEST, OTHER, self.sizes()];
-        found == known && known.iter().all(|h| all.iter().all(|s| adds_up(&table(&self.text, h), *s)))
+        found == known
+            && known
+                .iter()
+                .all(|h| all.iter().all(|s| adds_up(&table(&self.text, h), *s)))
     }
 
-    // Automata and records say their own length: its range goes with the smallest and the largest total.
+    // Automata and records say their own length: its range goes with the smallest and the largest
+    // total.
     pub fn lengths_are_ranged(&self) -> bool {
         ["Automaton", "Record"].iter().all(|heading| {
             let range = table(&self.text, heading)[0][3].replace(',', "");
-            let ends = (total(&self.text, heading, SMALLEST), total(&self.text, heading, LARGEST));
-            range == format!("{} to {}", ends.0, ends.1)
+            let [least, most] = [SMALLEST, LARGEST].map(|sizes| total(&self.text, heading, sizes));
+            range == format!("{least} to {most}")
         })
     }
 
@@ -53,7 +66,9 @@ impl Format {
 
     pub fn dumps_are_counted(&self) -> bool {
         let size = |heading| total(&self.text, heading, self.sizes());
-        [&self.automaton, &self.slot, &self.cache].iter().all(|d| d.is_counted())
+        [&self.automaton, &self.slot, &self.cache]
+            .iter()
+            .all(|d| d.is_counted())
             && self.automaton.bytes().len() == size("Automaton")
             && self.slot.numbers().len() == size("Slot")
             && self.cache.bytes().len() == size("Cache") + size("Record")
@@ -69,7 +84,10 @@ impl Format {
             format!("card A, {automaton} bytes"),
             format!("in a store of {} numbers", self.slot.numbers().len()),
             format!("The {} bytes of an empty cache", self.cache.bytes().len()),
-            format!("one record of {} bytes", total(&self.text, "Record", self.sizes())),
+            format!(
+                "one record of {} bytes",
+                total(&self.text, "Record", self.sizes())
+            ),
         ];
         sentences.iter().all(|s| self.text.contains(s))
     }
@@ -78,7 +96,9 @@ impl Format {
     fn fields_begin_lines(&self, heading: &str, dump: &Dump, from: usize) -> bool {
         let rows = table(&self.text, heading);
         let fields = &rows[..rows.len() - 1];
-        fields.iter().all(|row| dump.begins_line(from + self.sizes().value(&row[0])))
+        fields
+            .iter()
+            .all(|row| dump.begins_line(from + self.sizes().value(&row[0])))
     }
 
     pub fn fields_stand(&self) -> bool {
@@ -86,7 +106,9 @@ impl Format {
         let edges = sizes.value("11 + 8nm");
         let limits = [11, 19, edges + 3];
         self.fields_begin_lines("Automaton", &self.automaton, 0)
-            && limits.iter().all(|at| self.fields_begin_lines("Limits", &self.automaton, *at))
+            && limits
+                .iter()
+                .all(|at| self.fields_begin_lines("Limits", &self.automaton, *at))
             && self.fields_begin_lines("Edge", &self.automaton, edges)
             && self.fields_begin_lines("Slot", &self.slot, 0)
             && self.fields_begin_lines("Cache", &self.cache, 0)
@@ -94,7 +116,9 @@ impl Format {
     }
 
     pub fn refusals_are_listed(&self) -> bool {
-        let numbers = table(&self.text, "Refusals").into_iter().map(|row| row[0].clone());
+        let numbers = table(&self.text, "Refusals")
+            .into_iter()
+            .map(|row| row[0].clone());
         numbers.eq((1..=12).map(|number: u32| number.to_string()))
     }
 }

@@ -1,10 +1,9 @@
-// The ranges in docs/FORMAT.md, by the library: it accepts their ends and turns down what is next to them.
+// The ranges in docs/FORMAT.md, by the library: it accepts their ends and turns down what is next
+// to them.
 use crate::document::{table, Row, Sizes};
-use crate::library::search;
-use crate::own::total;
+use crate::library::{search, Verdict};
+use crate::own::{total, SMALLEST};
 use crate::Format;
-
-const LEAST: Sizes = Sizes { n: 1, m: 1, edges: 0, length: 19 };
 
 // The ends of a range that begins as in 0 to 1,000,000.
 fn ends(row: &Row) -> (usize, usize) {
@@ -14,10 +13,10 @@ fn ends(row: &Row) -> (usize, usize) {
 }
 
 // Whether the range is that of what is accepted, all else being refused with a number.
-fn is_range(row: &Row, refusal: u32, reply: impl Fn(usize) -> u32) -> bool {
+fn is_range(row: &Row, refusal: u32, reply: impl Fn(usize) -> Result<Verdict, u32>) -> bool {
     let (least, most) = ends(row);
-    let below = least == 0 || reply(least - 1) == refusal;
-    below && reply(least) == 0 && reply(most) == 0 && reply(most + 1) == refusal
+    let below = least == 0 || reply(least - 1) == Err(refusal);
+    below && reply(least).is_ok() && reply(most).is_ok() && reply(most + 1) == Err(refusal)
 }
 
 impl Format {
@@ -35,19 +34,19 @@ impl Format {
         let rows = table(&self.text, "Automaton");
         let right = |field: &str, sizes: fn(usize) -> Sizes| {
             let row = rows.iter().find(|row| row[2] == field).expect("a count");
-            is_range(row, 4, |count| search(&self.blank(sizes(count)), &mut []).0)
+            is_range(row, 4, |count| search(&self.blank(sizes(count)), &mut []))
         };
-        right("clocks n", |n| Sizes { n, ..LEAST })
-            && right("locations m", |m| Sizes { m, ..LEAST })
-            && right("edges E", |edges| Sizes { edges, ..LEAST })
+        right("clocks n", |n| Sizes { n, ..SMALLEST })
+            && right("locations m", |m| Sizes { m, ..SMALLEST })
+            && right("edges E", |edges| Sizes { edges, ..SMALLEST })
     }
 
     // In the only invariant.
     pub fn limits_are_ranged(&self) -> bool {
         let reply = |at: usize, limit: usize| {
-            let mut automaton = self.blank(LEAST);
+            let mut automaton = self.blank(SMALLEST);
             automaton[at..at + 4].copy_from_slice(&(limit as u32).to_be_bytes());
-            search(&automaton, &mut []).0
+            search(&automaton, &mut [])
         };
         let rows = table(&self.text, "Limits");
         is_range(&rows[0], 8, |lo| reply(11, lo)) && is_range(&rows[1], 8, |hi| reply(15, hi))

@@ -1,9 +1,10 @@
 //! A second search, written from document 01 alone, to hold the program against. It shares nothing
-//! with the verified library: cards are copied out, zones grow on the heap, numbers are 64 bits wide.
+//! with the verified library: automata are copied out, zones grow on the heap, numbers are 64 bits
+//! wide.
 
 use std::fmt;
 
-const ABSENT: u32 = u32::MAX;
+const NO_UPPER: u32 = u32::MAX;
 const SCALE: u32 = 1_000_000;
 const MOST_ERRORS: i64 = 65_535;
 const MOST_SLOTS: usize = 2_147_483_647;
@@ -21,7 +22,7 @@ struct Edge {
     guard: Vec<Limit>,
 }
 
-struct Card {
+struct Automaton {
     clocks: usize,
     start: usize,
     target: usize,
@@ -84,24 +85,24 @@ fn edge(bytes: &[u8]) -> Edge {
     }
 }
 
-impl Card {
-    fn read(bytes: &[u8]) -> Result<Card, u8> {
+impl Automaton {
+    fn read(bytes: &[u8]) -> Result<Automaton, u8> {
         let h = header(bytes)?;
         let (row, first_edge) = (8 * h.clocks, 11 + 8 * h.clocks * h.locations);
-        let card = Card {
+        let automaton = Automaton {
             clocks: h.clocks,
             start: usize::from(bytes[7]),
             target: usize::from(bytes[8]),
             invariants: bytes[11..first_edge].chunks(row).map(limits).collect(),
             edges: bytes[first_edge..].chunks(3 + row).map(edge).collect(),
         };
-        assert_eq!(card.edges.len(), h.edges);
-        card.lawful().map(|()| card)
+        assert_eq!(automaton.edges.len(), h.edges);
+        automaton.lawful().map(|()| automaton)
     }
 
     /// Refusals 6 to 8.
     fn lawful(&self) -> Result<(), u8> {
-        let there = |place: usize| place < self.invariants.len();
+        let there = |location: usize| location < self.invariants.len();
         let ends = self.edges.iter().all(|e| there(e.from) && there(e.to));
         if !there(self.start) || !there(self.target) || !ends {
             return Err(6);
@@ -114,9 +115,9 @@ impl Card {
             return Err(7);
         }
         let bounded = |l: &Limit| l.lo <= SCALE && l.hi <= SCALE;
-        let guards = |l: &Limit| l.lo <= SCALE && (l.hi <= SCALE || l.hi == ABSENT);
-        let places = self.invariants.iter().flatten().all(bounded);
-        if !places || !self.edges.iter().flat_map(|e| &e.guard).all(guards) {
+        let guards = |l: &Limit| l.lo <= SCALE && (l.hi <= SCALE || l.hi == NO_UPPER);
+        let invariants = self.invariants.iter().flatten().all(bounded);
+        if !invariants || !self.edges.iter().flat_map(|e| &e.guard).all(guards) {
             return Err(8);
         }
         Ok(())
@@ -131,6 +132,11 @@ struct Pair {
 }
 
 impl Pair {
+    /// A limit, loosened by the error.
+    fn loosened(m: i64) -> Pair {
+        Pair { m, p: 1 }
+    }
+
     fn at_most(self, other: Pair) -> bool {
         self.m < other.m || self.m == other.m && self.p <= other.p
     }
@@ -207,26 +213,10 @@ impl Zone {
 
     fn meet(&mut self, limits: &[Limit], fraction: &mut Fraction) {
         for (i, l) in limits.iter().enumerate() {
-            if l.hi != ABSENT {
-                self.lower(
-                    i + 1,
-                    0,
-                    Pair {
-                        m: i64::from(l.hi),
-                        p: 1,
-                    },
-                    fraction,
-                );
+            if l.hi != NO_UPPER {
+                self.lower(i + 1, 0, Pair::loosened(i64::from(l.hi)), fraction);
             }
-            self.lower(
-                0,
-                i + 1,
-                Pair {
-                    m: -i64::from(l.lo),
-                    p: 1,
-                },
-                fraction,
-            );
+            self.lower(0, i + 1, Pair::loosened(-i64::from(l.lo)), fraction);
         }
     }
 
@@ -266,14 +256,7 @@ impl Zone {
         self.meet(invariant, fraction);
         let mut zone = self.reduce(fraction)?;
         for (i, l) in invariant.iter().enumerate() {
-            zone.put(
-                i + 1,
-                0,
-                Pair {
-                    m: i64::from(l.hi),
-                    p: 1,
-                },
-            );
+            zone.put(i + 1, 0, Pair::loosened(i64::from(l.hi)));
         }
         zone.reduce(fraction)
     }
@@ -312,22 +295,22 @@ enum Stop {
 }
 
 struct Search<'a> {
-    card: &'a Card,
+    automaton: &'a Automaton,
     store: &'a mut [i32],
     kept: Vec<(usize, Zone)>,
     /// The numbers of the kept zones by location, oldest first.
-    at_place: Vec<Vec<usize>>,
+    at_location: Vec<Vec<usize>>,
     fraction: Fraction,
 }
 
 impl Search<'_> {
     fn run(&mut self) -> Result<(), Stop> {
-        let card = self.card;
-        self.arrive(Zone::first(card.clocks), card.start)?;
+        let automaton = self.automaton;
+        self.arrive(Zone::first(automaton.clocks), automaton.start)?;
         let mut taken = 0;
         while taken < self.kept.len() {
             let from = self.kept[taken].0;
-            for edge in card.edges.iter().filter(|e| e.from == from) {
+            for edge in automaton.edges.iter().filter(|e| e.from == from) {
                 self.follow(taken, edge)?;
             }
             taken += 1;
@@ -344,19 +327,19 @@ impl Search<'_> {
         }
     }
 
-    fn arrive(&mut self, zone: Zone, place: usize) -> Result<(), Stop> {
-        match zone.enter(&self.card.invariants[place], &mut self.fraction) {
-            Some(zone) => self.judge(zone, place),
+    fn arrive(&mut self, zone: Zone, location: usize) -> Result<(), Stop> {
+        match zone.enter(&self.automaton.invariants[location], &mut self.fraction) {
+            Some(zone) => self.judge(zone, location),
             None => Ok(()),
         }
     }
 
-    fn judge(&mut self, zone: Zone, place: usize) -> Result<(), Stop> {
-        if place == self.card.target {
+    fn judge(&mut self, zone: Zone, location: usize) -> Result<(), Stop> {
+        if location == self.automaton.target {
             return Err(Stop::Reached);
         }
         let kept = &self.kept;
-        if let Some(&old) = self.at_place[place]
+        if let Some(&old) = self.at_location[location]
             .iter()
             .find(|&&k| zone.within(&kept[k].1))
         {
@@ -368,38 +351,38 @@ impl Search<'_> {
         if zone.pairs.iter().any(|pair| pair.p > MOST_ERRORS) {
             return Err(Stop::Refused(9));
         }
-        self.keep(zone, place)
+        self.keep(zone, location)
     }
 
-    fn keep(&mut self, zone: Zone, place: usize) -> Result<(), Stop> {
+    fn keep(&mut self, zone: Zone, location: usize) -> Result<(), Stop> {
         let width = 1 + 2 * zone.pairs.len();
         let slot = self.kept.len();
         if slot >= (self.store.len() / width).min(MOST_SLOTS) {
             return Err(Stop::Refused(10));
         }
         let numbers = zone.pairs.iter().flat_map(|pair| [pair.m, pair.p]);
-        let numbers = std::iter::once(place as i64).chain(numbers);
+        let numbers = std::iter::once(location as i64).chain(numbers);
         for (cell, n) in self.store[slot * width..].iter_mut().zip(numbers) {
             *cell = i32::try_from(n).expect("a kept number has 32 bits");
         }
-        self.at_place[place].push(slot);
-        self.kept.push((place, zone));
+        self.at_location[location].push(slot);
+        self.kept.push((location, zone));
         Ok(())
     }
 }
 
 /// The program's answer for these bytes, with this store lent.
 pub fn search(bytes: &[u8], store: &mut [i32]) -> Outcome {
-    let card = match Card::read(bytes) {
-        Ok(card) => card,
+    let automaton = match Automaton::read(bytes) {
+        Ok(automaton) => automaton,
         Err(number) => return Outcome::Refused(number),
     };
-    let at_place = vec![Vec::new(); card.invariants.len()];
+    let at_location = vec![Vec::new(); automaton.invariants.len()];
     let mut s = Search {
-        card: &card,
+        automaton: &automaton,
         store,
         kept: Vec::new(),
-        at_place,
+        at_location,
         fraction: Fraction(None),
     };
     let end = s.run();

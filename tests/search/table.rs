@@ -1,6 +1,9 @@
-//! Document 01's cards on the table, built as its words describe them.
+//! The automata of document 01's table, its cards, built as its words describe them.
 
-use crate::draft::{Draft, Edge, Limit, ABSENT};
+use crate::draft::{Draft, Edge, Limit, NO_UPPER};
+
+/// The bytes of an automaton, by the name of its file in examples/.
+type Named = (&'static str, Vec<u8>);
 
 fn edge(from: u8, to: u8, reset: u8, guard: &[Limit]) -> Edge {
     Edge {
@@ -21,21 +24,21 @@ fn usual(guard: Limit, reset: u8) -> Draft {
     }
 }
 
-/// A usual card after one change.
+/// A usual automaton after one change.
 fn but(mut draft: Draft, change: impl Fn(&mut Draft)) -> Vec<u8> {
     change(&mut draft);
     draft.bytes()
 }
 
-/// A card's bytes with one of them changed.
-fn with_byte(mut bytes: Vec<u8>, at: usize, value: u8) -> Vec<u8> {
-    bytes[at] = value;
-    bytes
+pub fn with_byte(bytes: &[u8], at: usize, value: u8) -> Vec<u8> {
+    let mut changed = bytes.to_vec();
+    changed[at] = value;
+    changed
 }
 
 fn wheel() -> Vec<u8> {
     let exact = (1, 1);
-    let free = (0, ABSENT);
+    let free = (0, NO_UPPER);
     let draft = Draft {
         start: 0,
         target: 2,
@@ -43,16 +46,17 @@ fn wheel() -> Vec<u8> {
         edges: vec![
             edge(0, 1, 1, &[exact, free]),
             edge(1, 0, 2, &[free, exact]),
-            edge(1, 2, 0, &[(1, ABSENT), free]),
+            edge(1, 2, 0, &[(1, NO_UPPER), free]),
         ],
     };
     draft.bytes()
 }
 
-/// All counts at their upper end: 63 edges lead on from place to place, the others stay at the start.
+/// All counts at their upper end: 63 edges lead on from location to location, the others stay at
+/// the start.
 fn largest() -> Vec<u8> {
-    let free = [(0, ABSENT); 8];
-    let onward = (0..63).map(|place| edge(place, place + 1, 255, &free));
+    let free = [(0, NO_UPPER); 8];
+    let onward = (0..63).map(|from| edge(from, from + 1, 255, &free));
     let staying = (63..256).map(|_| edge(0, 0, 255, &free));
     let draft = Draft {
         start: 0,
@@ -63,56 +67,56 @@ fn largest() -> Vec<u8> {
     draft.bytes()
 }
 
-/// The letters' cards, by the name of their file.
-fn letters() -> Vec<(&'static str, Vec<u8>)> {
-    let free = (0, ABSENT);
-    let a = || usual((7, ABSENT), 0);
+/// Document 01's cards A to K.
+fn letters() -> Vec<Named> {
+    let free = (0, NO_UPPER);
+    let a = || usual((7, NO_UPPER), 0);
     let late = |d: &mut Draft| {
         d.edges.clear();
         d.invariants[0][0].0 = 2;
     };
     vec![
         ("A", a().bytes()),
-        ("B", usual((5, ABSENT), 0).bytes()),
+        ("B", usual((5, NO_UPPER), 0).bytes()),
         ("C", but(usual((5, 3), 0), |d| d.invariants[0][0].1 = 9)),
         ("D", but(a(), |d| d.edges.clear())),
         ("E", but(a(), late)),
         ("E-start-is-target", but(Draft { target: 0, ..a() }, late)),
-        ("F", usual((4, ABSENT), 1).bytes()),
+        ("F", usual((4, NO_UPPER), 1).bytes()),
         ("G", but(usual(free, 1), |d| d.invariants[1][0].0 = 3)),
         ("H", but(usual(free, 1), |d| d.edges[0].to = 0)),
-        ("J", usual((7, ABSENT), 2).bytes()),
-        ("J-nine-clocks", with_byte(a().bytes(), 5, 9)),
+        ("J", usual((7, NO_UPPER), 2).bytes()),
+        ("J-nine-clocks", with_byte(&a().bytes(), 5, 9)),
         ("K", wheel()),
     ]
 }
 
-/// The cards at and past the ends of what a limit may be.
-fn limits() -> Vec<(&'static str, Vec<u8>)> {
+/// At and past the ends of what a limit may be.
+fn limits() -> Vec<Named> {
     const MOST: u32 = 1_000_000;
-    let a = || usual((7, ABSENT), 0);
+    let a = || usual((7, NO_UPPER), 0);
     let most = |d: &mut Draft| d.invariants = vec![vec![(0, MOST)]; 2];
     let invariant_lo = |d: &mut Draft| d.invariants[0][0].0 = MOST + 1;
     let invariant_hi = |d: &mut Draft| d.invariants[1][0].1 = MOST + 1;
-    let without_hi = |d: &mut Draft| d.invariants[0][0].1 = ABSENT;
+    let without_hi = |d: &mut Draft| d.invariants[0][0].1 = NO_UPPER;
     vec![
         ("limit-1000000", but(usual((MOST, MOST), 0), most)),
         ("limit-1000001-invariant-lo", but(a(), invariant_lo)),
         ("limit-1000001-invariant-hi", but(a(), invariant_hi)),
         (
             "limit-1000001-guard-lo",
-            usual((MOST + 1, ABSENT), 0).bytes(),
+            usual((MOST + 1, NO_UPPER), 0).bytes(),
         ),
         ("limit-1000001-guard-hi", usual((7, MOST + 1), 0).bytes()),
         ("invariant-without-hi", but(a(), without_hi)),
     ]
 }
 
-/// The cards at and past the ends of what a length or a count may be.
-fn counts() -> Vec<(&'static str, Vec<u8>)> {
-    let a = || usual((7, ABSENT), 0);
+/// At and past the ends of what a length or a count may be.
+fn counts() -> Vec<Named> {
+    let a = || usual((7, NO_UPPER), 0);
     let many_edges = |d: &mut Draft| d.edges = vec![d.edges[0].clone(); 257];
-    let many_places = |d: &mut Draft| d.invariants = vec![vec![(0, 5)]; 65];
+    let many_locations = |d: &mut Draft| d.invariants = vec![vec![(0, 5)]; 65];
     let alone = |d: &mut Draft| {
         d.target = 0;
         d.invariants.truncate(1);
@@ -121,12 +125,17 @@ fn counts() -> Vec<(&'static str, Vec<u8>)> {
     vec![
         ("ten-bytes", a().bytes()[..10].to_vec()),
         ("edges-257", but(a(), many_edges)),
-        ("locations-65", but(a(), many_places)),
+        ("locations-65", but(a(), many_locations)),
         ("smallest", but(a(), alone)),
         ("largest", largest()),
     ]
 }
 
-pub fn cards() -> Vec<(&'static str, Vec<u8>)> {
+pub fn automata() -> Vec<Named> {
     [letters(), limits(), counts()].concat()
+}
+
+pub fn named(name: &str) -> Vec<u8> {
+    let found = automata().into_iter().find(|(there, _)| *there == name);
+    found.expect("an automaton of document 01").1
 }

@@ -1,8 +1,8 @@
-//! Cards to be written: drawn at random from a seed, and damaged.
+//! Automata drawn at random from a seed.
 
-pub const ABSENT: u32 = u32::MAX;
+use crate::draft::{Draft, Edge, Limit, NO_UPPER};
 
-/// Splitmix64: the same cards on every machine.
+/// Splitmix64: the same automata on every machine.
 pub struct Dice(u64);
 
 impl Dice {
@@ -23,72 +23,32 @@ impl Dice {
         from + (self.next() % u64::from(to - from + 1)) as u32
     }
 
+    /// One of 0, .., end - 1.
+    pub fn below(&mut self, end: usize) -> usize {
+        (self.next() % end as u64) as usize
+    }
+
     pub fn chance(&mut self, percent: u32) -> bool {
         self.range(0, 99) < percent
     }
 
+    pub fn one<'a, T>(&mut self, among: &'a [T]) -> &'a T {
+        &among[self.below(among.len())]
+    }
+
     pub fn pick<T: Copy>(&mut self, among: &[T]) -> T {
-        among[self.range(0, among.len() as u32 - 1) as usize]
+        *self.one(among)
     }
 }
 
-pub type Limit = (u32, u32);
-
-#[derive(Clone)]
-pub struct Edge {
-    pub from: u8,
-    pub to: u8,
-    pub reset: u8,
-    pub guard: Vec<Limit>,
-}
-
-#[derive(Clone)]
-pub struct Draft {
-    pub start: u8,
-    pub target: u8,
-    pub invariants: Vec<Vec<Limit>>,
-    pub edges: Vec<Edge>,
-}
-
-fn write_limits(bytes: &mut Vec<u8>, limits: &[Limit]) {
-    for (lo, hi) in limits {
-        bytes.extend(lo.to_be_bytes());
-        bytes.extend(hi.to_be_bytes());
-    }
-}
-
-/// Makes the length field tell the number of bytes, so that a damage further on is what is refused.
-pub fn recount(bytes: &mut [u8]) {
-    let length = bytes.len() as u32;
-    bytes[..4].copy_from_slice(&length.to_be_bytes());
-}
-
-impl Draft {
-    pub fn bytes(&self) -> Vec<u8> {
-        let clocks = self.invariants[0].len() as u8;
-        let mut bytes = vec![0, 0, 0, 0, 1, clocks, self.invariants.len() as u8];
-        bytes.extend([self.start, self.target]);
-        bytes.extend((self.edges.len() as u16).to_be_bytes());
-        for limits in &self.invariants {
-            write_limits(&mut bytes, limits);
-        }
-        for edge in &self.edges {
-            bytes.extend([edge.from, edge.to, edge.reset]);
-            write_limits(&mut bytes, &edge.guard);
-        }
-        recount(&mut bytes);
-        bytes
-    }
-}
-
-/// What a random card leans to; without it nearly all cards would be reached.
+/// What a random automaton leans to; without it nearly all would be reached.
 #[derive(Clone, Copy)]
 pub enum Lean {
     /// Nothing: any limits, any edges.
     Plain,
     /// Lower limits of 0 and no edge to the target: no comparison has a threshold.
     Calm,
-    /// Edges to the target ask more than most places allow.
+    /// Edges to the target ask more than most locations allow.
     Guarded,
     /// Exact guards that reset one clock, round and round: errors add up until the store is full.
     Wheel,
@@ -128,7 +88,7 @@ fn guard(dice: &mut Dice, lean: Lean) -> Limit {
         _ => dice.range(0, 7),
     };
     match lean {
-        _ if dice.chance(50) => (lo, ABSENT),
+        _ if dice.chance(50) => (lo, NO_UPPER),
         Lean::Plain => (lo, dice.range(0, 9)),
         _ => (lo, lo + dice.range(0, 5)),
     }
@@ -148,11 +108,11 @@ fn edge(dice: &mut Dice, lean: Lean, size: &Size, target: u32) -> Edge {
     match lean {
         Lean::Wheel => {
             let turn = dice.range(1, 2);
-            limits = vec![(0, ABSENT); size.clocks as usize];
+            limits = vec![(0, NO_UPPER); size.clocks as usize];
             limits[clock as usize] = (turn, turn);
             reset = 1 << clock;
         }
-        Lean::Guarded if to == target => limits[clock as usize] = (dice.range(5, 12), ABSENT),
+        Lean::Guarded if to == target => limits[clock as usize] = (dice.range(5, 12), NO_UPPER),
         _ => {}
     }
     Edge {
@@ -168,27 +128,27 @@ pub fn drawn(dice: &mut Dice, lean: Lean, size: &Size) -> Draft {
     let start = dice.range(0, last);
     let other = (start + dice.range(1, last.max(1))) % size.locations;
     let target = if dice.chance(3) { start } else { other };
-    let place = |dice: &mut Dice| (0..size.clocks).map(|_| invariant(dice, lean)).collect();
+    let limits = |dice: &mut Dice| (0..size.clocks).map(|_| invariant(dice, lean)).collect();
     Draft {
         start: start as u8,
         target: target as u8,
-        invariants: (0..size.locations).map(|_| place(dice)).collect(),
+        invariants: (0..size.locations).map(|_| limits(dice)).collect(),
         edges: (0..size.edges)
             .map(|_| edge(dice, lean, size, target))
             .collect(),
     }
 }
 
-/// Direct edges to a place and a chain of hops to it. The chain's zone has more errors and, often,
-/// smaller constants than a direct one: it is found within that, and only the threshold of that test
-/// is low. Where a direct edge also resets the last clock, the test fails at the last pairs and must
-/// lower nothing.
+/// Direct edges to a location and a chain of hops to it. The chain's zone has more errors and,
+/// often, smaller constants than a direct one: it is found within that, and only the threshold of
+/// that test is low. Where a direct edge also resets the last clock, the test fails at the last
+/// pairs and must lower nothing.
 pub fn shortcut(dice: &mut Dice) -> Draft {
     let hops = dice.range(2, 6) as u8;
     let clocks = usize::from(hops) + 2;
     let (last, between) = (2 << hops, (2 << hops) - 2);
     let edge = |from: u8, to: u8, reset: u8, hi: u32| {
-        let mut guard = vec![(0, ABSENT); clocks];
+        let mut guard = vec![(0, NO_UPPER); clocks];
         guard[usize::from(from)].1 = hi;
         Edge {
             from,
@@ -223,7 +183,7 @@ pub fn crowd(clocks: usize, edges: usize) -> Draft {
         from: 0,
         to: 1 + (i / masks) as u8,
         reset: 1 + (i % masks) as u8,
-        guard: vec![(0, ABSENT); clocks],
+        guard: vec![(0, NO_UPPER); clocks],
     };
     let edges: Vec<Edge> = (0..edges).map(edge).collect();
     let target = edges[edges.len() - 1].to + 1;
@@ -234,63 +194,4 @@ pub fn crowd(clocks: usize, edges: usize) -> Draft {
         invariants,
         edges,
     }
-}
-
-/// One damage to the fields of a card, some of them just inside what is allowed.
-pub fn spoil_field(dice: &mut Dice, draft: &mut Draft) {
-    let clocks = draft.invariants[0].len() as u32;
-    let locations = draft.invariants.len() as u8;
-    let place = dice.pick(&[locations - 1, locations, locations, 255]);
-    let limit = dice.pick(&[1_000_000, 1_000_001, ABSENT - 1, ABSENT]);
-    let clock = dice.range(0, clocks - 1) as usize;
-    let which = if draft.edges.is_empty() {
-        dice.range(0, 3)
-    } else {
-        dice.range(0, 8)
-    };
-    if which < 4 {
-        let l = &mut draft.invariants[dice.range(0, u32::from(locations) - 1) as usize][clock];
-        match which {
-            0 => draft.start = place,
-            1 => draft.target = place,
-            2 => l.0 = limit,
-            _ => l.1 = limit,
-        }
-        return;
-    }
-    let last = draft.edges.len() as u32 - 1;
-    let edge = &mut draft.edges[dice.range(0, last) as usize];
-    match which {
-        4 => edge.from = place,
-        5 => edge.to = place,
-        6 => edge.reset |= 1 << dice.range(0, 7),
-        7 => edge.guard[clock].0 = limit,
-        _ => edge.guard[clock].1 = limit,
-    }
-}
-
-/// One damage to the bytes of a card, unless an earlier one left a stub.
-pub fn spoil_bytes(dice: &mut Dice, bytes: &mut Vec<u8>) {
-    if bytes.len() < 11 {
-        return;
-    }
-    let last = bytes.len() as u32 - 1;
-    match dice.range(0, 6) {
-        0 => bytes.truncate(dice.range(0, last) as usize),
-        1 => bytes.truncate(dice.range(0, 14) as usize),
-        2 => bytes.push(dice.range(0, 255) as u8),
-        3 => bytes[4] = dice.pick(&[0, 2, 255]),
-        4 => bytes[5] = dice.pick(&[0, 1, 8, 9, 255]),
-        5 => bytes[6] = dice.pick(&[0, 1, 64, 65, 255]),
-        _ => bytes[dice.range(0, last) as usize] ^= 1 << dice.range(0, 7),
-    }
-    if bytes.len() >= 4 && dice.chance(60) {
-        recount(bytes);
-    }
-}
-
-/// A number of edges that the bytes do not have; those past 256 are outside the range.
-pub fn spoil_edges(dice: &mut Dice, bytes: &mut [u8]) {
-    let edges: u16 = dice.pick(&[0, 1, 256, 257, 65_535]);
-    bytes[9..11].copy_from_slice(&edges.to_be_bytes());
 }

@@ -1,0 +1,20 @@
+// How the two sides of a benchmark are timed.
+use std::hint::black_box;
+use std::time::Instant;
+
+pub fn nanoseconds<T>(f: impl FnOnce() -> T) -> f64 {
+    let start = Instant::now();
+    black_box(f());
+    start.elapsed().as_nanos() as f64
+}
+
+// The sides take turns, and each has the best of its times.
+pub fn best<const N: usize>(times: u32, mut side: impl FnMut(usize) -> f64) -> [f64; N] {
+    let mut best = [f64::INFINITY; N];
+    for _ in 0..times {
+        for (i, best) in best.iter_mut().enumerate() {
+            *best = best.min(side(i));
+        }
+    }
+    best
+}
