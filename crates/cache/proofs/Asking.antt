@@ -1,29 +1,26 @@
 -- One law for each branch of the definitions of making empty, asking and consulting.
 -- Assumes nothing.
 use Prim.Native.Nat.{ℕ, _+_, _-_, _≤_, _<_}
-use mathlib.Core.Bool.{Bool, true, false, cond, not, _&&_, _||_}
+use mathlib.Core.Bool.{Bool, true, false, _&&_, _||_}
 use mathlib.Core.List.{List, [], _∷_, _++_}
-use mathlib.Core.Path.{_≡_, refl, sym, ap, _∙_, subst}
+use mathlib.Core.Path.{_≡_, refl, sym, ap, _∙_}
 use borrow.Author.Tests.{lt-ltb, le-ltb, eq-eqb, ne-eqb, le-leb, lt-leb}
-use lib.Dec.{ltb, leb, eqb}
-use lib.IntN.{ℤ}
+use lib.Dec.{ltb}
 use lib.ListN.{length, take, drop}
 use native.Mathlib.Omega.{arith}
 use Rattle.search.specs.declared.verdict.Answer.{Answer}
 use Rattle.search.specs.declared.verdict.Answer.the-variants.{Found, Refused}
-use Rattle.search.specs.declared.verdict.Holding.the-variants.{AnyError, Below}
 use Rattle.search.specs.declared.verdict.Verdict.{Verdict}
 use Rattle.search.specs.declared.verdict.Verdict.the-variants.{Reached, Holds}
 use Rattle.search.specs.Automata.{refusalOf}
 use Rattle.search.specs.Given.{Given}
-use Rattle.search.specs.Verdicts.{searchAnswer, searchStore, kindOf, termsOf}
-use Rattle.cache.specs.declared.lookup.Lookup.{Lookup}
+use Rattle.search.specs.Verdicts.{kindOf, termsOf}
 use Rattle.cache.specs.declared.lookup.Lookup.the-variants as lookup
 use Rattle.cache.specs.Bytes.{be32}
 use Rattle.cache.specs.Records.{Fits, headOf, recordOf}
-use Rattle.cache.specs.Lookups.{lookUp, isAbsent}
+use Rattle.cache.specs.Lookups.{lookUp}
 use Rattle.cache.specs.Caches.{usedOf, versionOf, recordBytes, recordsOf, recordsIn, soundRecords, distinct, soundHeader, sound}
-use Rattle.cache.specs.Consulting.{makeEmptyReply, makeEmptyCache, lookUpIn, full, appended, filing, answerTo, consultAnswer, searched, consultCache, consultStore}
+use Rattle.cache.specs.Consulting.{makeEmptyReply, makeEmptyCache, lookUpIn, full, appended, filing}
 
 -- ---- making empty
 module _ (c : List ℕ) where

@@ -1,6 +1,6 @@
 -- Card A consulted, computed from the definitions.
 -- Assumes nothing.
-use mathlib.Core.Path.{_≡_, refl}
+use mathlib.Core.Path.{refl}
 use Rattle.zones.specs.Containment.{containmentOf, countTo, larger, loweredTo, withinTo}
 use Rattle.zones.specs.Fractions.{loweredBy, euclid, gcdOf, lowestTerms}
 use Rattle.zones.specs.Pairs.{sumOf, isLess, thresholdOf, smallerOf}

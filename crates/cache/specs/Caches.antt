@@ -1,12 +1,18 @@
 -- "Header: 4 bytes used length, header included; version 1." Then the records.
 use Prim.Native.Nat.{ℕ, zero, suc, _+_, _-_}
-use mathlib.Core.Bool.{Bool, true, false, not, cond, _&&_}
+use mathlib.Core.Bool.{Bool, true, false, cond, _&&_}
 use mathlib.Core.List.{List, [], _∷_}
-use lib.Dec.{ltb, leb, eqb}
+use lib.Dec.{leb, eqb}
 use lib.ListN.{length, getD, take, drop}
 use Rattle.search.specs.Automata.{be32At}
 use Rattle.cache.specs.Records.{measured, soundRecord, recordAutomaton}
 use Rattle.cache.specs.Lookups.{lookUp, isAbsent}
+
+abbrev pub headerLength : ℕ
+headerLength = 5
+
+abbrev pub cacheVersion : ℕ
+cacheVersion = 1
 
 abbrev pub usedOf : List ℕ → ℕ
 usedOf c = be32At c 0
@@ -25,7 +31,7 @@ recordsIn s = split (length s) s
 
 -- the bytes that they fill
 abbrev pub recordBytes : List ℕ → List ℕ
-recordBytes c = take (usedOf c - 5) (drop 5 c)
+recordBytes c = take (usedOf c - headerLength) (drop headerLength c)
 
 abbrev pub recordsOf : List ℕ → List (List ℕ)
 recordsOf c = recordsIn (recordBytes c)
@@ -50,7 +56,7 @@ distinct (r ∷ rs) = cond (isAbsent (lookUp rs (recordAutomaton r))) (distinct 
 
 -- "at least 5 bytes lent, used length from 5 to what is lent, version 1"
 unfoldable pub soundHeader : List ℕ → Bool
-soundHeader c = leb 5 (length c) && (leb 5 (usedOf c) && (leb (usedOf c) (length c) && eqb (versionOf c) 1))
+soundHeader c = leb headerLength (length c) && (leb headerLength (usedOf c) && (leb (usedOf c) (length c) && eqb (versionOf c) cacheVersion))
 
 unfoldable pub sound : List ℕ → Bool
 sound c = soundHeader c && (soundRecords (recordBytes c) && distinct (recordsOf c))

@@ -1,29 +1,28 @@
 -- "Consulting: 1 to 8; 11; if the card's bytes are there, the filed verdict, nothing changed; 12; then the search, 9 and 10 included; a new record is written into the free tail of the lent shelf, the used length follows, other bytes stand."
 use Prim.Native.Nat.{ℕ, _+_, _-_, _≤_}
-use mathlib.Core.Bool.{Bool, true, false, not, cond, _&&_, _||_}
-use mathlib.Core.List.{List, [], _∷_, _++_}
+use mathlib.Core.Bool.{Bool, not, cond, _&&_, _||_}
+use mathlib.Core.List.{List, _∷_, _++_}
 use mathlib.Core.Path.{_≡_}
 use lib.Dec.{ltb, eqb}
 use lib.IntN.{ℤ}
 use lib.ListN.{length, take, drop}
 use Rattle.search.specs.declared.verdict.Answer.{Answer}
 use Rattle.search.specs.declared.verdict.Answer.the-variants.{Found, Refused}
-use Rattle.search.specs.declared.verdict.Verdict.{Verdict}
 use Rattle.search.specs.Automata.{refusalOf}
 use Rattle.search.specs.Verdicts.{searchAnswer, searchStore}
 use Rattle.cache.specs.declared.lookup.Lookup.{Lookup}
 use Rattle.cache.specs.declared.lookup.Lookup.the-variants as lookup
 use Rattle.cache.specs.Bytes.{be32}
-use Rattle.cache.specs.Records.{recordOf}
-use Rattle.cache.specs.Caches.{usedOf, recordsOf, sound}
+use Rattle.cache.specs.Records.{headLength, recordOf}
+use Rattle.cache.specs.Caches.{headerLength, cacheVersion, usedOf, recordsOf, sound}
 use Rattle.cache.specs.Lookups.{lookUp, isAbsent}
 
 -- ---- "Making an empty shelf writes 5 bytes, or refuses with 12 if fewer are lent."
 unfoldable pub makeEmptyReply : List ℕ → ℕ
-makeEmptyReply c = cond (ltb (length c) 5) 12 0
+makeEmptyReply c = cond (ltb (length c) headerLength) 12 0
 
 unfoldable pub makeEmptyCache : List ℕ → List ℕ
-makeEmptyCache c = cond (ltb (length c) 5) c (be32 5 ++ (1 ∷ drop 5 c))
+makeEmptyCache c = cond (ltb (length c) headerLength) c (be32 headerLength ++ (cacheVersion ∷ drop headerLength c))
 
 -- ---- asking
 unfoldable pub lookUpIn : List ℕ → List ℕ → Lookup
@@ -39,7 +38,7 @@ full c size = ltb (length c) (usedOf c + size) || ltb 4294967295 (usedOf c + siz
 -- a record of so many bytes has room behind the used ones
 pub record Room (c : List ℕ) (used size : ℕ) : Type 0 where
   pub header : used ≡ usedOf c
-  pub least : 5 ≤ used
+  pub least : headerLength ≤ used
   pub lent : used + size ≤ length c
   pub bytes : used + size ≤ 4294967295
 
@@ -54,7 +53,7 @@ filing c b (Refused k) = c
 -- ---- consulting
 -- of an automaton that is not filed: what comes of the search, or of 12 where there is no room
 abbrev pub ifRoom : {X : Type 0} → List ℕ → List ℕ → X → X → X
-ifRoom c b searched twelve = cond (full c (17 + length b)) twelve searched
+ifRoom c b searched twelve = cond (full c (headLength + length b)) twelve searched
 
 -- the answer that a lookup gives, or `r` where the automaton is not there
 unfoldable pub answerTo : Lookup → Answer → Answer
@@ -67,7 +66,7 @@ consultAnswer c b amount = answerTo (lookUpIn c b) (ifRoom c b (searchAnswer b a
 
 -- whether it comes to a search
 unfoldable pub searched : List ℕ → List ℕ → Bool
-searched c b = isAbsent (lookUpIn c b) && not (full c (17 + length b))
+searched c b = isAbsent (lookUpIn c b) && not (full c (headLength + length b))
 
 -- the cache and the store that it leaves
 unfoldable pub consultCache : List ℕ → List ℕ → ℕ → List ℕ

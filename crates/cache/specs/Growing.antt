@@ -9,12 +9,12 @@ use Rattle.search.specs.declared.verdict.Answer.the-variants.{Found}
 use Rattle.search.specs.declared.verdict.Verdict.{Verdict}
 use Rattle.search.specs.Demands.{Robust}
 use Rattle.search.specs.Given.{Lasting}
-use Rattle.cache.specs.Caches.{usedOf, sound}
+use Rattle.cache.specs.Caches.{headerLength, usedOf, sound}
 use Rattle.cache.specs.Consulting.{makeEmptyCache, consultCache}
 
 -- "grown from empty only by consulting": of any automata, with any stores, in any number. Between two consultings the used bytes may be lent again with others behind them.
 pub data Grown : List ℕ → Type 0 where
-  emptied : (c : List ℕ) → 5 ≤ length c → Grown (makeEmptyCache c)
+  emptied : (c : List ℕ) → headerLength ≤ length c → Grown (makeEmptyCache c)
   consulted : (c b : List ℕ) (amount : ℕ) → Grown c → Grown (consultCache c b amount)
   lent-again : (c rest : List ℕ) → Grown c → Grown (take (usedOf c) c ++ rest)
 

@@ -1,8 +1,8 @@
 -- "Record: 4 bytes record length (17 + card length), kind (0 reached, 1 holds), 4 bytes n, 4 bytes d, 4 bytes zone count, the card."
 use Prim.Native.Nat.{ℕ, _+_, _<_}
-use mathlib.Core.Bool.{Bool, true, false, cond, _&&_}
-use mathlib.Core.List.{List, [], _∷_, _++_}
-use lib.Dec.{ltb, leb, eqb}
+use mathlib.Core.Bool.{Bool, cond, _&&_}
+use mathlib.Core.List.{List, _∷_, _++_}
+use lib.Dec.{leb, eqb}
 use lib.ListN.{length, getD, drop}
 use Rattle.zones.specs.declared.fraction.Fraction.{Fraction}
 use Rattle.zones.specs.Fractions.{gcdOf}
@@ -11,8 +11,12 @@ use Rattle.search.specs.declared.verdict.Verdict.the-variants.{Reached, Holds}
 use Rattle.search.specs.Automata.{be32At, refusalOf}
 use Rattle.search.specs.Verdicts.{kindOf, termsOf, holdingOf}
 use Rattle.cache.specs.declared.lookup.Lookup.{Lookup}
-use Rattle.cache.specs.declared.lookup.Lookup.the-variants.{Filed, Absent, Refused}
+use Rattle.cache.specs.declared.lookup.Lookup.the-variants.{Filed}
 use Rattle.cache.specs.Bytes.{be32}
+
+-- the bytes before the card
+abbrev pub headLength : ℕ
+headLength = 17
 
 -- ---- reading: the fields of a record's bytes, all of them and no more
 abbrev pub recordKind : List ℕ → ℕ
@@ -26,11 +30,11 @@ recordZones r = be32At r 13
 
 -- document 01's card
 abbrev pub recordAutomaton : List ℕ → List ℕ
-recordAutomaton r = drop 17 r
+recordAutomaton r = drop headLength r
 
 -- the length of the record that the bytes begin with, 0 where they begin with none
 unfoldable pub measured : List ℕ → ℕ
-measured s = cond (leb 17 (be32At s 0) && leb (be32At s 0) (length s)) (be32At s 0) 0
+measured s = cond (leb headLength (be32At s 0) && leb (be32At s 0) (length s)) (be32At s 0) 0
 
 -- ---- what it says
 -- "Reached has 0 and 0." "a holding record's n at least 1 and in lowest terms (d of 0 only with n of 1)": the greatest common divisor of n and 0 is n
@@ -54,7 +58,7 @@ unfoldable pub headOf : ℕ → ℕ → Fraction → ℕ → List ℕ
 headOf size kind f zones = be32 size ++ (kind ∷ (be32 (f .n) ++ (be32 (f .d) ++ be32 zones)))
 
 unfoldable pub recordOf : Verdict → ℕ → List ℕ → List ℕ
-recordOf v zones b = headOf (17 + length b) (kindOf v) (termsOf v) zones ++ b
+recordOf v zones b = headOf (headLength + length b) (kindOf v) (termsOf v) zones ++ b
 
 -- n and d take four bytes
 unfoldable pub Fits : Verdict → Type 0

@@ -25,7 +25,8 @@ ghost use lib.ListN.{length};
 ghost use Rattle.search.specs.declared.verdict.Answer.the-variants.{Refused};
 ghost use Rattle.search.specs.Given.{Given};
 ghost use Rattle.search.specs.Verdicts.{searchAnswer, searchStore};
-ghost use Rattle.cache.specs.Caches.{usedOf, sound};
+ghost use Rattle.cache.specs.Caches.{headerLength, usedOf, sound};
+ghost use Rattle.cache.specs.Records.{headLength};
 ghost use Rattle.cache.specs.Consulting.{makeEmptyReply, makeEmptyCache, lookUpIn, Room, appended, ifRoom, filing, consultAnswer, consultCache, consultStore};
 ghost use Rattle.cache.specs.Growing.{Carried};
 
@@ -98,7 +99,7 @@ fn append(cache: &mut [u8], used: usize, head: &[u8], automaton: &[u8])
 
 // A verdict is filed, a refusal is not.
 fn file(cache: &mut [u8], used: usize, automaton: &[u8], answer: Answer)
-    requires { ⌜ Room (now cache) used (17 + length (now automaton)) ⌝ }
+    requires { ⌜ Room (now cache) used (headLength + length (now automaton)) ⌝ }
     requires { ⌜ Given (now automaton) answer ⌝ }
     ensures { λ _. ⌜ now (cache .exit) ≡ filing (now (cache .entry)) (now (automaton .entry)) answer ⌝ }
 {
@@ -113,7 +114,7 @@ fn file(cache: &mut [u8], used: usize, automaton: &[u8], answer: Answer)
 
 // The search of an automaton that is not in the sound cache, its verdict filed.
 fn search_and_file(cache: &mut [u8], automaton: &[u8], store: &mut [i32]) -> Answer
-    requires { ⌜ (5 ≤ usedOf (now cache)) × (usedOf (now cache) ≤ length (now cache)) ⌝ }
+    requires { ⌜ (headerLength ≤ usedOf (now cache)) × (usedOf (now cache) ≤ length (now cache)) ⌝ }
     ensures { λ r. ⌜ r ≡ ifRoom (now (cache .entry)) (now (automaton .entry)) (searchAnswer (now (automaton .entry)) (length (now (store .entry)))) (Refused 12) ⌝ }
     ensures { λ r. ⌜ now (cache .exit) ≡ ifRoom (now (cache .entry)) (now (automaton .entry)) (filing (now (cache .entry)) (now (automaton .entry)) (searchAnswer (now (automaton .entry)) (length (now (store .entry))))) (now (cache .entry)) ⌝ }
     ensures { λ r. ⌜ now (store .exit) ≡ ifRoom (now (cache .entry)) (now (automaton .entry)) (searchStore (now (automaton .entry)) (now (store .entry))) (now (store .entry)) ⌝ }

@@ -14,7 +14,7 @@ ghost use Prim.Native.Nat.{_+_, _≤_, _<_};
 ghost use lib.ListN.{length, drop};
 ghost use Rattle.search.specs.declared.verdict.Verdict.the-variants.{Holds};
 ghost use Rattle.search.specs.Verdicts.{holdingOf, kindOf, termsOf};
-ghost use Rattle.cache.specs.Records.{measured, soundTerms, soundRecord, verdictAs, filedAs, headOf, Fits};
+ghost use Rattle.cache.specs.Records.{headLength, measured, soundTerms, soundRecord, verdictAs, filedAs, headOf, Fits};
 
 // The bytes of a record before its automaton.
 pub const HEAD: usize = 17;
@@ -61,7 +61,7 @@ fn terms_sound(kind: u8, n: u32, d: u32) -> bool
 }
 
 pub fn record_sound(bytes: &[u8]) -> bool
-    requires { ⌜ 17 ≤ length (now bytes) ⌝ }
+    requires { ⌜ headLength ≤ length (now bytes) ⌝ }
     ensures { λ r. ⌜ r ≡ soundRecord (now (bytes .entry)) ⌝ }
 {
     if terms_sound(bytes[4], number_at(bytes, 5), number_at(bytes, 9)) {
@@ -95,7 +95,7 @@ fn verdict(kind: u8, n: u32, d: u32) -> Verdict
 
 // What a record says.
 pub fn filed(bytes: &[u8]) -> Lookup
-    requires { ⌜ 17 ≤ length (now bytes) ⌝ }
+    requires { ⌜ headLength ≤ length (now bytes) ⌝ }
     ensures { λ r. ⌜ r ≡ filedAs (now (bytes .entry)) ⌝ }
 {
     Lookup::Filed(

@@ -8,11 +8,6 @@ use Rattle.cache.proofs.Writing.{appends}
 use borrow.Author.Needs.{needs}
 use Rattle.cache.proofs.append.Statement.{statement}
 use Rattle.cache.proofs.append.Tie as tie
-use Rattle.cache.proofs.append.Reads as reads
-use Rattle.cache.proofs.append.Lts as lts
-use Rattle.cache.proofs.bytes.bytes_of.Reads as bytes-of-reads
-use Rattle.cache.proofs.bytes.copy.Reads as copy-reads
-use Rattle.cache.proofs.record.write.Reads as write-reads
 
 add-next : tie.Need-add-next
 add-next c = search needs

@@ -2,10 +2,6 @@ use Rattle.cache.proofs.Growing.{meets-told, meets-refused, meets-absen
 use borrow.Author.Needs.{needs}
 use Rattle.cache.proofs.consult.Statement.{statement}
 use Rattle.cache.proofs.consult.Tie as tie
-use Rattle.cache.proofs.consult.Reads as reads
-use Rattle.cache.proofs.consult.Lts as lts
-use Rattle.cache.proofs.look_up.Reads as look-up-reads
-use Rattle.cache.proofs.search_and_file.Reads as search-and-file-reads
 
 look-up-requires : tie.Need-look-up-requires
 look-up-requires c κs = search needs

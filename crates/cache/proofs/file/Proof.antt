@@ -4,10 +4,6 @@ use Rattle.cache.proofs.Asking.{found-fits, files-found, files-refused}
 use borrow.Author.Needs.{needs}
 use Rattle.cache.proofs.file.Statement.{statement}
 use Rattle.cache.proofs.file.Tie as tie
-use Rattle.cache.proofs.file.Reads as reads
-use Rattle.cache.proofs.file.Lts as lts
-use Rattle.cache.proofs.append.Reads as append-reads
-use Rattle.cache.proofs.record.head.Reads as head-reads
 
 enum-known-answer : tie.Need-enum-known-answer
 enum-known-answer c = search needs

@@ -5,12 +5,6 @@ use Rattle.cache.proofs.Sounding.{sound-facts}
 use borrow.Author.Needs.{needs}
 use Rattle.cache.proofs.look_up.Statement.{statement}
 use Rattle.cache.proofs.look_up.Tie as tie
-use Rattle.cache.proofs.look_up.Reads as reads
-use Rattle.cache.proofs.look_up.Lts as lts
-use Rattle.cache.proofs.bytes.number_at.Reads as number-at-reads
-use Rattle.cache.proofs.records.look_in.Reads as look-in-reads
-use Rattle.cache.proofs.sound.Reads as sound-reads
-use Rattle.search.proofs.refusal.Reads as refusal-reads
 
 refusal-requires : tie.Need-refusal-requires
 refusal-requires c κs = search needs

@@ -4,9 +4,6 @@ use Rattle.cache.proofs.Asking.{empty-refused, empty-unchanged, empty-d
 use borrow.Author.Needs.{needs}
 use Rattle.cache.proofs.make_empty.Statement.{statement}
 use Rattle.cache.proofs.make_empty.Tie as tie
-use Rattle.cache.proofs.make_empty.Reads as reads
-use Rattle.cache.proofs.make_empty.Lts as lts
-use Rattle.cache.proofs.bytes.copy.Reads as copy-reads
 
 returns : tie.Need-returns
 returns c = (sym (empty-refused _ (omega arith)), sym (empty-unchanged _ (omega arith)))

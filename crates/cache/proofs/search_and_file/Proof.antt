@@ -7,11 +7,6 @@ use Rattle.cache.proofs.Asking.{full-short, full-long, roomy}
 use borrow.Author.Needs.{needs}
 use Rattle.cache.proofs.search_and_file.Statement.{statement}
 use Rattle.cache.proofs.search_and_file.Tie as tie
-use Rattle.cache.proofs.search_and_file.Reads as reads
-use Rattle.cache.proofs.search_and_file.Lts as lts
-use Rattle.cache.proofs.bytes.number_at.Reads as number-at-reads
-use Rattle.cache.proofs.file.Reads as file-reads
-use Rattle.search.proofs.search.Reads as search-reads
 
 number-at-requires : tie.Need-number-at-requires
 number-at-requires c κs = search needs

@@ -3,11 +3,6 @@ use Rattle.cache.proofs.Asking.{unsound-lent, unsound-least, unsound-mo
 use borrow.Author.Needs.{needs}
 use Rattle.cache.proofs.sound.Statement.{statement}
 use Rattle.cache.proofs.sound.Tie as tie
-use Rattle.cache.proofs.sound.Reads as reads
-use Rattle.cache.proofs.sound.Lts as lts
-use Rattle.cache.proofs.bytes.number_at.Reads as number-at-reads
-use Rattle.cache.proofs.records.all_distinct.Reads as all-distinct-reads
-use Rattle.cache.proofs.records.records_sound.Reads as records-sound-reads
 
 returns : tie.Need-returns
 returns c = unsound-lent _ (omega arith)

@@ -3,8 +3,6 @@ use Rattle.exports.specs.Replies.{verdictNumbers}
 use borrow.Author.Needs.{needs}
 use Rattle.exports.proofs.holds_numbers.Statement.{statement}
 use Rattle.exports.proofs.holds_numbers.Tie as tie
-use Rattle.exports.proofs.holds_numbers.Reads as reads
-use Rattle.exports.proofs.holds_numbers.Lts as lts
 
 enum-told : tie.Need-enum-told
 enum-told c = search needs

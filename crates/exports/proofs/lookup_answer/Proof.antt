@@ -3,8 +3,6 @@ use Rattle.exports.specs.Replies.{lookupAnswer}
 use borrow.Author.Needs.{needs}
 use Rattle.exports.proofs.lookup_answer.Statement.{statement}
 use Rattle.exports.proofs.lookup_answer.Tie as tie
-use Rattle.exports.proofs.lookup_answer.Reads as reads
-use Rattle.exports.proofs.lookup_answer.Lts as lts
 
 enum-known-lookup : tie.Need-enum-known-lookup
 enum-known-lookup c = search needs

@@ -1,10 +1,6 @@
 use borrow.Author.Needs.{needs}
 use Rattle.exports.proofs.robustness_consult.Statement.{statement}
 use Rattle.exports.proofs.robustness_consult.Tie as tie
-use Rattle.exports.proofs.robustness_consult.Reads as reads
-use Rattle.exports.proofs.robustness_consult.Lts as lts
-use Rattle.cache.proofs.consult.Reads as consult-reads
-use Rattle.exports.proofs.tell.Reads as tell-reads
 
 consult-requires : tie.Need-consult-requires
 consult-requires c κs = search needs

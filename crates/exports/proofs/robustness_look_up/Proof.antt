@@ -3,12 +3,6 @@ use Rattle.exports.specs.Replies.{lookupAnswer}
 use borrow.Author.Needs.{needs}
 use Rattle.exports.proofs.robustness_look_up.Statement.{statement}
 use Rattle.exports.proofs.robustness_look_up.Tie as tie
-use Rattle.exports.proofs.robustness_look_up.Reads as reads
-use Rattle.exports.proofs.robustness_look_up.Lts as lts
-use Rattle.cache.proofs.look_up.Reads as look-up-reads
-use Rattle.exports.proofs.lookup_answer.Reads as lookup-answer-reads
-use Rattle.exports.proofs.tell.Reads as tell-reads
-use Rattle.exports.proofs.tell_filed.Reads as tell-filed-reads
 
 look-up-requires : tie.Need-look-up-requires
 look-up-requires c κs = search needs

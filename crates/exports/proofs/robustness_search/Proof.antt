@@ -1,10 +1,6 @@
 use borrow.Author.Needs.{needs}
 use Rattle.exports.proofs.robustness_search.Statement.{statement}
 use Rattle.exports.proofs.robustness_search.Tie as tie
-use Rattle.exports.proofs.robustness_search.Reads as reads
-use Rattle.exports.proofs.robustness_search.Lts as lts
-use Rattle.exports.proofs.tell.Reads as tell-reads
-use Rattle.search.proofs.search.Reads as search-reads
 
 search-requires : tie.Need-search-requires
 search-requires c κs = search needs

@@ -3,9 +3,6 @@ use Rattle.exports.specs.Replies.{soundNumber}
 use borrow.Author.Needs.{needs}
 use Rattle.exports.proofs.robustness_sound.Statement.{statement}
 use Rattle.exports.proofs.robustness_sound.Tie as tie
-use Rattle.exports.proofs.robustness_sound.Reads as reads
-use Rattle.exports.proofs.robustness_sound.Lts as lts
-use Rattle.cache.proofs.sound.Reads as sound-reads
 
 sound-requires : tie.Need-sound-requires
 sound-requires c κs = search needs

@@ -2,9 +2,6 @@ use Rattle.exports.proofs.Telling.{tells-found, tells-refused}
 use borrow.Author.Needs.{needs}
 use Rattle.exports.proofs.tell.Statement.{statement}
 use Rattle.exports.proofs.tell.Tie as tie
-use Rattle.exports.proofs.tell.Reads as reads
-use Rattle.exports.proofs.tell.Lts as lts
-use Rattle.exports.proofs.verdict_numbers.Reads as verdict-numbers-reads
 
 enum-known-answer : tie.Need-enum-known-answer
 enum-known-answer c = search needs

@@ -3,8 +3,6 @@ use Rattle.exports.specs.Replies.{filedTold}
 use borrow.Author.Needs.{needs}
 use Rattle.exports.proofs.tell_filed.Statement.{statement}
 use Rattle.exports.proofs.tell_filed.Tie as tie
-use Rattle.exports.proofs.tell_filed.Reads as reads
-use Rattle.exports.proofs.tell_filed.Lts as lts
 
 enum-known-lookup : tie.Need-enum-known-lookup
 enum-known-lookup c = search needs

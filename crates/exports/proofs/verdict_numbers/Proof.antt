@@ -3,9 +3,6 @@ use Rattle.exports.specs.Replies.{verdictNumbers}
 use borrow.Author.Needs.{needs}
 use Rattle.exports.proofs.verdict_numbers.Statement.{statement}
 use Rattle.exports.proofs.verdict_numbers.Tie as tie
-use Rattle.exports.proofs.verdict_numbers.Reads as reads
-use Rattle.exports.proofs.verdict_numbers.Lts as lts
-use Rattle.exports.proofs.holds_numbers.Reads as holds-numbers-reads
 
 enum-told : tie.Need-enum-told
 enum-told c = search needs

@@ -2,9 +2,6 @@ use Rattle.search.specs.Automata.{be16At}
 use borrow.Author.Needs.{needs}
 use Rattle.cache.proofs.bytes.be16.Statement.{statement}
 use Rattle.cache.proofs.bytes.be16.Tie as tie
-use Rattle.cache.proofs.bytes.be16.Reads as reads
-use Rattle.cache.proofs.bytes.be16.Lts as lts
-use Rattle.cache.proofs.bytes.wide.Reads as wide-reads
 
 shared-slice-read-wide : tie.Need-shared-slice-read-wide
 shared-slice-read-wide c = search needs

@@ -3,8 +3,6 @@ use Rattle.cache.specs.Bytes.{be32}
 use borrow.Author.Needs.{needs}
 use Rattle.cache.proofs.bytes.bytes_of.Statement.{statement}
 use Rattle.cache.proofs.bytes.bytes_of.Tie as tie
-use Rattle.cache.proofs.bytes.bytes_of.Reads as reads
-use Rattle.cache.proofs.bytes.bytes_of.Lts as lts
 
 cast-t4 : tie.Need-cast-t4
 cast-t4 c = search needs

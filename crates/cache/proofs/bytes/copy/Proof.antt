@@ -6,8 +6,6 @@ use native.Mathlib.Omega.{arith}
 use Rattle.cache.proofs.Turns.{copy-turn, copied}
 use Rattle.cache.proofs.bytes.copy.Statement.{statement}
 use Rattle.cache.proofs.bytes.copy.Tie as tie
-use Rattle.cache.proofs.bytes.copy.Reads as reads
-use Rattle.cache.proofs.bytes.copy.Lts as lts
 
 abbrev Inv-loop : tie.InvT-loop
 Inv-loop to₀ from amount i₀ to i = (i ≤ amount) × (length to ≡ length to₀) × (to ≡ take i from ++ drop i to₀)

@@ -2,9 +2,6 @@ use Rattle.search.specs.Automata.{be32At}
 use borrow.Author.Needs.{needs}
 use Rattle.cache.proofs.bytes.number_at.Statement.{statement}
 use Rattle.cache.proofs.bytes.number_at.Tie as tie
-use Rattle.cache.proofs.bytes.number_at.Reads as reads
-use Rattle.cache.proofs.bytes.number_at.Lts as lts
-use Rattle.cache.proofs.bytes.be16.Reads as be16-reads
 
 be16-requires : tie.Need-be16-requires
 be16-requires c κs = search needs

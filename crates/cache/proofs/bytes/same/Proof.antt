@@ -6,8 +6,6 @@ use native.Mathlib.Omega.{arith}
 use Rattle.cache.proofs.Same.{Outer, differ-same, outer-start, outer-turn, outer-same}
 use Rattle.cache.proofs.bytes.same.Statement.{statement}
 use Rattle.cache.proofs.bytes.same.Tie as tie
-use Rattle.cache.proofs.bytes.same.Reads as reads
-use Rattle.cache.proofs.bytes.same.Lts as lts
 
 abbrev Inv-loop : tie.InvT-loop
 Inv-loop a b i₀ j₀ i j = (i ≤ length a) × (j ≤ length a) × Outer a b i j

@@ -2,10 +2,6 @@ use Rattle.cache.proofs.Reading.{filed-is}
 use borrow.Author.Needs.{needs}
 use Rattle.cache.proofs.record.filed.Statement.{statement}
 use Rattle.cache.proofs.record.filed.Tie as tie
-use Rattle.cache.proofs.record.filed.Reads as reads
-use Rattle.cache.proofs.record.filed.Lts as lts
-use Rattle.cache.proofs.bytes.number_at.Reads as number-at-reads
-use Rattle.cache.proofs.record.verdict.Reads as verdict-reads
 
 shared-slice-read-verdict : tie.Need-shared-slice-read-verdict
 shared-slice-read-verdict c = search needs

@@ -3,10 +3,6 @@ use Rattle.cache.specs.Records.{Fits}
 use borrow.Author.Needs.{needs}
 use Rattle.cache.proofs.record.head.Statement.{statement}
 use Rattle.cache.proofs.record.head.Tie as tie
-use Rattle.cache.proofs.record.head.Reads as reads
-use Rattle.cache.proofs.record.head.Lts as lts
-use Rattle.cache.proofs.record.head_of.Reads as head-of-reads
-use Rattle.cache.proofs.record.holding_head.Reads as holding-head-reads
 
 enum-told : tie.Need-enum-told
 enum-told c = search needs

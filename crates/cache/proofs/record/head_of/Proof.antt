@@ -4,9 +4,6 @@ use Rattle.cache.specs.Records.{headOf}
 use borrow.Author.Needs.{needs}
 use Rattle.cache.proofs.record.head_of.Statement.{statement}
 use Rattle.cache.proofs.record.head_of.Tie as tie
-use Rattle.cache.proofs.record.head_of.Reads as reads
-use Rattle.cache.proofs.record.head_of.Lts as lts
-use Rattle.cache.proofs.bytes.bytes_of.Reads as bytes-of-reads
 
 bytes-of-requires : tie.Need-bytes-of-requires
 bytes-of-requires c κs = search needs

@@ -2,8 +2,6 @@ use mathlib.Core.Path.{sym}
 use Rattle.cache.proofs.Reading.{holding-any, holding-below}
 use Rattle.cache.proofs.record.holding.Statement.{statement}
 use Rattle.cache.proofs.record.holding.Tie as tie
-use Rattle.cache.proofs.record.holding.Reads as reads
-use Rattle.cache.proofs.record.holding.Lts as lts
 
 returns : tie.Need-returns
 returns c = sym (holding-any _ (c .if1 .taken))

@@ -2,9 +2,6 @@ use Rattle.cache.proofs.Reading.{holding-fits}
 use borrow.Author.Needs.{needs}
 use Rattle.cache.proofs.record.holding_head.Statement.{statement}
 use Rattle.cache.proofs.record.holding_head.Tie as tie
-use Rattle.cache.proofs.record.holding_head.Reads as reads
-use Rattle.cache.proofs.record.holding_head.Lts as lts
-use Rattle.cache.proofs.record.head_of.Reads as head-of-reads
 
 enum-told : tie.Need-enum-told
 enum-told c = search needs

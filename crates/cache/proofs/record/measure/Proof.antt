@@ -5,9 +5,6 @@ use Rattle.cache.proofs.Reading.{measured-short, measured-small, measur
 use borrow.Author.Needs.{needs}
 use Rattle.cache.proofs.record.measure.Statement.{statement}
 use Rattle.cache.proofs.record.measure.Tie as tie
-use Rattle.cache.proofs.record.measure.Reads as reads
-use Rattle.cache.proofs.record.measure.Lts as lts
-use Rattle.cache.proofs.bytes.number_at.Reads as number-at-reads
 
 returns : tie.Need-returns
 returns c = sym (measured-short _ (omega arith))

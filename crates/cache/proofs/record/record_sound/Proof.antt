@@ -2,11 +2,6 @@ use Rattle.cache.proofs.Reading.{record-by-refusal, record-by-terms}
 use borrow.Author.Needs.{needs}
 use Rattle.cache.proofs.record.record_sound.Statement.{statement}
 use Rattle.cache.proofs.record.record_sound.Tie as tie
-use Rattle.cache.proofs.record.record_sound.Reads as reads
-use Rattle.cache.proofs.record.record_sound.Lts as lts
-use Rattle.cache.proofs.bytes.number_at.Reads as number-at-reads
-use Rattle.cache.proofs.record.terms_sound.Reads as terms-sound-reads
-use Rattle.search.proofs.refusal.Reads as refusal-reads
 
 shared-slice-read-terms-sound : tie.Need-shared-slice-read-terms-sound
 shared-slice-read-terms-sound c = search needs

@@ -5,9 +5,6 @@ use Rattle.cache.proofs.Reading.{terms-reached, terms-stray, terms-kind
 use borrow.Author.Needs.{needs}
 use Rattle.cache.proofs.record.terms_sound.Statement.{statement}
 use Rattle.cache.proofs.record.terms_sound.Tie as tie
-use Rattle.cache.proofs.record.terms_sound.Reads as reads
-use Rattle.cache.proofs.record.terms_sound.Lts as lts
-use Rattle.zones.proofs.fraction.gcd.Reads as gcd-reads
 
 returns : tie.Need-returns
 returns c = sym (terms-reached _ _ (c .before .if1 .taken) (c .if2 .taken))

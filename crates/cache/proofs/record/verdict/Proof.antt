@@ -3,9 +3,6 @@ use Rattle.cache.proofs.Reading.{verdict-reached, verdict-holds}
 use borrow.Author.Needs.{needs}
 use Rattle.cache.proofs.record.verdict.Statement.{statement}
 use Rattle.cache.proofs.record.verdict.Tie as tie
-use Rattle.cache.proofs.record.verdict.Reads as reads
-use Rattle.cache.proofs.record.verdict.Lts as lts
-use Rattle.cache.proofs.record.holding.Reads as holding-reads
 
 holding-requires : tie.Need-holding-requires
 holding-requires c κs = search needs

@@ -5,9 +5,6 @@ use Rattle.cache.proofs.Writing.{two-parts}
 use borrow.Author.Needs.{needs}
 use Rattle.cache.proofs.record.write.Statement.{statement}
 use Rattle.cache.proofs.record.write.Tie as tie
-use Rattle.cache.proofs.record.write.Reads as reads
-use Rattle.cache.proofs.record.write.Lts as lts
-use Rattle.cache.proofs.bytes.copy.Reads as copy-reads
 
 copy-requires : tie.Need-copy-requires
 copy-requires c κs = search needs

@@ -1,5 +1,5 @@
 use Prim.Native.Nat.{_+_, _-_, _≤_}
-use mathlib.Core.Path.{_≡_, refl, sym, ap, _∙_}
+use mathlib.Core.Path.{_≡_, refl, sym, _∙_}
 use lib.ListN.{length, drop}
 use native.Mathlib.Omega.{arith}
 use borrow.Author.Needs.{needs}
@@ -8,11 +8,6 @@ use Rattle.cache.proofs.Walking.{within, least}
 use Rattle.cache.proofs.Distinct.{distinct-none, distinct-last, distinct-same, distinct-next, distinct-filed, distinct-end}
 use Rattle.cache.proofs.records.all_distinct.Statement.{statement}
 use Rattle.cache.proofs.records.all_distinct.Tie as tie
-use Rattle.cache.proofs.records.all_distinct.Reads as reads
-use Rattle.cache.proofs.records.all_distinct.Lts as lts
-use Rattle.cache.proofs.bytes.same.Reads as same-reads
-use Rattle.cache.proofs.record.measure.Reads as measure-reads
-use Rattle.cache.proofs.records.neither_filed.Reads as neither-filed-reads
 
 abbrev Inv-loop : tie.InvT-loop
 Inv-loop bytes at₀ at = (at ≤ length bytes) × (distinct (recordsIn (drop at bytes)) ≡ distinct (recordsIn bytes))

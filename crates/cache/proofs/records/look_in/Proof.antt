@@ -1,5 +1,5 @@
 use Prim.Native.Nat.{_-_, _≤_}
-use mathlib.Core.Path.{_≡_, refl, sym, ap, _∙_}
+use mathlib.Core.Path.{_≡_, refl, sym, _∙_}
 use lib.ListN.{length, drop}
 use native.Mathlib.Omega.{arith}
 use borrow.Author.Needs.{needs}
@@ -8,11 +8,6 @@ use Rattle.cache.specs.Lookups.{lookUp}
 use Rattle.cache.proofs.Walking.{within, least, long, look-none, look-found, look-next, look-end}
 use Rattle.cache.proofs.records.look_in.Statement.{statement}
 use Rattle.cache.proofs.records.look_in.Tie as tie
-use Rattle.cache.proofs.records.look_in.Reads as reads
-use Rattle.cache.proofs.records.look_in.Lts as lts
-use Rattle.cache.proofs.bytes.same.Reads as same-reads
-use Rattle.cache.proofs.record.filed.Reads as filed-reads
-use Rattle.cache.proofs.record.measure.Reads as measure-reads
 
 abbrev Inv-loop : tie.InvT-loop
 Inv-loop bytes automaton at₀ at = (at ≤ length bytes) × (lookUp (recordsIn (drop at bytes)) automaton ≡ lookUp (recordsIn bytes) automaton)

@@ -1,5 +1,5 @@
 use Prim.Native.Nat.{_-_, _≤_}
-use mathlib.Core.Path.{_≡_, refl, sym, ap, _∙_}
+use mathlib.Core.Path.{_≡_, refl, _∙_}
 use lib.ListN.{length, drop}
 use native.Mathlib.Omega.{arith}
 use borrow.Author.Needs.{needs}
@@ -9,10 +9,6 @@ use Rattle.cache.proofs.Distinct.{neither-none, neither-first, neither-
 use Rattle.cache.proofs.Walking.{within, least}
 use Rattle.cache.proofs.records.neither_filed.Statement.{statement}
 use Rattle.cache.proofs.records.neither_filed.Tie as tie
-use Rattle.cache.proofs.records.neither_filed.Reads as reads
-use Rattle.cache.proofs.records.neither_filed.Lts as lts
-use Rattle.cache.proofs.bytes.same.Reads as same-reads
-use Rattle.cache.proofs.record.measure.Reads as measure-reads
 
 abbrev Inv-loop : tie.InvT-loop
 Inv-loop bytes a b at₀ at = (at ≤ length bytes) × (neitherFiled (recordsIn (drop at bytes)) a b ≡ neitherFiled (recordsIn bytes) a b)

@@ -1,5 +1,5 @@
 use Prim.Native.Nat.{_-_, _≤_}
-use mathlib.Core.Path.{_≡_, refl, sym, ap, _∙_}
+use mathlib.Core.Path.{_≡_, refl, sym, _∙_}
 use lib.ListN.{length, drop}
 use native.Mathlib.Omega.{arith}
 use borrow.Author.Needs.{needs}
@@ -7,10 +7,6 @@ use Rattle.cache.specs.Caches.{soundRecords}
 use Rattle.cache.proofs.Walking.{within, least, long, sound-none, sound-next, sound-bad, sound-end}
 use Rattle.cache.proofs.records.records_sound.Statement.{statement}
 use Rattle.cache.proofs.records.records_sound.Tie as tie
-use Rattle.cache.proofs.records.records_sound.Reads as reads
-use Rattle.cache.proofs.records.records_sound.Lts as lts
-use Rattle.cache.proofs.record.measure.Reads as measure-reads
-use Rattle.cache.proofs.record.record_sound.Reads as record-sound-reads
 
 abbrev Inv-loop : tie.InvT-loop
 Inv-loop bytes at₀ at = (at ≤ length bytes) × (soundRecords (drop at bytes) ≡ soundRecords bytes)
