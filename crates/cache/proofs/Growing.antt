@@ -87,7 +87,7 @@ module _ (c b : List ℕ) (amount : ℕ) (g : Grown c) where
 
 pub carried : (c b : List ℕ) (amount : ℕ) → Carried c b (consultAnswer c b amount) (consultCache c b amount)
 carried c b amount = record {
-  sound = sound-stays c b amount;
+  stays = sound-stays c b amount;
   robust = λ g. way-robust c b amount g (way c b amount);
   lasting = λ g v zones e. subst (Lasting b) (sym e) (subst (Lasts c b amount g) e (way-lasting c b amount g (way c b amount)));
 }

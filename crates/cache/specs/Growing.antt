@@ -27,6 +27,6 @@ pub data Later (c : List ℕ) : List ℕ → Type 0 where
 -- what consulting promises beside the equations: a sound cache stays sound, and on a grown one demand 3 holds of the answer
 -- and "the filed verdict is the search's, at every store size that lets the search finish"
 pub record Carried (c b : List ℕ) (r : Answer) (c′ : List ℕ) : Type 0 where
-  pub sound : sound c ≡ true → sound c′ ≡ true
+  pub stays : sound c ≡ true → sound c′ ≡ true
   pub robust : Grown c → Robust b r
   pub lasting : Grown c → (v : Verdict) (zones : ℕ) → r ≡ Found v zones → Lasting b r
