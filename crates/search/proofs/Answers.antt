@@ -1,7 +1,7 @@
 -- The answer of the search from where the code's search stopped.
 -- Assumes nothing.
-use Prim.Native.Nat.{ℕ, zero, suc, _<_, _≤_}
-use mathlib.Core.Path.{_≡_, refl, sym, ap, _∙_, subst}
+use Prim.Native.Nat.{ℕ, zero, suc, _≤_}
+use mathlib.Core.Path.{_≡_, refl, ap, _∙_}
 use mathlib.Core.List.{List}
 use borrow.Author.Tests.{eq-eqb, ne-eqb}
 use lib.IntN.{ℤ}
@@ -19,7 +19,7 @@ use Rattle.search.specs.Automata.{clocks, refusalOf}
 use Rattle.search.specs.Exploring.{Shown}
 use Rattle.search.specs.Instance.{zonesOf}
 use Rattle.search.specs.Semantics.{systemOf}
-use Rattle.search.specs.Store.{storeOf, mostSlots, capacityOf}
+use Rattle.search.specs.Store.{mostSlots, capacityOf}
 use Rattle.search.specs.Verdicts.{holdingOf, answerOf, stateAnswer, stateOf, searchAnswer, searchStore}
 use Rattle.search.proofs.Capacity.{search-room}
 use Rattle.search.proofs.Stores.{capacity-small}

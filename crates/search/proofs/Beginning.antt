@@ -1,8 +1,8 @@
 -- The search from its first zone on: what the code's whole search shows.
 -- Assumes nothing.
-use Prim.Native.Nat.{ℕ, zero, suc, _+_, _*_, _<_, _≤_}
+use Prim.Native.Nat.{ℕ, zero, suc, _*_, _≤_}
 use mathlib.Core.Path.{_≡_, refl, sym, ap, _∙_, subst}
-use mathlib.Core.List.{List, [], _∷_}
+use mathlib.Core.List.{List, []}
 use lib.IntN.{ℤ}
 use lib.ListN.{length}
 use native.Mathlib.Omega.{arith}
@@ -15,7 +15,7 @@ use Rattle.search.specs.Accepted.{Accepted}
 use Rattle.search.specs.Automata.{clocks, start, invariantOf}
 use Rattle.search.specs.Exploring.{ZoneState, SoundState, SoundResult, Stored, Shown, Gives, Continues, InProgress, Going}
 use Rattle.search.specs.Instance.{zonesOf, resultOf, entering, searchOf}
-use Rattle.search.specs.Search.{State, offer, begin, take-from, search}
+use Rattle.search.specs.Search.{offer, begin, take-from, search}
 use Rattle.search.specs.Semantics.{systemOf}
 use Rattle.search.specs.Slots.{slotLength}
 use Rattle.search.specs.Store.{storeOf, slotsOf, capacityOf}

@@ -1,7 +1,7 @@
 -- The capacity enters the outcome through 10 alone.
 use Prim.Native.Nat.{ℕ, zero, suc, _+_, _≤_, _<_}
-use mathlib.Core.List.{List, [], _∷_, _++_}
-use mathlib.Core.Path.{_≡_, refl, sym, ap, _∙_, subst}
+use mathlib.Core.List.{List, [], _∷_}
+use mathlib.Core.Path.{_≡_, refl, sym, ap, _∙_}
 use mathlib.Core.Bool.{Bool, true, false}
 use lib.ListN.{length, drop, length-append, drop-of-length-le}
 use lib.Dec.{eqb}
@@ -10,7 +10,7 @@ use native.Mathlib.Decide.{decLe}
 use Rattle.search.specs.Runs.{System}
 use Rattle.search.specs.Search.{Zones, Nth, offer, follow, expand, take-from, begin, search}
 use Rattle.search.proofs.Lists.{nth-drop}
-use Rattle.search.proofs.Judged.{Nd, St, Res, Judged, was-empty, was-target, was-inside, was-big, was-kept, was-full, judged, computes, Later, later-longer, offer-later, follow-cases, follow-later, expand-later, take-none, take-one, take-cases, take-later, offer-room, expand-room, take-keeps}
+use Rattle.search.proofs.Judged.{Nd, St, Res, Judged, was-empty, was-target, was-inside, was-big, was-kept, was-full, judged, computes, Later, later-longer, expand-later, take-none, take-one, take-later, offer-room, expand-room, take-keeps}
 
 module _ (A : System) (O : Zones) where
   -- a state that is not full, and fits

@@ -1,17 +1,17 @@
 -- Holds: below the safe fraction every state of every run is in a kept zone. Only the one-sided laws are used.
 use Prim.Native.Nat.{ℕ, zero, suc, _+_, _≤_, _<_}
 use mathlib.Core.List.{List, [], _∷_, _++_}
-use mathlib.Core.Path.{_≡_, refl, sym, ap, _∙_, subst}
+use mathlib.Core.Path.{_≡_, refl, sym, _∙_, subst}
 use mathlib.Core.Bool.{false}
-use mathlib.Core.Logic.{_⊎_, inl, inr, ⊎-elim}
-use lib.ListN.{length, drop, length-append, drop-of-length-le}
+use mathlib.Core.Logic.{⊎-elim}
+use lib.ListN.{length}
 use native.Mathlib.Omega.{arith}
 use native.Mathlib.Decide.{ℕ-discrete, decLt}
 use Rattle.search.specs.Runs.{System, Step, wait, jump, Stand, first, after, Steps, StandsIn, Run}
-use Rattle.search.specs.Search.{Result, empty, zone, fracOf, Zones, Nth, offer, follow, expand, take-from, begin, search}
+use Rattle.search.specs.Search.{empty, zone, Zones, Nth, offer, follow, expand, take-from, begin, search}
 use Rattle.search.specs.Meaning.{Meaning, Falls, Clocks, OneSided}
-use Rattle.search.proofs.Lists.{nth-left, nth-back, nth-last, nth-one, nth-lt, drop-none}
-use Rattle.search.proofs.Judged.{Nd, St, Res, Judged, was-empty, was-target, was-inside, was-big, was-kept, was-full, judged, find-inside, Later, later-going, later-nth, offer-later, follow-on, follow-later, expand-later, take-cases, take-later, offer-room, expand-room, expand-falls, take-falls, All, earlier-all, search-all}
+use Rattle.search.proofs.Lists.{nth-back, nth-last, nth-one, nth-lt, drop-none}
+use Rattle.search.proofs.Judged.{Nd, St, Res, Judged, was-empty, was-target, was-inside, was-big, was-kept, was-full, judged, find-inside, Later, later-going, later-nth, follow-on, follow-later, expand-later, take-cases, take-later, offer-room, expand-room, expand-falls, take-falls, All, earlier-all, search-all}
 
 module _ (A : System) (O : Zones) (M : Meaning A O) where
   -- what every kept node has, at any error

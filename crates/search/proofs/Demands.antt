@@ -1,32 +1,24 @@
 -- Demands 2 and 3 of the search of an automaton's bytes, and what the answer's numbers are.
 -- Assumes nothing.
-use Prim.Native.Nat.{ℕ, zero, suc, _*_, _<_, _≤_}
-use mathlib.Core.Path.{_≡_, refl, sym, ap, _∙_, subst}
-use mathlib.Core.Bool.{Bool, true, false, cond}
+use Prim.Native.Nat.{ℕ, zero, suc, _*_, _<_}
+use mathlib.Core.Path.{_≡_, refl, sym, ap}
 use mathlib.Core.List.{List}
 use mathlib.Core.Logic.{⊎-elim}
 use borrow.Author.Tests.{eq-eqb, ne-eqb}
-use lib.Dec.{eqb}
 use lib.ListN.{length}
 use native.Mathlib.Nat.{eq-zero-or-pos, mul-pos}
 use native.Mathlib.Omega.{arith}
 use Rattle.zones.specs.declared.fraction.Fraction.{Fraction}
-use Rattle.zones.specs.Fractions.{noLimit, lowestTerms}
+use Rattle.zones.specs.Fractions.{lowestTerms}
 use Rattle.zones.specs.Values.{Below}
 use Rattle.zones.proofs.Lowest.{lowest-equal, lowest-positive, lowest-unlimited, below-from-lowest}
-use Rattle.search.specs.declared.verdict.Answer.{Answer}
-use Rattle.search.specs.declared.verdict.Answer.the-variants.{Found, Refused}
-use Rattle.search.specs.declared.verdict.Holding.{Holding}
-use Rattle.search.specs.declared.verdict.Holding.the-variants.{AnyError}
-use Rattle.search.specs.declared.verdict.Verdict.the-variants.{Reached, Holds}
+use Rattle.search.specs.declared.verdict.Answer.the-variants.{Refused}
 use Rattle.search.specs.Automata.{clocks, refusalOf}
 use Rattle.search.specs.Demands.{Robust, KeptExact}
-use Rattle.search.specs.Exploring.{ZoneState}
 use Rattle.search.specs.Instance.{zonesOf, meaningOf, searchOf}
-use Rattle.search.specs.Search.{State, search}
 use Rattle.search.specs.Semantics.{systemOf}
 use Rattle.search.specs.Store.{capacityOf}
-use Rattle.search.specs.Verdicts.{fractionOf, holdingOf, answerOf, stateAnswer, stateOf, searchAnswer}
+use Rattle.search.specs.Verdicts.{fractionOf, holdingOf, answerOf, stateAnswer, searchAnswer}
 use Rattle.search.proofs.Accepting.{accepted}
 use Rattle.search.proofs.Cover.{holds}
 use Rattle.search.proofs.Obeys.{laws}

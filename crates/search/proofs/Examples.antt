@@ -1,7 +1,6 @@
 -- Document 01's cards A to J, computed from the definitions.
 -- Assumes nothing.
-use mathlib.Core.Path.{_≡_, refl}
-use mathlib.Core.List.{List}
+use mathlib.Core.Path.{refl}
 use Rattle.zones.specs.Containment.{containmentOf, countTo, larger, loweredTo, withinTo}
 use Rattle.zones.specs.Fractions.{loweredBy, euclid, gcdOf, lowestTerms}
 use Rattle.zones.specs.Pairs.{sumOf, isLess, thresholdOf, smallerOf}

@@ -3,7 +3,6 @@
 use Prim.Native.Nat.{ℕ, zero, suc, _+_, _-_, _*_, _<_, _≤_}
 use mathlib.Core.Path.{_≡_, refl, sym, ap, _∙_, subst}
 use mathlib.Core.List.{List, [], _∷_, _++_}
-use lib.Dec.{eqb}
 use lib.IntN.{ℤ}
 use lib.ListN.{length}
 use borrow.Author.Tests.{ne-eqb}
@@ -19,7 +18,7 @@ use Rattle.search.specs.Accepted.{Accepted}
 use Rattle.search.specs.Automata.{clocks, edges, from, to, invariantOf, guardOf, resetsOf}
 use Rattle.search.specs.Exploring.{ZoneState, ZoneNode, SoundState, SoundResult, SoundZone, Shown, Gives, InProgress, Going}
 use Rattle.search.specs.Instance.{workOf, resultOf, following, zonesOf}
-use Rattle.search.specs.Search.{Node, State, offer, follow, expand}
+use Rattle.search.specs.Search.{offer, follow, expand}
 use Rattle.search.specs.Semantics.{systemOf}
 use Rattle.search.specs.Slots.{slotLength}
 use Rattle.search.proofs.Judged.{follow-on, expand-later}

@@ -1,8 +1,8 @@
 -- What holds of every answer, and that it depends on the store's length through 10 alone: the laws that a cache of verdicts needs.
 -- Assumes nothing.
-use Prim.Native.Nat.{ℕ, zero, suc, _+_, _*_, _<_, _≤_}
+use Prim.Native.Nat.{ℕ, zero, suc, _<_, _≤_}
 use mathlib.Core.Path.{_≡_, refl, sym, ap, _∙_, subst}
-use mathlib.Core.List.{List, [], _∷_}
+use mathlib.Core.List.{List, []}
 use mathlib.Core.Logic.{_⊎_, inl, inr, ⊎-elim}
 use borrow.Author.Tests.{eq-eqb, ne-eqb}
 use lib.ListN.{length}
@@ -10,19 +10,17 @@ use native.Mathlib.Nat.{eq-zero-or-pos}
 use native.Mathlib.Omega.{arith}
 use Rattle.zones.specs.declared.fraction.Fraction.{Fraction}
 use Rattle.zones.specs.declared.pair.Pair.{Pair}
-use Rattle.zones.specs.Fractions.{noLimit, lowestTerms, gcdOf}
-use Rattle.zones.specs.Ranges.{Fits32}
+use Rattle.zones.specs.Fractions.{noLimit, lowestTerms}
 use Rattle.zones.specs.Zones.{firstWork}
 use Rattle.zones.proofs.Lowest.{lowest-positive, lowest-coprime, lowest-n-le, lowest-d-le}
-use Rattle.search.specs.declared.verdict.Answer.{Answer}
-use Rattle.search.specs.declared.verdict.Answer.the-variants.{Found, Refused}
+use Rattle.search.specs.declared.verdict.Answer.the-variants.{Refused}
 use Rattle.search.specs.Accepted.{Accepted}
 use Rattle.search.specs.Automata.{clocks, start, refusalOf}
 use Rattle.search.specs.Exploring.{ZoneState, SoundState}
 use Rattle.search.specs.Given.{Terms, Given, Lasting}
 use Rattle.search.specs.Promised.{Promised}
 use Rattle.search.specs.Instance.{zonesOf, searchOf, entering}
-use Rattle.search.specs.Search.{Result, State, begin, search, offer}
+use Rattle.search.specs.Search.{Result, begin, search}
 use Rattle.search.specs.Semantics.{systemOf}
 use Rattle.search.specs.Store.{mostSlots, capacityOf}
 use Rattle.search.specs.Verdicts.{fractionOf, holdingOf, answerOf, stateAnswer, stateOf, searchAnswer}

@@ -2,34 +2,32 @@
 -- Assumes nothing.
 use Prim.Native.Nat.{ℕ, zero, suc, _+_, _-_, _*_, _<_, _≤_}
 use mathlib.Core.Path.{_≡_, refl, sym, ap, _∙_, subst}
-use mathlib.Core.Bool.{Bool, true, false, cond}
+use mathlib.Core.Bool.{true, false}
 use mathlib.Core.List.{List, [], _∷_, _++_}
 use borrow.Author.Tests.{lt-ltb, le-ltb, eq-eqb, ne-eqb}
 use lib.Dec.{eqb}
 use lib.IntN.{ℤ, pos}
 use lib.Signed.{_≤ℤ_}
-use lib.ListN.{length, getD, take, drop, replicate, length-append, length-replicate}
+use lib.ListN.{length, getD, take, drop, replicate, length-append}
 use native.Mathlib.Omega.{arith}
 use native.Mathlib.Nat.{mul-le-mul-right, le-trans}
 use Rattle.zones.specs.declared.containment.Containment.{Containment}
-use Rattle.zones.specs.declared.fraction.Fraction.{Fraction}
 use Rattle.zones.specs.declared.pair.Pair.{Pair}
 use Rattle.zones.specs.declared.reduction.Reduced.{Reduced}
 use Rattle.zones.specs.declared.zone.Work.{Work}
-use Rattle.zones.specs.Containment.{within, loweredWithin, containmentOf, largestCount}
-use Rattle.zones.specs.Ranges.{Bounded, AllBounded, Sized, Comparable, Fits32, scale, counts, lastCounts}
+use Rattle.zones.specs.Containment.{loweredWithin, containmentOf, largestCount}
+use Rattle.zones.specs.Ranges.{AllBounded, Sized, Comparable, scale, counts, lastCounts}
 use Rattle.zones.proofs.Inside.{contain-yes}
 use Rattle.search.specs.declared.exploration.Turn.{Turn}
 use Rattle.search.specs.Accepted.{Accepted}
 use Rattle.search.specs.Automata.{clocks, locations, target}
 use Rattle.search.specs.Exploring.{ZoneState, ZoneNode, FirstHit, SoundNode, SoundState, Stored, Shown, Gives, InProgress}
-use Rattle.search.specs.Instance.{workOf, resultOf, overcounted, zonesOf}
-use Rattle.search.specs.Search.{Node, State, empty, zone, Nth, found, none, find, offer}
+use Rattle.search.specs.Instance.{resultOf, overcounted, zonesOf}
+use Rattle.search.specs.Search.{empty, zone, Nth, none, find, offer}
 use Rattle.search.specs.Semantics.{systemOf}
-use Rattle.search.specs.Slots.{slotLength, slotOf, zoneOf, Framed}
+use Rattle.search.specs.Slots.{slotLength, slotOf, zoneOf}
 use Rattle.search.specs.Store.{storeOf}
 use Rattle.search.proofs.Judged.{Judged, was-empty, was-target, was-inside, was-big, was-kept, was-full, computes, find-inside}
-use Rattle.search.proofs.Lists.{nth-lt}
 use Rattle.search.proofs.Slotted.{slot-size, slot-taken, slot-counts, zone-of-slot}
 use Rattle.search.proofs.Stores.{SlotAt, slot-at, store-length, store-more, hit-none, hit-first, slot-fits, lent-part, lent-length}
 

@@ -1,20 +1,18 @@
 -- The zones of an accepted automaton obey the laws that the search rests on.
 -- Assumes nothing.
-use Prim.Native.Nat.{ℕ, zero, suc, _+_, _*_, _<_, _≤_}
-use mathlib.Core.Path.{_≡_, refl, sym, ap, _∙_, subst}
+use Prim.Native.Nat.{ℕ, suc, _<_, _≤_}
+use mathlib.Core.Path.{_≡_, refl, sym, _∙_, subst}
 use mathlib.Core.Bool.{Bool, true, false, cond}
 use mathlib.Core.List.{List}
 use lib.ListN.{length, replicate, length-replicate}
-use lib.Dec.{T}
 use native.Mathlib.Omega.{arith}
 use Rattle.zones.specs.declared.fraction.Fraction.{Fraction}
 use Rattle.zones.specs.declared.pair.Pair.{Pair}
 use Rattle.zones.specs.declared.reduction.Reduced.{Reduced}
 use Rattle.zones.specs.declared.zone.Work.{Work}
-use Rattle.zones.specs.Containment.{within, loweredWithin}
 use Rattle.zones.specs.Fractions.{noLimit}
-use Rattle.zones.specs.Moves.{Closed, Shaped, Low, Includes, Exact}
-use Rattle.zones.specs.Sets.{squareOf, Has, Holds, Within, Put, Waits, Enters, Follows}
+use Rattle.zones.specs.Moves.{Closed, Shaped, Includes, Exact}
+use Rattle.zones.specs.Sets.{squareOf, Has, Holds, Within, Enters, Follows}
 use Rattle.zones.specs.Successors.{enterOf, followOf}
 use Rattle.zones.specs.Values.{Below}
 use Rattle.zones.specs.Zones.{Limits, home, firstWork}
@@ -27,8 +25,8 @@ use Rattle.zones.proofs.Fractional.{enter-before, follow-before, enter-proper, 
 use Rattle.zones.proofs.Thresholds.{proper-below}
 use Rattle.search.specs.Accepted.{Accepted}
 use Rattle.search.specs.Automata.{clocks, locations, edges, start, to, invariantOf, guardOf, resetsOf}
-use Rattle.search.specs.Instance.{workOf, resultOf, entering, following, overcounted, zonesOf, Inside, meaningOf}
-use Rattle.search.specs.Meaning.{Falls, Stays, Clocks, OneSided, ExactLaws, FromStart, FromZone, Laws}
+use Rattle.search.specs.Instance.{workOf, resultOf, entering, following, zonesOf, Inside, meaningOf}
+use Rattle.search.specs.Meaning.{Falls, Stays, OneSided, ExactLaws, FromStart, FromZone, Laws}
 use Rattle.search.specs.Search.{Result, empty, zone, fracOf}
 use Rattle.search.specs.Semantics.{Valuation, ticks, later, zeroed, systemOf}
 use Rattle.search.proofs.Resets.{reset-zero}

@@ -1,8 +1,8 @@
 -- Runs joined and cut.
-use Prim.Native.Nat.{ℕ, zero, suc, _+_, _≤_, _<_}
+use Prim.Native.Nat.{ℕ, _+_}
 use mathlib.Core.List.{List, [], _∷_, _++_, tail}
 use mathlib.Core.Path.{_≡_, refl, sym, ap, _∙_, subst}
-use Rattle.search.specs.Runs.{System, Step, wait, jump, jumps, Stand, first, after, last, Can, Steps, StandsIn, Run}
+use Rattle.search.specs.Runs.{System, Step, wait, jump, jumps, Stand, after, last, Can, Steps, StandsIn}
 use Rattle.search.specs.Meaning.{Clocks}
 
 Some : List ℕ → Type 0

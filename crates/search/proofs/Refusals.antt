@@ -10,7 +10,7 @@ use lib.ListN.{length}
 use native.Mathlib.Omega.{arith}
 use Rattle.zones.proofs.Choices.{true-false}
 use Rattle.search.specs.Accepted.{Complete}
-use Rattle.search.specs.Automata.{lengthField, version, clocks, locations, edges, formula, oversize, noSuchPlace, noSuchClock, offScale, refusalOf}
+use Rattle.search.specs.Automata.{lengthField, version, clocks, locations, formula, oversize, noSuchPlace, noSuchClock, offScale, refusalOf}
 
 -- ---- a test that fails
 pub neither : (a b : Bool) → (a || b) ≡ false → (a ≡ false) × (b ≡ false)

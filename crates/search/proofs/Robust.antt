@@ -1,13 +1,12 @@
 -- Demands 2 and 3 of the search, from the laws of zones.
-use Prim.Native.Nat.{ℕ, zero, suc, _+_, _≤_, _<_}
+use Prim.Native.Nat.{ℕ, zero, suc, _<_}
 use mathlib.Core.List.{List, [], _∷_, _++_}
-use mathlib.Core.Path.{_≡_, refl, sym, ap, _∙_, subst}
-use lib.Dec.{eqb}
+use mathlib.Core.Path.{_≡_, refl, ap, _∙_, subst}
 use borrow.Author.Tests.{eqb-true}
 use native.Mathlib.Omega.{arith}
-use Rattle.search.specs.Runs.{System, Step, Stand, first, Ends}
-use Rattle.search.specs.Search.{Result, empty, zone, fracOf, Zones, Nth, offer, take-from, begin, search, verdictOf}
-use Rattle.search.specs.Meaning.{Meaning, Stays, Laws, SameSet, Hit, Robust}
+use Rattle.search.specs.Runs.{System, Stand, first, Ends}
+use Rattle.search.specs.Search.{zone, fracOf, Zones, Nth, offer, begin, search, verdictOf}
+use Rattle.search.specs.Meaning.{Meaning, Laws, SameSet, Hit, Robust}
 use Rattle.search.proofs.Paths.{last-stands}
 use Rattle.search.proofs.Judged.{Nd, St, Res, find-inside, Judged, was-empty, was-target, was-inside, was-big, was-kept, was-full, judged, All, begin-all, step-all, take-keeps}
 use Rattle.search.proofs.Cover.{holds}

@@ -1,13 +1,12 @@
 -- Sameness: below the safe fraction a kept zone has every state that runs along its edges end in; below the exact one, no other.
-use Prim.Native.Nat.{ℕ, zero, suc, _+_, _≤_, _<_}
+use Prim.Native.Nat.{ℕ, _<_}
 use mathlib.Core.List.{List, [], _∷_, _++_}
 use mathlib.Core.Path.{_≡_, refl, sym, ap, _∙_, subst}
-use native.Mathlib.Omega.{arith}
-use Rattle.search.specs.Runs.{System, Step, wait, jump, jumps, Stand, first, after, last, Can, Steps, StandsIn, Run, Ends}
-use Rattle.search.specs.Search.{Result, empty, zone, fracOf, Zones, Nth, offer, take-from, begin, search}
-use Rattle.search.specs.Meaning.{Meaning, Falls, Stays, Clocks, OneSided, ExactLaws, FromStart, FromZone, Laws, Hit}
-use Rattle.search.proofs.Paths.{jumps-append, last-append, last-stands, steps-append, Cut, cut, Waited, waited}
-use Rattle.search.proofs.Judged.{Nd, St, Res, All, search-all}
+use Rattle.search.specs.Runs.{System, Step, wait, jump, Stand, first, after, last, Steps, Ends}
+use Rattle.search.specs.Search.{zone, Zones, search}
+use Rattle.search.specs.Meaning.{Meaning, Falls, Clocks, OneSided, ExactLaws}
+use Rattle.search.proofs.Paths.{jumps-append, last-append, steps-append, cut, waited}
+use Rattle.search.proofs.Judged.{Nd, All, search-all}
 
 module _ (A : System) (O : Zones) (M : Meaning A O) (s e : ℕ) where
   -- ---- states of runs are in the zone

@@ -1,20 +1,20 @@
 -- What has entered a location is in range, and so is every state of the search: no number of a step overflows.
 -- Assumes nothing.
-use Prim.Native.Nat.{ℕ, zero, suc, _+_, _*_, _<_, _≤_}
-use mathlib.Core.Path.{_≡_, refl, sym, ap, _∙_, subst}
+use Prim.Native.Nat.{ℕ, suc, _*_, _<_, _≤_}
+use mathlib.Core.Path.{_≡_, refl, sym, _∙_, subst}
 use mathlib.Core.Bool.{Bool, true, false, cond}
-use mathlib.Core.List.{List, [], _∷_, _++_}
+use mathlib.Core.List.{List}
 use mathlib.Core.Logic.{⊎-elim}
 use borrow.Author.Tests.{ltb-false}
-use lib.ListN.{length, length-append}
+use lib.ListN.{length-append}
 use native.Mathlib.Omega.{arith}
 use Rattle.zones.specs.declared.fraction.Fraction.{Fraction}
 use Rattle.zones.specs.declared.pair.Pair.{Pair}
 use Rattle.zones.specs.declared.reduction.Reduced.{Reduced}
 use Rattle.zones.specs.declared.zone.Work.{Work}
-use Rattle.zones.specs.Containment.{within, loweredWithin, largestCount}
+use Rattle.zones.specs.Containment.{largestCount}
 use Rattle.zones.specs.Fractions.{noLimit}
-use Rattle.zones.specs.Ranges.{Bounded, Ranged, InRange, Sized, OnScale, Comparable, Fits32, scale, counts, stepCounts, lastCounts}
+use Rattle.zones.specs.Ranges.{Ranged, Sized, OnScale, Fits32, scale, counts, stepCounts, lastCounts}
 use Rattle.zones.specs.Reductions.{reduceOf}
 use Rattle.zones.specs.Successors.{andThen, meetOf, enterOf, followOf}
 use Rattle.zones.specs.Zones.{Limits, firstWork, meetLimits, raiseLimits, resetOf}
@@ -23,10 +23,10 @@ use Rattle.zones.proofs.Choices.{true-false}
 use Rattle.zones.proofs.Inside.{largest-most, lowered-fits}
 use Rattle.zones.proofs.Moving.{then-empty, then-live}
 use Rattle.search.specs.Accepted.{Accepted}
-use Rattle.search.specs.Automata.{clocks, locations, edges, start, target, to, invariantOf, guardOf, resetsOf}
+use Rattle.search.specs.Automata.{clocks, locations, edges, start, to, invariantOf, guardOf, resetsOf}
 use Rattle.search.specs.Exploring.{ZoneState, ZoneNode, SoundNode, SoundState, SoundResult}
 use Rattle.search.specs.Instance.{workOf, resultOf, overcounted, zonesOf}
-use Rattle.search.specs.Search.{Result, empty, zone, fracOf, Node, State, Nth, found, find, offer}
+use Rattle.search.specs.Search.{Result, empty, zone, fracOf, offer}
 use Rattle.search.specs.Semantics.{systemOf}
 use Rattle.search.specs.Slots.{Framed}
 use Rattle.search.proofs.Judged.{Judged, was-empty, was-target, was-inside, was-big, was-kept, was-full, judged, find-inside}

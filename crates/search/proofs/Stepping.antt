@@ -15,7 +15,7 @@ use Rattle.zones.specs.declared.zone.Work.{Work}
 use Rattle.zones.specs.Pairs.{zeroPair}
 use Rattle.zones.specs.Ranges.{Sized, OnScale, LimitsReady, Ready, scale, counts, stepCounts}
 use Rattle.zones.specs.Reductions.{reduceOf}
-use Rattle.zones.specs.Successors.{andThen, meetOf, enterOf, followOf}
+use Rattle.zones.specs.Successors.{meetOf, enterOf, followOf}
 use Rattle.zones.specs.Zones.{Limits, pairAt, boundsMet, meetLimits, raiseLimits, setOf, resetOf}
 use Rattle.zones.proofs.Bounding.{sized-more, sized-ready, sized-limits, sized-meet, sized-reset, sized-raise, sized-reduce}
 use Rattle.zones.proofs.Limits.{limits-more}

@@ -4,26 +4,25 @@ use Prim.Native.Nat.{ℕ, zero, suc, _+_, _-_, _*_, _/_, _<_, _≤_}
 use mathlib.Core.Path.{_≡_, refl, sym, ap, _∙_, subst}
 use mathlib.Core.Bool.{Bool, true, false, cond}
 use mathlib.Core.List.{List, [], _∷_, _++_, append-assoc, append-nil}
-use borrow.Author.Tests.{ltb-true, ltb-false, lt-ltb, le-ltb, eqb-true, eqb-false, eq-eqb, ne-eqb}
+use borrow.Author.Tests.{ltb-true, ltb-false, lt-ltb, le-ltb, eqb-true, eq-eqb}
 use lib.Dec.{ltb, eqb}
 use lib.IntN.{ℤ, pos}
-use lib.ListN.{length, getD, take, drop, length-append, length-drop, length-take, drop-of-length-le, take-append-drop}
+use lib.ListN.{length, getD, take, drop, length-append, length-drop}
 use lib.Seq.{getD-drop, drop-drop, take-at, drop-at, take-all}
 use mir.Facts.{toZ-ofZ}
 use mir.Syntax.{w32}
 use mir.Val.{SFits, ofZ, toZ}
 use native.Mathlib.Omega.{arith}
-use native.Mathlib.Decide.{decLt}
 use lib.Ieee.Nearest.{div-mono}
-use native.Mathlib.Nat.{not-suc-le-zero, mul-le-mul-right, le-trans, le-of-lt, div-mul-le-self}
+use native.Mathlib.Nat.{mul-le-mul-right, le-trans, le-of-lt, div-mul-le-self}
 use Rattle.zones.specs.declared.pair.Pair.{Pair}
 use Rattle.zones.specs.Containment.{within}
 use Rattle.zones.proofs.Choices.{true-false}
 use Rattle.zones.proofs.Squares.{up-to}
 use Rattle.search.specs.Automata.{clocks}
-use Rattle.search.specs.Exploring.{ZoneNode, ZoneState, Hits, FirstHit}
+use Rattle.search.specs.Exploring.{ZoneNode, Hits, FirstHit}
 use Rattle.search.specs.Instance.{zonesOf}
-use Rattle.search.specs.Search.{Node, Found, none, found, Nth, find}
+use Rattle.search.specs.Search.{Found, none, found, Nth, find}
 use Rattle.search.specs.Semantics.{systemOf}
 use Rattle.search.specs.Slots.{slotLength, slotOf, withinSlots}
 use Rattle.search.specs.Store.{slotsOf, storeOf, mostSlots, capacityOf}

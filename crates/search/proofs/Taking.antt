@@ -11,20 +11,18 @@ use lib.Signed.{_≤ℤ_, nonNeg}
 use Rattle.zones.specs.Integers.{le-make}
 use lib.ListN.{length, getD, take, drop, drop-of-length-le}
 use native.Mathlib.Omega.{arith}
-use Rattle.zones.specs.declared.fraction.Fraction.{Fraction}
 use Rattle.zones.specs.declared.pair.Pair.{Pair}
 use Rattle.search.specs.declared.exploration.Turn.{Turn}
 use Rattle.search.specs.Accepted.{Accepted}
-use Rattle.search.specs.Automata.{clocks, locations, edges}
-use Rattle.search.specs.Exploring.{ZoneState, ZoneNode, SoundState, SoundNode, SoundZone, Shown, Continues, InProgress, Going}
-use Rattle.search.specs.Instance.{zonesOf, following, workOf, resultOf}
-use Rattle.search.specs.Search.{Node, State, Nth, expand, offer, take-from}
+use Rattle.search.specs.Automata.{clocks, edges}
+use Rattle.search.specs.Exploring.{ZoneState, ZoneNode, SoundState, SoundNode, SoundZone, Shown, Continues, Going}
+use Rattle.search.specs.Instance.{zonesOf, following}
+use Rattle.search.specs.Search.{Nth, expand, offer, take-from}
 use Rattle.search.specs.Semantics.{systemOf}
-use Rattle.search.specs.Slots.{slotLength, slotOf, zoneOf}
+use Rattle.search.specs.Slots.{slotLength, zoneOf}
 use Rattle.search.proofs.Expanding.{progress, shown-length}
 use Rattle.search.proofs.Judged.{expand-keeps, take-later, take-none, take-one}
 use Rattle.search.proofs.Judging.{At, nth-at, n≤, progress-slots, read-counts, read-zone}
-use Rattle.search.proofs.Lists.{nth-lt}
 use Rattle.search.proofs.Slotted.{slot-location}
 use Rattle.search.proofs.Sounding.{follow-sound, offer-sound}
 use Rattle.search.proofs.Turns.{reads-p}

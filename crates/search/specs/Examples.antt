@@ -1,5 +1,5 @@
 -- "Cards on the table": document 01's cards A to J, each with a store, and what the search answers and leaves.
-use Prim.Native.Nat.{ℕ, _+_, _/_, _%_}
+use Prim.Native.Nat.{ℕ, _/_, _%_}
 use mathlib.Core.List.{List, [], _∷_, _++_}
 use mathlib.Core.Path.{_≡_}
 use lib.IntN.{ℤ, pos}

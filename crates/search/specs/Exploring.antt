@@ -8,7 +8,6 @@ use lib.ListN.{length, getD, drop}
 use Rattle.zones.specs.declared.fraction.Fraction.{Fraction}
 use Rattle.zones.specs.declared.pair.Pair.{Pair}
 use Rattle.zones.specs.declared.reduction.Reduced.{Reduced}
-use Rattle.zones.specs.declared.zone.Work.{Work}
 use Rattle.zones.specs.Fractions.{noLimit}
 use Rattle.zones.specs.Ranges.{Ranged, Sized, Fits32, scale, counts, lastCounts}
 use Rattle.search.specs.declared.exploration.Turn.{Turn}

@@ -1,6 +1,6 @@
 -- The search of document 01: the general search over the zones of an automaton's bytes.
 use Prim.Native.Nat.{ℕ, suc, _≤_}
-use mathlib.Core.Bool.{Bool, true, false, cond}
+use mathlib.Core.Bool.{Bool, cond}
 use mathlib.Core.List.{List}
 use mathlib.Core.Path.{_≡_}
 use lib.Dec.{ltb}

@@ -15,3 +15,4 @@ pub mod Given
 pub mod Promised
 pub mod Examples
 pub mod Exploring
+pub mod Opened

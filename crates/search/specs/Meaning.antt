@@ -1,12 +1,12 @@
 -- What zones mean, and the laws that the search rests on: the one-sided ones below the safe fraction, the others below the exact one.
 -- In document 01 the two fractions are one.
 use Prim.Native.Nat.{ℕ, _+_, _<_, _≤_}
-use mathlib.Core.List.{List, []}
-use mathlib.Core.Bool.{Bool, true}
+use mathlib.Core.List.{List}
+use mathlib.Core.Bool.{true}
 use mathlib.Core.Path.{_≡_}
 use mathlib.Core.Logic.{_↔_}
 use Rattle.search.specs.Runs.{System, Step, Run, StandsIn, first, Ends}
-use Rattle.search.specs.Search.{Result, empty, zone, fracOf, Zones, Node, Verdict, holds, reached, refused}
+use Rattle.search.specs.Search.{empty, zone, fracOf, Zones, Node, Verdict, holds, reached, refused}
 
 pub record Meaning (A : System) (O : Zones) : Type 1 where
   pub In : O .Z → (s e : ℕ) → A .Val → Type 0

@@ -1,6 +1,6 @@
 -- "The store is lent 32-bit signed numbers": its slots, and how many there are. `n` is the number of indices, clocks + 1.
 use Prim.Native.Nat.{ℕ, _/_}
-use mathlib.Core.Bool.{Bool, cond}
+use mathlib.Core.Bool.{cond}
 use mathlib.Core.List.{List, [], _∷_, _++_}
 use lib.Dec.{ltb}
 use lib.IntN.{ℤ}

@@ -1,6 +1,6 @@
 -- The answer of the search, with document 01's number and values for each of its cases, and the store that it leaves.
 use Prim.Native.Nat.{ℕ, zero, suc}
-use mathlib.Core.Bool.{Bool, true, false, cond}
+use mathlib.Core.Bool.{cond}
 use mathlib.Core.List.{List}
 use lib.Dec.{eqb}
 use lib.IntN.{ℤ}

@@ -44,7 +44,7 @@ pub fn clocks(automaton: &[u8]) -> usize
     wide(automaton[5]) as usize
 }
 
-fn locations(automaton: &[u8]) -> usize
+pub fn locations(automaton: &[u8]) -> usize
     requires { ⌜ 11 ≤ length (now automaton) ⌝ }
     ensures { λ r. ⌜ r ≡ locations (now (automaton .entry)) ⌝ }
 {

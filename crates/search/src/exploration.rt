@@ -1,10 +1,10 @@
 // The search over zones in the lent store: kept zones are taken oldest first, with edges in order.
 use crate::automaton::clocks;
-use crate::automaton::edge_from;
-use crate::automaton::edge_to;
-use crate::automaton::edges;
 use crate::automaton::start;
 use crate::automaton::target;
+use crate::opened::destination_of;
+use crate::opened::edge_count_of;
+use crate::opened::source_of;
 use crate::slot::decode;
 use crate::slot::encode;
 use crate::slot::is_within;
@@ -159,13 +159,20 @@ fn expand(
     ensures { λ r. ⌜ ((p : List ℕ) → Continues (now (automaton .entry)) slots (now (store .entry)) turn (expand (systemOf (now (automaton .entry))) (zonesOf (now (automaton .entry))) slots (record { at = l; zone = z; path = p }) (edges (now (automaton .entry))) 0) (now (store .exit)) r) ⌝ }
 {
     let mut t = turn;
-    let last = edges(automaton);
+    let last = edge_count_of(automaton);
     let mut i = 0;
     while i < last {
-        if edge_from(automaton, i) == l {
+        if source_of(automaton, i) == l {
             let fraction = t.fraction;
             let r = follow(automaton, i, Work { zone: z, fraction });
-            t = offer(automaton, store, t.count, slots, edge_to(automaton, i), r);
+            t = offer(
+                automaton,
+                store,
+                t.count,
+                slots,
+                destination_of(automaton, i),
+                r,
+            );
             if t.code != 0 {
                 return t;
             }

@@ -1,6 +1,7 @@
 // The reader of automata and the search for their verdicts.
 mod automaton;
 mod exploration;
+mod opened;
 mod slot;
 mod successor;
 pub mod verdict;

@@ -2,11 +2,11 @@
 use crate::automaton::NO_UPPER;
 use crate::automaton::clocks;
 use crate::automaton::edge_at;
-use crate::automaton::edge_resets;
-use crate::automaton::edge_to;
 use crate::automaton::hi_at;
 use crate::automaton::invariant_at;
 use crate::automaton::lo_at;
+use crate::opened::destination_of;
+use crate::opened::resets_of;
 use zones::pair::Pair;
 use zones::reduction::Reduced;
 use zones::zone::Bounds;
@@ -95,6 +95,10 @@ pub fn follow(automaton: &[u8], i: usize, w: Work) -> Reduced
         return met;
     }
     let work = met.work;
-    let resets = edge_resets(automaton, i);
-    enter(automaton, edge_to(automaton, i), work.reset(n + 1, resets))
+    let resets = resets_of(automaton, i);
+    enter(
+        automaton,
+        destination_of(automaton, i),
+        work.reset(n + 1, resets),
+    )
 }

@@ -1,8 +1,8 @@
 -- How large the numbers get through the three reductions of one step. With |m| ≤ C and p ≤ P before, a zone that is not empty has |m| ≤ C after each reduction, and p at most ten times what it was; and each threshold is within N and D.
 -- Assumes nothing.
 use Prim.Native.Nat.{ℕ, zero, suc, _+_, _*_, _<_, _≤_}
-use mathlib.Core.Path.{_≡_, refl, sym, ap, _∙_, subst}
-use mathlib.Core.Bool.{Bool, true, false}
+use mathlib.Core.Path.{_≡_, refl, ap, _∙_}
+use mathlib.Core.Bool.{Bool, false}
 use mathlib.Core.Logic.{inl}
 use lib.ListN.{length}
 use lib.IntN.{pos, negℤ, natAbs}
@@ -10,23 +10,19 @@ use lib.Signed.{_≤ℤ_}
 use native.Mathlib.Omega.{arith}
 use native.Mathlib.Decide.{decLt}
 use native.Mathlib.Nat.{mul-le-mul-right}
-use Rattle.zones.specs.declared.fraction.Fraction.{Fraction}
 use Rattle.zones.specs.declared.pair.Pair.{Pair}
-use Rattle.zones.specs.declared.pair.Choice.{Choice}
-use Rattle.zones.specs.declared.reduction.Reduced.{Reduced}
-use Rattle.zones.specs.declared.zone.Bounds.{Bounds}
 use Rattle.zones.specs.declared.zone.Work.{Work}
-use Rattle.zones.specs.Integers.{int, le-read, abs-law, neg-law, up, down}
-use Rattle.zones.specs.Pairs.{zeroPair, atMost, atLeast, sumOf, smallerOf}
+use Rattle.zones.specs.Integers.{int, abs-law, neg-law}
+use Rattle.zones.specs.Pairs.{zeroPair, atMost, atLeast}
 use Rattle.zones.specs.Zones.{Limits, entry, home, firstWork, lowerAt, meetLimits, raiseLimits, resetOf}
-use Rattle.zones.specs.Reductions.{reduceSteps, reduceOf}
+use Rattle.zones.specs.Reductions.{reduceOf}
 use Rattle.zones.specs.Ranges.{Bounded, Narrow, Room, Ranged, InRange, OnScale, Sized, Ready, LimitsReady, Fits32, scale, stepCounts, widest}
-use Rattle.zones.proofs.Choices.{less-shows, not-less-shows, smaller-cases}
+use Rattle.zones.proofs.Choices.{not-less-shows, smaller-cases}
 use Rattle.zones.proofs.Closure.{reduce-triangle, reduced-size}
-use Rattle.zones.proofs.Diagonals.{Signs, sign-zero}
+use Rattle.zones.proofs.Diagonals.{sign-zero}
 use Rattle.zones.proofs.Meeting.{met-ind}
 use Rattle.zones.proofs.Order.{_≼_, ≼-refl, ≼-trans, smaller-left}
-use Rattle.zones.proofs.Places.{first-at, first-size, lower-size, lower-place, RaisedBy, raised-by, ResetBy, reset-by, home-zero, home-below}
+use Rattle.zones.proofs.Places.{first-at, first-size, lower-size, lower-place, RaisedBy, raised-by, reset-by, home-zero, home-below}
 use Rattle.zones.proofs.Progress.{Alive, along}
 use Rattle.zones.proofs.Ranges.{lowered-narrow, smaller-bounded, both-narrow, bounded-spread, reduce-narrow}
 use Rattle.zones.proofs.Size.{reduce-spread}

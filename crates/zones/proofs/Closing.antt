@@ -25,7 +25,7 @@ use Rattle.zones.proofs.Diagonals.{Signs, negative-none, sign-zero}
 use Rattle.zones.proofs.Lowering.{lower-limits, falls-in}
 use Rattle.zones.proofs.Order.{smaller-or}
 use Rattle.zones.proofs.Progress.{after-live, after-empty, Alive, along}
-use Rattle.zones.proofs.Rounds.{chosen, RowDone, row-done, row-same, RoundDone, round-done, round-same, still}
+use Rattle.zones.proofs.Rounds.{chosen, row-done, row-same, RoundDone, round-done, round-same, still}
 use Rattle.zones.proofs.Squares.{up-to, Round, Through, round-through}
 use Rattle.zones.proofs.Steps.{row-falls, reduce-size, reduce-falls, reduce-signs, reduce-keeps}
 use Rattle.zones.proofs.Thresholds.{value-sum, value-pos, zero-value, smaller-sound}

@@ -1,6 +1,6 @@
 -- The diagonal: an entry is (0, 0), or it has m below 0 and, below the running fraction, a value below 0.
 -- Assumes nothing.
-use Prim.Native.Nat.{ℕ, _+_, _<_, _≤_}
+use Prim.Native.Nat.{ℕ, _<_, _≤_}
 use mathlib.Core.Path.{_≡_, refl, sym, ap, subst}
 use mathlib.Core.Bool.{Bool, true, false, cond}
 use mathlib.Core.Logic.{_⊎_, inl, inr, ⊎-elim}
@@ -12,7 +12,6 @@ use lib.Signed.{_≤ℤ_, _<ℤ_, ltZ}
 use native.Mathlib.Omega.{arith}
 use Rattle.zones.specs.declared.fraction.Fraction.{Fraction}
 use Rattle.zones.specs.declared.pair.Pair.{Pair}
-use Rattle.zones.specs.declared.pair.Choice.{Choice}
 use Rattle.zones.specs.declared.zone.Work.{Work}
 use Rattle.zones.specs.Integers.{up, down, int, le-read, lt-read, ltZ-true}
 use Rattle.zones.specs.Pairs.{zeroPair, isLess, thresholdOf, smallerOf}

@@ -1,15 +1,13 @@
 -- Entering a location and following an edge, as sets.
 -- Assumes nothing.
 use Prim.Native.Nat.{ℕ, suc, _<_, _≤_}
-use mathlib.Core.Path.{_≡_, refl, sym, _∙_, subst}
-use mathlib.Core.Bool.{Bool, true, false}
+use mathlib.Core.Path.{_≡_, refl, subst}
+use mathlib.Core.Bool.{Bool, false}
 use native.Mathlib.Omega.{arith}
-use Rattle.zones.specs.declared.reduction.Reduced.{Reduced}
 use Rattle.zones.specs.declared.zone.Work.{Work}
 use Rattle.zones.specs.Zones.{Limits, raiseLimits, resetOf}
 use Rattle.zones.specs.Reductions.{reduceSteps}
 use Rattle.zones.specs.Successors.{andThen, meetOf, enterOf, followOf}
-use Rattle.zones.specs.Values.{Below}
 use Rattle.zones.specs.Sets.{squareOf, Has, Within, Put, Waits, Enters, Follows}
 use Rattle.zones.specs.Moves.{Closed, Shaped, Low, Includes, Exact}
 use Rattle.zones.proofs.Moving.{Rel, Then, Later, includes-then, exact-then, includes-same, exact-same, meet-includes, meet-exact, reset-includes, reset-exact, raise-includes, raise-exact}

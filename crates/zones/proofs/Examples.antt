@@ -3,9 +3,8 @@
 use Prim.Native.Nat.{ℕ}
 use mathlib.Core.Path.{_≡_, refl}
 use mathlib.Core.Bool.{Bool, true, false}
-use lib.IntN.{pos, negsuc}
+use lib.IntN.{pos}
 use Rattle.zones.specs.declared.reduction.Reduced.{Reduced}
-use Rattle.zones.specs.declared.zone.Work.{Work}
 use Rattle.zones.specs.Fractions.{loweredBy, euclid, gcdOf, lowestTerms}
 use Rattle.zones.specs.Pairs.{atMost, sumOf, isLess, thresholdOf, smallerOf}
 use Rattle.zones.specs.Zones.{Limits, pairAt, entry, firstWork, lowerAt, meetUpper, meetClock, meetLimits, raiseLimits, home, resetPlaces, resetOf}

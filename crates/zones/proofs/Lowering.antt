@@ -7,7 +7,6 @@ use lib.ListN.{length}
 use lib.Signed.{_≤ℤ_}
 use native.Mathlib.Omega.{arith}
 use Rattle.zones.specs.declared.pair.Pair.{Pair}
-use Rattle.zones.specs.declared.pair.Choice.{Choice}
 use Rattle.zones.specs.declared.zone.Work.{Work}
 use Rattle.zones.specs.Integers.{int}
 use Rattle.zones.specs.Pairs.{smallerOf}

@@ -12,7 +12,7 @@ use Rattle.zones.specs.declared.reduction.Reduced.{Reduced}
 use Rattle.zones.specs.declared.zone.Work.{Work}
 use Rattle.zones.specs.Integers.{int, le-read}
 use Rattle.zones.specs.Pairs.{atMost}
-use Rattle.zones.specs.Zones.{Limits, entry, home, meetLimits}
+use Rattle.zones.specs.Zones.{Limits, home, meetLimits}
 use Rattle.zones.specs.Reductions.{reduceSteps}
 use Rattle.zones.specs.Successors.{andThen, meetOf}
 use Rattle.zones.specs.Values.{valueOf, Below}

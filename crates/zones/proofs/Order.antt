@@ -1,19 +1,17 @@
 -- The order of pairs, as linear arithmetic. `a ≼ b`: b is not below a. At a number K above every p in play, a pair is the integer m × K + p, and the order of pairs is that of these integers: `lex-read` and `lex-make`. So an order of pairs and of their sums is proved by omega, from `lex-read` of each hypothesis and `sum-times` of each sum.
 -- Assumes nothing.
-use Prim.Native.Nat.{ℕ, zero, suc, _+_, _-_, _*_, _<_, _≤_, _^_}
-use mathlib.Core.Path.{_≡_, refl, sym, ap, _∙_, subst}
+use Prim.Native.Nat.{ℕ, suc, _+_, _*_, _<_, _≤_}
+use mathlib.Core.Path.{_≡_, refl, sym, ap}
 use mathlib.Core.Bool.{Bool, true, false, cond}
-use mathlib.Core.Logic.{_⊎_, inl, inr, ⊎-elim}
-use borrow.Author.Tests.{lt-ltb, le-ltb, ltb-true, ltb-false}
-use lib.Dec.{T, ltb}
-use lib.IntN.{ℤ, pos, _+ℤ_}
-use lib.Signed.{_≤ℤ_, _<ℤ_, ltZ}
+use mathlib.Core.Logic.{_⊎_, inl, inr}
+use borrow.Author.Tests.{le-ltb, ltb-true, ltb-false}
+use lib.Dec.{ltb}
+use lib.IntN.{pos}
+use lib.Signed.{_≤ℤ_, ltZ}
 use native.Mathlib.Omega.{arith}
 use native.Mathlib.Nat.{mul-le-mul-right}
 use Rattle.zones.specs.Integers.{up, down, int, le-read, lt-read, sum-law, ltZ-true, ltZ-false}
 use Rattle.zones.specs.declared.pair.Pair.{Pair}
-use Rattle.zones.specs.declared.fraction.Fraction.{Fraction}
-use Rattle.zones.specs.declared.pair.Choice.{Choice}
 use Rattle.zones.specs.Pairs.{sumOf, isLess, thresholdOf, smallerOf}
 use Rattle.zones.proofs.Choices.{true-false, smaller-cases}
 

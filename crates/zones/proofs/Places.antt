@@ -1,18 +1,17 @@
 -- What stands at each place of a square after an operation that sets places.
 -- Assumes nothing.
 use Prim.Native.Nat.{ℕ, zero, suc, _+_, _*_, _/_, _%_, _<_, _≤_}
-use mathlib.Core.Path.{_≡_, refl, sym, ap, _∙_, subst}
+use mathlib.Core.Path.{_≡_, refl, ap, _∙_}
 use mathlib.Core.Bool.{Bool, true, false, cond}
 use mathlib.Core.List.{List}
 use lib.ListN.{length, getD, set, length-set, length-replicate, getD-replicate}
 use lib.Seq.{getD-set-same, getD-set-other}
 use native.Mathlib.Numerals.{add-one}
 use native.Mathlib.Omega.{arith}
-use native.Mathlib.Decide.{ℕ-discrete, decLt}
+use native.Mathlib.Decide.{ℕ-discrete}
 use native.Mathlib.Nat.{not-suc-le-zero}
 use Rattle.zones.specs.declared.pair.Pair.{Pair}
 use Rattle.zones.specs.declared.zone.Work.{Work}
-use Rattle.zones.specs.Fractions.{noLimit}
 use Rattle.zones.specs.Pairs.{zeroPair, atMost, smallerOf}
 use Rattle.zones.specs.Zones.{Limits, pairAt, entry, firstWork, lowerAt, raiseLimits, home, resetPlaces, resetOf}
 

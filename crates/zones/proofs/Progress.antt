@@ -5,14 +5,14 @@ use mathlib.Core.Path.{_≡_, refl, sym, ap, _∙_, subst}
 use mathlib.Core.Bool.{Bool, true, false, cond}
 use lib.ListN.{length}
 use lib.IntN.{pos}
-use lib.Signed.{_≤ℤ_, _<ℤ_, ltZ}
+use lib.Signed.{_≤ℤ_, ltZ}
 use native.Mathlib.Numerals.{add-one}
 use native.Mathlib.Omega.{arith}
 use native.Mathlib.Decide.{ℕ-discrete, le-ind}
 use native.Mathlib.Nat.{not-suc-le-zero}
 use Rattle.zones.specs.declared.reduction.Reduced.{Reduced}
 use Rattle.zones.specs.declared.zone.Work.{Work}
-use Rattle.zones.specs.Integers.{ltZ-true, ltZ-false}
+use Rattle.zones.specs.Integers.{ltZ-false}
 use Rattle.zones.specs.Zones.{entry}
 use Rattle.zones.specs.Reductions.{roundSteps, emptyIn, afterMiddle, reduceSteps}
 use Rattle.zones.proofs.Choices.{true-false}

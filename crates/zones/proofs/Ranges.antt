@@ -1,17 +1,15 @@
 -- No sum of a reduction overflows, and every threshold is within N and D: with the bounds C, P at its beginning as parameters.
 -- Assumes nothing.
-use Prim.Native.Nat.{ℕ, zero, suc, _+_, _-_, _*_, _<_, _≤_, _^_}
+use Prim.Native.Nat.{ℕ, zero, suc, _+_, _<_, _≤_}
 use mathlib.Core.Path.{_≡_, refl, sym, ap, _∙_, subst}
 use mathlib.Core.Bool.{Bool, true, false}
-use mathlib.Core.Logic.{⊎-elim}
 use lib.ListN.{length}
-use lib.IntN.{ℤ, pos, negℤ, natAbs}
+use lib.IntN.{pos, negℤ}
 use lib.Signed.{_≤ℤ_}
 use native.Mathlib.Omega.{arith}
 use native.Mathlib.Nat.{mul-le-mul-right}
 use Rattle.zones.specs.declared.fraction.Fraction.{Fraction}
 use Rattle.zones.specs.declared.pair.Pair.{Pair}
-use Rattle.zones.specs.declared.pair.Choice.{Choice}
 use Rattle.zones.specs.declared.reduction.Reduced.{Reduced}
 use Rattle.zones.specs.declared.zone.Bounds.{Bounds}
 use Rattle.zones.specs.declared.zone.Work.{Work}
@@ -22,7 +20,7 @@ use Rattle.zones.specs.Zones.{entry, lowerAt, upperMet}
 use Rattle.zones.specs.Reductions.{relaxed, rowSteps, roundSteps, afterMiddle, reduceSteps}
 use Rattle.zones.specs.Ranges.{Bounded, Narrow, Small, Fits32, Spread, Room, scale, stepCounts, lastCounts, widest, Ready, RoundReady, LimitsReady}
 use Rattle.zones.proofs.Choices.{less-shows, not-less-shows, threshold-cases, smaller-cases, lowered-cases}
-use Rattle.zones.proofs.Rounds.{RowDone, row-done, row-same, reads-at, reads-to, reads-from, RoundDone, round-done, middle, still, round-same}
+use Rattle.zones.proofs.Rounds.{RowDone, row-done, reads-at, reads-to, reads-from, RoundDone, round-done, middle, still}
 use Rattle.zones.proofs.Progress.{Alive, along, after-live, after-empty}
 use Rattle.zones.proofs.Order.{sum-p}
 use Rattle.zones.proofs.Size.{sum-up, sum-down, reduce-spread}

@@ -17,7 +17,7 @@ use Rattle.zones.specs.Fractions.{loweredBy}
 use Rattle.zones.specs.Pairs.{sumOf, smallerOf}
 use Rattle.zones.specs.Zones.{entry, lowerAt}
 use Rattle.zones.specs.Reductions.{relaxed, rowSteps, roundSteps}
-use Rattle.zones.proofs.Order.{_≼_, lex-make, sum-at, sum-p, at-least-0, large, smaller-kept}
+use Rattle.zones.proofs.Order.{lex-make, sum-at, sum-p, at-least-0, large, smaller-kept}
 use Rattle.zones.proofs.Places.{lower-size, lower-at, lower-off}
 
 -- the comparison of entry (i, j) with the way through k

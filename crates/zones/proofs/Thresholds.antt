@@ -1,18 +1,17 @@
 -- What a threshold is for: below it, the chosen pair has the smaller value. Below a lowered fraction is below both, and no numerator is ever 0, so that no error at all is always below.
 -- Assumes nothing.
 use Prim.Native.Nat.{ℕ, zero, suc, _+_, _-_, _*_, _<_, _≤_}
-use mathlib.Core.Path.{_≡_, refl, sym, ap, _∙_, subst}
-use mathlib.Core.Bool.{Bool, true, false}
-use lib.IntN.{ℤ, pos, _+ℤ_, _-ℤ_, _*ℤ_, natAbs}
+use mathlib.Core.Path.{_≡_, ap}
+use mathlib.Core.Bool.{false}
+use lib.IntN.{pos, _+ℤ_, _-ℤ_, _*ℤ_, natAbs}
 use lib.Signed.{_≤ℤ_, _<ℤ_}
 use native.Mathlib.Omega.{arith}
 use native.Mathlib.Nat.{mul-le-mul-right, lt-of-mul-lt-mul-right, mul-lt-mul-of-pos-right, mul-pos}
 use native.Mathlib.Decide.{decLt}
 use Rattle.zones.specs.declared.fraction.Fraction.{Fraction}
 use Rattle.zones.specs.declared.pair.Pair.{Pair}
-use Rattle.zones.specs.declared.pair.Choice.{Choice}
 use Rattle.zones.specs.Integers.{up, down, int, le-read, lt-read, sum-law, times-law, abs-gap}
-use Rattle.zones.specs.Fractions.{noLimit, loweredBy}
+use Rattle.zones.specs.Fractions.{loweredBy}
 use Rattle.zones.specs.Pairs.{zeroPair, sumOf, isLess, thresholdOf, smallerOf}
 use Rattle.zones.specs.Values.{valueOf, Below}
 use Rattle.zones.proofs.Choices.{less-shows, not-less-shows, threshold-cases, smaller-cases, lowered-cases}

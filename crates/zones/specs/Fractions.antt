@@ -1,7 +1,7 @@
 -- "One running fraction is lowered where it stands by every comparison made in meeting limits and in reduction. It starts at 1/0, no limit, and is given out in lowest terms."
 use Prim.Native.Nat.{ℕ, zero, suc, _*_, _/_, _%_}
 use mathlib.Core.Path.{_≡_}
-use mathlib.Core.Bool.{Bool, true, false, cond}
+use mathlib.Core.Bool.{cond}
 use lib.Dec.{ltb}
 use Rattle.zones.specs.declared.fraction.Fraction.{Fraction}
 

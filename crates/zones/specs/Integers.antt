@@ -1,14 +1,14 @@
 -- Linear arithmetic over ℤ, by omega. An integer z is `up z` less `down z`, of which one is 0.
 -- `omega (arith, int, sum-law x y, ..)` proves an order or an equation of integers: the set `int` turns each ≤ℤ, <ℤ and ≡ in reach, and the goal, into one of naturals. The list names each sum, negation and multiple that occurs.
 -- Assumes nothing.
-use Prim.Native.Nat.{ℕ, zero, suc, _+_, _-_, _*_, _^_, _≤_, _<_}
-use mathlib.Core.Path.{_≡_, refl, sym, ap, _∙_, subst, subst⁻¹}
+use Prim.Native.Nat.{ℕ, zero, suc, _+_, _*_, _^_, _≤_, _<_}
+use mathlib.Core.Path.{_≡_, refl, sym, ap, subst, subst⁻¹}
 use mathlib.Core.Bool.{Bool, true, false, not, cond}
 use mathlib.Core.Logic.{_⊎_, inl, inr, ⊎-elim}
 use native.Mathlib.Omega.{arith}
 use native.Mathlib.Nat.{lt-of-le-of-lt, mul-le-mul-left, mul-lt-mul-of-pos-right, le-of-lt}
 use lib.Pow.{pow-add, pow-pos}
-use lib.Dec.{T, leb, ltb, leb→le, le→leb, ltb→lt, lt→ltb, nltb→le}
+use lib.Dec.{T, ltb, leb→le, le→leb, ltb→lt, lt→ltb, nltb→le}
 use lib.IntN.{ℤ, pos, negsuc, negℤ, natAbs, subℕ, _+ℤ_, _-ℤ_, _*ℤ_}
 use lib.Signed.{_≤ℤ_, _<ℤ_, mag, leZ, ltZ, ltZ-no, nonNeg, yes-nonNeg}
 use mir.Syntax.{Width}

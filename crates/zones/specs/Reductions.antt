@@ -4,11 +4,9 @@ use Prim.Native.Nat.{ℕ, zero, suc}
 use mathlib.Core.Bool.{Bool, true, false, cond}
 use lib.IntN.{pos}
 use lib.Signed.{ltZ}
-use Rattle.zones.specs.declared.pair.Pair.{Pair}
-use Rattle.zones.specs.declared.pair.Choice.{Choice}
 use Rattle.zones.specs.declared.reduction.Reduced.{Reduced}
 use Rattle.zones.specs.declared.zone.Work.{Work}
-use Rattle.zones.specs.Pairs.{sumOf, smallerOf}
+use Rattle.zones.specs.Pairs.{sumOf}
 use Rattle.zones.specs.Zones.{entry, lowerAt}
 
 -- entry (i, j) by the middle index k

@@ -1,6 +1,6 @@
 -- How a zone goes from location to location. There are c clocks, and one index more.
 use Prim.Native.Nat.{ℕ, suc}
-use mathlib.Core.Bool.{Bool, true, false, cond}
+use mathlib.Core.Bool.{Bool, cond}
 use Rattle.zones.specs.declared.reduction.Reduced.{Reduced}
 use Rattle.zones.specs.declared.zone.Work.{Work}
 use Rattle.zones.specs.Zones.{Limits, firstWork, meetLimits, raiseLimits, resetOf}

@@ -1,4 +1,5 @@
 use crate::fraction::Fraction;
+use crate::fraction::lowered_in_place;
 use crate::pair::Pair;
 ghost use mathlib.Core.Path.{_≡_};
 ghost use mathlib.Core.Bool.{true};
@@ -61,7 +62,7 @@ fn lowered_within(z: [Pair; 81], y: [Pair; 81], size: usize, f0: Fraction) -> Fr
         if at % 9 < size {
             let new = z[at];
             let old = y[at];
-            f = f.lowered(new.threshold(old));
+            f = lowered_in_place(f, new.threshold(old));
         }
         at += 1;
     }

@@ -37,6 +37,24 @@ impl Fraction {
     }
 }
 
+// The fraction is lowered where it stands.
+pub fn lower(f: &mut Fraction, o: Fraction)
+    requires { ⌜ Fits32 (now f) × Fits32 o ⌝ }
+    ensures { λ _. ⌜ now (f .exit) ≡ loweredBy (now (f .entry)) o ⌝ }
+{
+    *f = f.lowered(o);
+}
+
+// Lends the fraction to be lowered, and hands it back.
+pub fn lowered_in_place(f: Fraction, o: Fraction) -> Fraction
+    requires { ⌜ Fits32 f × Fits32 o ⌝ }
+    ensures { λ r. ⌜ r ≡ loweredBy f o ⌝ }
+{
+    let mut g = f;
+    lower(&mut g, o);
+    g
+}
+
 // The greatest common divisor, by Euclid's algorithm; that of x and 0 is x.
 pub fn gcd(x: u64, y: u64) -> u64
     ensures { λ r. ⌜ r ≡ gcdOf x y ⌝ }

@@ -1,7 +1,7 @@
 -- A loaded zone is ready for every operation.
 -- Assumes nothing.
-use Prim.Native.Nat.{ℕ, zero, suc, _+_, _*_, _%_, _<_, _≤_}
-use mathlib.Core.Path.{_≡_, refl, sym, ap, _∙_}
+use Prim.Native.Nat.{ℕ, _+_, _*_, _%_, _<_, _≤_}
+use mathlib.Core.Path.{_≡_, _∙_}
 use mathlib.Core.Bool.{Bool, true, false}
 use mathlib.Core.List.{List}
 use lib.IntN.{ℤ, pos, negsuc, natAbs}
@@ -15,7 +15,7 @@ use Rattle.zones.specs.declared.zone.Work.{Work}
 use Rattle.zones.specs.Integers.{int, abs-within, ltZ-false, ltZ-true}
 use Rattle.zones.specs.Pairs.{zeroPair}
 use Rattle.zones.specs.Zones.{pairAt, firstWork}
-use Rattle.zones.specs.Ranges.{Bounded, Fits32, Ready, LimitsReady, Comparable, scale, counts, stepCounts, lastCounts}
+use Rattle.zones.specs.Ranges.{Bounded, Fits32, Ready, LimitsReady, Comparable, scale, counts}
 use Rattle.zones_cases.specs.Loading.{LoadedAt, Loaded}
 
 -- ---- one pair

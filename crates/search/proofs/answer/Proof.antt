@@ -1,15 +1,9 @@
 -- Assumes nothing.
-use mathlib.Core.Path.{refl, sym, ap, _∙_, subst}
-use lib.ListN.{length}
-use native.Mathlib.Omega.{arith}
 use Rattle.search.proofs.Answers.{answer-holds, answer-reached, answer-refused}
 use borrow.Author.Needs.{needs}
 use borrow.Author.Needs.{needs}
 use Rattle.search.proofs.answer.Statement.{statement}
 use Rattle.search.proofs.answer.Tie as tie
-use Rattle.search.proofs.answer.Reads as reads
-use Rattle.search.proofs.answer.Lts as lts
-use Rattle.search.proofs.holding.Reads as holding-reads
 
 cast-zones : tie.Need-cast-zones
 cast-zones c = search needs

@@ -1,7 +1,5 @@
 -- Assumes nothing.
-use mathlib.Core.Path.{refl, sym, ap, _∙_, subst}
-use lib.ListN.{length}
-use native.Mathlib.Omega.{arith}
+use mathlib.Core.Path.{sym, _∙_, subst}
 use Rattle.search.specs.Promised.{Promised}
 use Rattle.search.proofs.Accepting.{accepted}
 use Rattle.search.proofs.Answers.{refused-answer, refused-store, count-small, searched-answer, searched-store}
@@ -9,11 +7,6 @@ use Rattle.search.proofs.Given.{promised}
 use borrow.Author.Needs.{needs}
 use Rattle.search.proofs.search.Statement.{statement}
 use Rattle.search.proofs.search.Tie as tie
-use Rattle.search.proofs.search.Reads as reads
-use Rattle.search.proofs.search.Lts as lts
-use Rattle.search.proofs.answer.Reads as answer-reads
-use Rattle.search.proofs.automaton.refusal.Reads as refusal-reads
-use Rattle.search.proofs.exploration.explore.Reads as explore-reads
 
 refusal-requires : tie.Need-refusal-requires
 refusal-requires c κs = search needs

@@ -1,6 +1,5 @@
 -- Assumes nothing.
 use borrow.Author.Needs.{needs}
-use mathlib.Core.Path.{_≡_, ap, _∙_}
 use native.Mathlib.Omega.{arith}
 use Rattle.zones_bench.specs.Bench.{benchOnce}
 use Rattle.zones_bench.proofs.Filling.{work-ready}

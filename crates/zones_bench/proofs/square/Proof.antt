@@ -1,6 +1,6 @@
 -- Assumes nothing.
 use Prim.Native.Nat.{_-_, _≤_}
-use mathlib.Core.Path.{_≡_, refl, ap, _∙_}
+use mathlib.Core.Path.{_≡_, ap, _∙_}
 use native.Mathlib.Omega.{arith}
 use Rattle.zones_bench.specs.Bench.{benchPlaces}
 use Rattle.zones_bench.proofs.Filling.{filled-next}

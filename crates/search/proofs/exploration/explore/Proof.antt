@@ -1,8 +1,7 @@
 -- Assumes nothing.
-use Prim.Native.Nat.{ℕ, suc, _+_, _*_, _≤_, _<_}
-use mathlib.Core.Path.{_≡_, refl, sym, ap, _∙_, subst}
+use Prim.Native.Nat.{ℕ, _*_}
+use mathlib.Core.Path.{sym, ap, _∙_, subst}
 use lib.ListN.{length}
-use native.Mathlib.Omega.{arith}
 use Rattle.zones.specs.Ranges.{counts}
 use Rattle.zones.proofs.Bounding.{first-sized}
 use Rattle.search.specs.Automata.{clocks}
@@ -16,15 +15,6 @@ use borrow.Author.Needs.{needs}
 use borrow.Author.Needs.{needs}
 use Rattle.search.proofs.exploration.explore.Statement.{statement}
 use Rattle.search.proofs.exploration.explore.Tie as tie
-use Rattle.search.proofs.exploration.explore.Reads as reads
-use Rattle.search.proofs.exploration.explore.Lts as lts
-use Rattle.search.proofs.automaton.clocks.Reads as clocks-reads
-use Rattle.search.proofs.automaton.start.Reads as start-reads
-use Rattle.search.proofs.exploration.offer.Reads as offer-reads
-use Rattle.search.proofs.exploration.slots_of.Reads as slots-of-reads
-use Rattle.search.proofs.exploration.take.Reads as take-reads
-use Rattle.search.proofs.successor.enter.Reads as enter-reads
-use Rattle.zones.proofs.zone.Work.first.Reads as first-reads
 
 clocks-requires : tie.Need-clocks-requires
 clocks-requires c κs = search needs

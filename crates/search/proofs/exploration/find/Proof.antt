@@ -1,20 +1,16 @@
 -- Assumes nothing.
-use Prim.Native.Nat.{ℕ, suc, _+_, _*_, _-_, _≤_, _<_}
-use mathlib.Core.Path.{_≡_, refl, sym, ap, _∙_}
+use Prim.Native.Nat.{ℕ, _*_, _-_, _≤_, _<_}
+use mathlib.Core.Path.{_≡_, sym, ap, _∙_}
 use mathlib.Core.Logic.{⊎-elim}
 use mir.Syntax.{w32}
 use mir.Val.{ofZ}
 use native.Mathlib.Omega.{arith}
-use native.Mathlib.Nat.{mul-le-mul-right, not-suc-le-zero}
-use Rattle.search.specs.Exploring.{Hits, FirstHit}
+use native.Mathlib.Nat.{not-suc-le-zero}
+use Rattle.search.specs.Exploring.{Hits}
 use Rattle.search.specs.Slots.{slotLength}
 use Rattle.search.proofs.Stores.{slot-fits, same-bits, lent-length, size-square, hit, misses-more, miss-location, miss-inside}
 use Rattle.search.proofs.exploration.find.Statement.{statement}
 use Rattle.search.proofs.exploration.find.Tie as tie
-use Rattle.search.proofs.exploration.find.Reads as reads
-use Rattle.search.proofs.exploration.find.Lts as lts
-use Rattle.search.proofs.slot.is_within.Reads as is-within-reads
-use Rattle.search.proofs.slot.slot_length.Reads as slot-length-reads
 
 abbrev Inv-loop : tie.InvT-loop
 Inv-loop store new count size amount j₀ at₀ j at = (amount ≡ slotLength size) × (j ≤ count) × (at ≡ j * slotLength size) × ((i : ℕ) → i < j → Hits size new store i → ⊥)

@@ -1,23 +1,12 @@
 -- Assumes nothing.
-use Prim.Native.Nat.{suc, _+_, _*_, _≤_, _<_}
-use mathlib.Core.Path.{_≡_, refl, sym, ap, _∙_}
+use Prim.Native.Nat.{_*_}
+use mathlib.Core.Path.{ap}
 use native.Mathlib.Omega.{arith}
-use Rattle.search.specs.Slots.{slotLength}
 use Rattle.search.proofs.Judging.{asks-encode, asks-find, slot-within, next-within, asks-decode, asks-contain, gives-inside, gives-big, gives-full, gives-kept}
 use Rattle.search.proofs.Stepping.{one-more}
 use borrow.Author.Needs.{needs}
 use Rattle.search.proofs.exploration.judge.Statement.{statement}
 use Rattle.search.proofs.exploration.judge.Tie as tie
-use Rattle.search.proofs.exploration.judge.Reads as reads
-use Rattle.search.proofs.exploration.judge.Lts as lts
-use Rattle.search.proofs.automaton.clocks.Reads as clocks-reads
-use Rattle.search.proofs.exploration.find.Reads as find-reads
-use Rattle.search.proofs.slot.decode.Reads as decode-reads
-use Rattle.search.proofs.slot.encode.Reads as encode-reads
-use Rattle.search.proofs.slot.keep.Reads as keep-reads
-use Rattle.search.proofs.slot.slot_length.Reads as slot-length-reads
-use Rattle.zones.proofs.containment.contain.Reads as contain-reads
-use Rattle.zones.proofs.containment.largest_count.Reads as largest-count-reads
 
 clocks-requires : tie.Need-clocks-requires
 clocks-requires c κs = search needs

@@ -5,10 +5,6 @@ use borrow.Author.Needs.{needs}
 use borrow.Author.Needs.{needs}
 use Rattle.search.proofs.exploration.offer.Statement.{statement}
 use Rattle.search.proofs.exploration.offer.Tie as tie
-use Rattle.search.proofs.exploration.offer.Reads as reads
-use Rattle.search.proofs.exploration.offer.Lts as lts
-use Rattle.search.proofs.automaton.target.Reads as target-reads
-use Rattle.search.proofs.exploration.judge.Reads as judge-reads
 
 returns : tie.Need-returns
 returns c = λ p. gives-empty _ _ _ _ _ (c .before .before .before .before .args .r) p (c .if1 .taken)

@@ -4,9 +4,6 @@ use Rattle.search.proofs.Stores.{capacity-most, capacity-all}
 use borrow.Author.Needs.{needs}
 use Rattle.search.proofs.exploration.slots_of.Statement.{statement}
 use Rattle.search.proofs.exploration.slots_of.Tie as tie
-use Rattle.search.proofs.exploration.slots_of.Reads as reads
-use Rattle.search.proofs.exploration.slots_of.Lts as lts
-use Rattle.search.proofs.slot.slot_length.Reads as slot-length-reads
 
 slot-length-requires : tie.Need-slot-length-requires
 slot-length-requires c κs = search needs

@@ -1,24 +1,17 @@
 -- Assumes nothing.
-use Prim.Native.Nat.{ℕ, suc, _+_, _*_, _-_, _≤_, _<_}
-use mathlib.Core.Path.{_≡_, refl, sym, ap, _∙_}
-use mathlib.Core.List.{List, []}
-use lib.IntN.{ℤ, pos}
-use lib.ListN.{length, take, drop, getD}
+use Prim.Native.Nat.{ℕ, suc, _+_, _*_, _-_}
+use mathlib.Core.Path.{_≡_, sym, ap, _∙_}
+use mathlib.Core.List.{List}
+use lib.IntN.{ℤ}
 use native.Mathlib.Omega.{arith}
-use Rattle.search.specs.Automata.{clocks, edges}
+use Rattle.search.specs.Automata.{clocks}
 use Rattle.search.specs.Exploring.{ZoneState, SoundState, Shown}
-use Rattle.search.specs.Slots.{slotLength, zoneOf}
+use Rattle.search.specs.Slots.{slotLength}
 use Rattle.search.proofs.Expanding.{shown-length}
-use Rattle.search.proofs.Taking.{reads-location, read-location, Onward, begins, ends, onward, here, few, slot-inside, location, small, asks-decode, sound-zone, opened-length, goes-on, stops}
+use Rattle.search.proofs.Taking.{reads-location, read-location, Onward, begins, ends, onward, few, slot-inside, location, asks-decode, sound-zone, opened-length, goes-on, stops}
 use borrow.Author.Needs.{needs}
 use Rattle.search.proofs.exploration.take.Statement.{statement}
 use Rattle.search.proofs.exploration.take.Tie as tie
-use Rattle.search.proofs.exploration.take.Reads as reads
-use Rattle.search.proofs.exploration.take.Lts as lts
-use Rattle.search.proofs.automaton.clocks.Reads as clocks-reads
-use Rattle.search.proofs.exploration.expand.Reads as expand-reads
-use Rattle.search.proofs.slot.decode.Reads as decode-reads
-use Rattle.search.proofs.slot.slot_length.Reads as slot-length-reads
 
 abbrev Inv-loop : tie.InvT-loop
 Inv-loop automaton store₀ slots size amount t₀ next₀ store t next =

@@ -1,22 +1,14 @@
 -- Assumes nothing.
-use Prim.Native.Nat.{suc, _+_, _*_, _≤_, _<_}
-use mathlib.Core.Path.{_≡_, refl, sym, ap, _∙_}
+use Prim.Native.Nat.{_*_}
 use native.Mathlib.Omega.{arith}
 use Rattle.zones.specs.Ranges.{counts}
 use Rattle.zones.proofs.Bounding.{sized-more}
-use Rattle.search.specs.Automata.{clocks, invariantOf, guardOf}
-use Rattle.search.proofs.Places.{invariant-within, edge-within}
-use Rattle.search.proofs.Stepping.{one-more, meets, raises, asks-limits, met-is, met-ready, raised-ready, reset-sized, entered-none, entered, followed-none, followed, invariant-scale, guard-scale, resets-are}
+use Rattle.search.specs.Automata.{clocks, invariantOf}
+use Rattle.search.proofs.Places.{invariant-within}
+use Rattle.search.proofs.Stepping.{one-more, meets, raises, asks-limits, met-is, met-ready, raised-ready, entered-none, entered, invariant-scale}
 use borrow.Author.Needs.{needs}
 use Rattle.search.proofs.successor.enter.Statement.{statement}
 use Rattle.search.proofs.successor.enter.Tie as tie
-use Rattle.search.proofs.successor.enter.Reads as reads
-use Rattle.search.proofs.successor.enter.Lts as lts
-use Rattle.search.proofs.automaton.clocks.Reads as clocks-reads
-use Rattle.search.proofs.automaton.invariant_at.Reads as invariant-at-reads
-use Rattle.search.proofs.successor.meet.Reads as meet-reads
-use Rattle.search.proofs.successor.raise.Reads as raise-reads
-use Rattle.zones.proofs.zone.Work.reduce.Reads as reduce-reads
 
 clocks-requires : tie.Need-clocks-requires
 clocks-requires c κs = search needs

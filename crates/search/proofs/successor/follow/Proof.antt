@@ -1,25 +1,15 @@
 -- Assumes nothing.
-use Prim.Native.Nat.{suc, _+_, _*_, _≤_, _<_}
-use mathlib.Core.Path.{_≡_, refl, sym, ap, _∙_}
+use Prim.Native.Nat.{_+_}
+use mathlib.Core.Path.{ap}
 use native.Mathlib.Omega.{arith}
 use Rattle.zones.specs.Ranges.{counts}
 use Rattle.zones.proofs.Bounding.{sized-more}
-use Rattle.search.specs.Automata.{clocks, invariantOf, guardOf}
+use Rattle.search.specs.Automata.{clocks, guardOf}
 use Rattle.search.proofs.Places.{edge-within}
 use Rattle.search.proofs.Stepping.{one-more, meets, asks-limits, met-is, met-ready, reset-sized, followed-none, followed, guard-scale, resets-are, enters-at}
 use borrow.Author.Needs.{needs}
 use Rattle.search.proofs.successor.follow.Statement.{statement}
 use Rattle.search.proofs.successor.follow.Tie as tie
-use Rattle.search.proofs.successor.follow.Reads as reads
-use Rattle.search.proofs.successor.follow.Lts as lts
-use Rattle.search.proofs.automaton.clocks.Reads as clocks-reads
-use Rattle.search.proofs.automaton.edge_at.Reads as edge-at-reads
-use Rattle.search.proofs.automaton.edge_resets.Reads as edge-resets-reads
-use Rattle.search.proofs.automaton.edge_to.Reads as edge-to-reads
-use Rattle.search.proofs.successor.enter.Reads as enter-reads
-use Rattle.search.proofs.successor.meet.Reads as meet-reads
-use Rattle.zones.proofs.zone.Work.reduce.Reads as reduce-reads
-use Rattle.zones.proofs.zone.Work.reset.Reads as reset-reads
 
 clocks-requires : tie.Need-clocks-requires
 clocks-requires c κs = search needs
@@ -61,11 +51,11 @@ returns c =
     let n = c .before .before .before .before .clocks .ensures in
     followed-none _ (a .complete .clocks≤) _ (one-more n) _ _ _ (met-is _ (a .complete .clocks≤) _ (one-more n) _ (meets _ _ (ap (λ x. x + 3) (c .before .before .before .edge-at .ensures)) n (c .before .before .meet .ensures)) (c .before .reduce .ensures)) (c .if1 .taken)
 
-edge-resets-requires : tie.Need-edge-resets-requires
-edge-resets-requires c κs = search needs
+resets-of-requires : tie.Need-resets-of-requires
+resets-of-requires c κs = search needs
 
-edge-to-requires : tie.Need-edge-to-requires
-edge-to-requires c κs = search needs
+destination-of-requires : tie.Need-destination-of-requires
+destination-of-requires c κs = search needs
 
 add-reset : tie.Need-add-reset
 add-reset c = search needs
@@ -80,7 +70,7 @@ enter-requires c κs =
     let a = start .pre .0 .0 in
     let hi = start .pre .0 .1 in
     let n = c .before .before .before .before .before .before .before .before .clocks .ensures in (
-      (a, rw (c .before .edge-to .ensures) (a .to< _ hi)),
+      (a, rw (c .before .destination-of .ensures) (a .to< _ hi)),
       reset-sized _ (a .complete .clocks≤) _ (one-more n) counts (omega arith) (omega arith) _ (guard-scale _ a _ hi) (start .pre .1) (met-is _ (a .complete .clocks≤) _ (one-more n) _ (meets _ _ (ap (λ x. x + 3) (c .before .before .before .before .before .before .before .edge-at .ensures)) n (c .before .before .before .before .before .before .meet .ensures)) (c .before .before .before .before .before .reduce .ensures)) (c .before .before .before .before .if1 .left) _ (c .reset .ensures),
     )
 
@@ -90,8 +80,8 @@ returns-2 c =
     let start = c .before .before .before .before .before .before .before .before .before .before .before in
     let a = start .pre .0 .0 in
     let n = c .before .before .before .before .before .before .before .before .before .clocks .ensures in
-    followed _ (a .complete .clocks≤) _ (one-more n) _ _ _ (met-is _ (a .complete .clocks≤) _ (one-more n) _ (meets _ _ (ap (λ x. x + 3) (c .before .before .before .before .before .before .before .before .edge-at .ensures)) n (c .before .before .before .before .before .before .before .meet .ensures)) (c .before .before .before .before .before .before .reduce .ensures)) (c .before .before .before .before .before .if1 .left) (resets-are _ a _ (start .pre .0 .1) (c .before .before .before .edge-resets .ensures)) (c .before .reset .ensures)
-    (enters-at (start .args .automaton .now) (c .before .reset .result) (c .before .before .edge-to .ensures) (c .enter .ensures))
+    followed _ (a .complete .clocks≤) _ (one-more n) _ _ _ (met-is _ (a .complete .clocks≤) _ (one-more n) _ (meets _ _ (ap (λ x. x + 3) (c .before .before .before .before .before .before .before .before .edge-at .ensures)) n (c .before .before .before .before .before .before .before .meet .ensures)) (c .before .before .before .before .before .before .reduce .ensures)) (c .before .before .before .before .before .if1 .left) (resets-are _ a _ (start .pre .0 .1) (c .before .before .before .resets-of .ensures)) (c .before .reset .ensures)
+    (enters-at (start .args .automaton .now) (c .before .reset .result) (c .before .before .destination-of .ensures) (c .enter .ensures))
 
 pub follow-spec : {M : Type 1} → statement M
 follow-spec =
@@ -104,8 +94,8 @@ follow-spec =
     add-reduce
     reduce-requires
     returns
-    edge-resets-requires
-    edge-to-requires
+    resets-of-requires
+    destination-of-requires
     add-reset
     reset-requires
     enter-requires

@@ -1,20 +1,14 @@
 -- Assumes nothing.
-use Prim.Native.Nat.{_+_, _*_, _-_, _≤_, _<_}
-use mathlib.Core.Path.{_≡_, refl, sym, ap, _∙_}
+use Prim.Native.Nat.{_+_, _-_, _≤_, _<_}
+use mathlib.Core.Path.{_≡_, refl, ap}
 use native.Mathlib.Omega.{arith}
 use lib.Dec.{eqb}
-use Rattle.zones.specs.declared.zone.Work.{Work}
 use Rattle.zones.specs.Zones.{meetLimits}
 use Rattle.zones.proofs.Limits.{limits-all}
 use Rattle.search.specs.Automata.{limitsAt, noUpper}
 use Rattle.search.proofs.Stepping.{turn-ready, turn-met}
 use Rattle.search.proofs.successor.meet.Statement.{statement}
 use Rattle.search.proofs.successor.meet.Tie as tie
-use Rattle.search.proofs.successor.meet.Reads as reads
-use Rattle.search.proofs.successor.meet.Lts as lts
-use Rattle.search.proofs.automaton.hi_at.Reads as hi-at-reads
-use Rattle.search.proofs.automaton.lo_at.Reads as lo-at-reads
-use Rattle.zones.proofs.zone.Bounds.meet.Reads as meet-reads
 
 abbrev Inv-loop : tie.InvT-loop
 Inv-loop automaton at n z₀ f₀ x₀ z f x = (0 < x) × (x ≤ n + 1) × (record { zone = z; fraction = f } ≡ meetLimits (limitsAt automaton at) (x - 1) (record { zone = z₀; fraction = f₀ }))

@@ -1,18 +1,13 @@
 -- Assumes nothing.
-use Prim.Native.Nat.{_+_, _*_, _-_, _≤_, _<_}
-use mathlib.Core.Path.{_≡_, refl, sym, ap, _∙_}
+use Prim.Native.Nat.{_+_, _-_, _≤_, _<_}
+use mathlib.Core.Path.{_≡_, refl, ap, _∙_}
 use native.Mathlib.Omega.{arith}
-use Rattle.zones.specs.declared.zone.Work.{Work}
 use Rattle.zones.specs.Pairs.{atMost}
 use Rattle.zones.specs.Zones.{raiseLimits}
 use Rattle.zones.proofs.Limits.{raise-more, raise-all}
 use Rattle.search.specs.Automata.{limitsAt}
 use Rattle.search.proofs.successor.raise.Statement.{statement}
 use Rattle.search.proofs.successor.raise.Tie as tie
-use Rattle.search.proofs.successor.raise.Reads as reads
-use Rattle.search.proofs.successor.raise.Lts as lts
-use Rattle.search.proofs.automaton.hi_at.Reads as hi-at-reads
-use Rattle.zones.proofs.pair.Pair.at_most.Reads as at-most-reads
 
 abbrev Inv-loop : tie.InvT-loop
 Inv-loop automaton at n fraction z₀ x₀ z x = (0 < x) × (x ≤ n + 1) × (z ≡ raiseLimits (limitsAt automaton at) (x - 1) (record { zone = z₀; fraction = fraction }) .zone)

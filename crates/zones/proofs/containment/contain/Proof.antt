@@ -4,10 +4,6 @@ use Rattle.zones.proofs.Inside.{contain-yes, contain-no}
 use borrow.Author.Needs.{needs}
 use Rattle.zones.proofs.containment.contain.Statement.{statement}
 use Rattle.zones.proofs.containment.contain.Tie as tie
-use Rattle.zones.proofs.containment.contain.Reads as reads
-use Rattle.zones.proofs.containment.contain.Lts as lts
-use Rattle.zones.proofs.containment.is_within.Reads as is-within-reads
-use Rattle.zones.proofs.containment.lowered_within.Reads as lowered-within-reads
 
 is-within-requires : tie.Need-is-within-requires
 is-within-requires c κs = search needs

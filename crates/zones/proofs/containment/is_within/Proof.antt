@@ -1,14 +1,11 @@
 -- Assumes nothing.
-use Prim.Native.Nat.{_+_, _*_, _-_, _%_, _≤_, _<_}
-use mathlib.Core.Path.{_≡_, refl, sym, ap, _∙_}
+use Prim.Native.Nat.{_*_, _≤_}
+use mathlib.Core.Path.{_≡_, refl, sym, _∙_}
 use native.Mathlib.Omega.{arith}
 use Rattle.zones.specs.Containment.{withinTo, within}
 use Rattle.zones.proofs.Inside.{within-fails, within-goes, within-skips, within-ends}
 use Rattle.zones.proofs.containment.is_within.Statement.{statement}
 use Rattle.zones.proofs.containment.is_within.Tie as tie
-use Rattle.zones.proofs.containment.is_within.Reads as reads
-use Rattle.zones.proofs.containment.is_within.Lts as lts
-use Rattle.zones.proofs.pair.Pair.is_less.Reads as is-less-reads
 
 abbrev Inv-loop : tie.InvT-loop
 Inv-loop size z y at₀ at = (at ≤ size * 9) × (within size z y ≡ withinTo size at z y)

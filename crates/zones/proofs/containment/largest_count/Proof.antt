@@ -1,14 +1,12 @@
 -- Assumes nothing.
-use Prim.Native.Nat.{_+_, _*_, _-_, _%_, _≤_, _<_}
-use mathlib.Core.Path.{_≡_, refl, sym, ap, _∙_}
+use Prim.Native.Nat.{_*_, _-_, _≤_}
+use mathlib.Core.Path.{_≡_, refl, ap, _∙_}
 use mathlib.Core.Logic.{⊎-elim}
 use native.Mathlib.Omega.{arith}
-use Rattle.zones.specs.Containment.{countTo, largestCount}
+use Rattle.zones.specs.Containment.{countTo}
 use Rattle.zones.proofs.Inside.{count-larger, count-stays, count-skips}
 use Rattle.zones.proofs.containment.largest_count.Statement.{statement}
 use Rattle.zones.proofs.containment.largest_count.Tie as tie
-use Rattle.zones.proofs.containment.largest_count.Reads as reads
-use Rattle.zones.proofs.containment.largest_count.Lts as lts
 
 abbrev Inv-loop : tie.InvT-loop
 Inv-loop size z most₀ last at₀ most at = (last ≡ size * 9) × (at ≤ last) × (most ≡ countTo size at z)

@@ -1,17 +1,13 @@
 -- Assumes nothing.
-use Prim.Native.Nat.{_+_, _*_, _-_, _%_, _≤_, _<_}
-use mathlib.Core.Path.{_≡_, refl, sym, ap, _∙_}
+use Prim.Native.Nat.{_*_, _-_, _≤_}
+use mathlib.Core.Path.{_≡_, refl, ap, _∙_}
 use mathlib.Core.Logic.{⊎-elim}
 use native.Mathlib.Omega.{arith}
-use Rattle.zones.specs.Containment.{loweredTo, loweredWithin}
+use Rattle.zones.specs.Containment.{loweredTo}
 use Rattle.zones.proofs.Inside.{lowered-counts, lowered-skips, turn-new, turn-old, turn-least, turn-threshold, lowered-fits}
 use Rattle.zones.proofs.Ranges.{bounded-small}
 use Rattle.zones.proofs.containment.lowered_within.Statement.{statement}
 use Rattle.zones.proofs.containment.lowered_within.Tie as tie
-use Rattle.zones.proofs.containment.lowered_within.Reads as reads
-use Rattle.zones.proofs.containment.lowered_within.Lts as lts
-use Rattle.zones.proofs.fraction.Fraction.lowered.Reads as lowered-reads
-use Rattle.zones.proofs.pair.Pair.threshold.Reads as threshold-reads
 
 abbrev Inv-loop : tie.InvT-loop
 Inv-loop size z y f₀ last at₀ f at = (last ≡ size * 9) × (at ≤ last) × (f ≡ loweredTo size at z y f₀)
@@ -48,8 +44,8 @@ threshold-requires c κs =
       turn-least _ _ _ _ (start .pre .0) (start .pre .1) k (omega arith) col,
     )
 
-lowered-requires : tie.Need-lowered-requires Inv-loop μ-loop
-lowered-requires c κs =
+lowered-in-place-requires : tie.Need-lowered-in-place-requires Inv-loop μ-loop
+lowered-in-place-requires c κs =
     let loop = c .before .before .before .before .before in
     let start = loop .before in
     let k = loop .loop .at in (
@@ -90,7 +86,7 @@ lowered-within-spec =
     mul-old
     array-copy-out-old
     threshold-requires
-    lowered-requires
+    lowered-in-place-requires
     add-at
     loop-less
     loop-again

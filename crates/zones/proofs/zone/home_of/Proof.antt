@@ -5,8 +5,6 @@ use Rattle.zones.proofs.Places.{home-stays, home-goes}
 use borrow.Author.Needs.{needs}
 use Rattle.zones.proofs.zone.home_of.Statement.{statement}
 use Rattle.zones.proofs.zone.home_of.Tie as tie
-use Rattle.zones.proofs.zone.home_of.Reads as reads
-use Rattle.zones.proofs.zone.home_of.Lts as lts
 
 array-read-if1 : tie.Need-array-read-if1
 array-read-if1 c = search needs

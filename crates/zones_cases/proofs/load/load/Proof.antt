@@ -1,6 +1,5 @@
 -- Assumes nothing.
 use Prim.Native.Nat.{_-_, _≤_}
-use mathlib.Core.Path.{_≡_}
 use native.Mathlib.Omega.{arith}
 use Rattle.zones.specs.Ranges.{Fits32}
 use Rattle.zones_cases.proofs.Readying.{Filled, filled-none, filled-next, filled-all}

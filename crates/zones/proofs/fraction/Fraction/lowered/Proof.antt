@@ -4,8 +4,6 @@ use Rattle.zones.specs.Integers.{product-below}
 use Rattle.zones.proofs.Choices.{lowered-new, lowered-old, lowered-none}
 use Rattle.zones.proofs.fraction.Fraction.lowered.Statement.{statement}
 use Rattle.zones.proofs.fraction.Fraction.lowered.Tie as tie
-use Rattle.zones.proofs.fraction.Fraction.lowered.Reads as reads
-use Rattle.zones.proofs.fraction.Fraction.lowered.Lts as lts
 
 returns : tie.Need-returns
 returns c = lowered-none _ _ (c .if1 .taken)

@@ -1,7 +1,7 @@
 -- Assumes nothing.
 use borrow.Author.Needs.{needs}
 use lib.IntN.{pos, negℤ, _-ℤ_, +ℤ-idl}
-use mathlib.Core.Path.{_≡_, _∙_}
+use mathlib.Core.Path.{_∙_}
 use mir.Syntax.{w64}
 use mir.Val.{SFits}
 use mir.Facts.{toZ-ofZ, toZ-pos}
@@ -10,8 +10,6 @@ use Rattle.zones.specs.Integers.{abs-fits, abs-minus}
 use Rattle.zones.proofs.Choices.{pair-is}
 use Rattle.zones.proofs.pair.Pair.at_least.Statement.{statement}
 use Rattle.zones.proofs.pair.Pair.at_least.Tie as tie
-use Rattle.zones.proofs.pair.Pair.at_least.Reads as reads
-use Rattle.zones.proofs.pair.Pair.at_least.Lts as lts
 
 cast-m : tie.Need-cast-m
 cast-m c = search needs

@@ -6,8 +6,6 @@ use native.Mathlib.Omega.{arith}
 use Rattle.zones.proofs.Choices.{pair-is}
 use Rattle.zones.proofs.pair.Pair.at_most.Statement.{statement}
 use Rattle.zones.proofs.pair.Pair.at_most.Tie as tie
-use Rattle.zones.proofs.pair.Pair.at_most.Reads as reads
-use Rattle.zones.proofs.pair.Pair.at_most.Lts as lts
 
 cast-t2 : tie.Need-cast-t2
 cast-t2 c = search needs

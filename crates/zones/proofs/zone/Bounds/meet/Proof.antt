@@ -7,10 +7,6 @@ use Rattle.zones.proofs.Ranges.{upper-ready}
 use borrow.Author.Needs.{needs}
 use Rattle.zones.proofs.zone.Bounds.meet.Statement.{statement}
 use Rattle.zones.proofs.zone.Bounds.meet.Tie as tie
-use Rattle.zones.proofs.zone.Bounds.meet.Reads as reads
-use Rattle.zones.proofs.zone.Bounds.meet.Lts as lts
-use Rattle.zones.proofs.zone.Bounds.meet_lower.Reads as meet-lower-reads
-use Rattle.zones.proofs.zone.Bounds.meet_upper.Reads as meet-upper-reads
 
 meet-lower-requires : tie.Need-meet-lower-requires
 meet-lower-requires c κs = search needs

@@ -1,16 +1,10 @@
 -- Assumes nothing.
-use mathlib.Core.Path.{refl}
 use Rattle.zones.specs.Ranges.{scale, stepCounts, widest}
 use Rattle.zones.proofs.Limits.{lower-met}
 use Rattle.zones.proofs.Ranges.{step-small, both-narrow, here, least-bounded}
 use borrow.Author.Needs.{needs}
 use Rattle.zones.proofs.zone.Bounds.meet_lower.Statement.{statement}
 use Rattle.zones.proofs.zone.Bounds.meet_lower.Tie as tie
-use Rattle.zones.proofs.zone.Bounds.meet_lower.Reads as reads
-use Rattle.zones.proofs.zone.Bounds.meet_lower.Lts as lts
-use Rattle.zones.proofs.fraction.Fraction.lowered.Reads as lowered-reads
-use Rattle.zones.proofs.pair.Pair.at_least.Reads as at-least-reads
-use Rattle.zones.proofs.pair.Pair.smaller.Reads as smaller-reads
 
 at-least-requires : tie.Need-at-least-requires
 at-least-requires c κs = search needs

@@ -6,11 +6,6 @@ use Rattle.zones.proofs.Ranges.{step-small, both-narrow, here, most-bou
 use borrow.Author.Needs.{needs}
 use Rattle.zones.proofs.zone.Bounds.meet_upper.Statement.{statement}
 use Rattle.zones.proofs.zone.Bounds.meet_upper.Tie as tie
-use Rattle.zones.proofs.zone.Bounds.meet_upper.Reads as reads
-use Rattle.zones.proofs.zone.Bounds.meet_upper.Lts as lts
-use Rattle.zones.proofs.fraction.Fraction.lowered.Reads as lowered-reads
-use Rattle.zones.proofs.pair.Pair.at_most.Reads as at-most-reads
-use Rattle.zones.proofs.pair.Pair.smaller.Reads as smaller-reads
 
 at-most-requires : tie.Need-at-most-requires
 at-most-requires c κs = search needs

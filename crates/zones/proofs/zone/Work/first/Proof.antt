@@ -3,8 +3,6 @@ use mathlib.Core.Path.{refl}
 use Rattle.zones.specs.Zones.{firstWork}
 use Rattle.zones.proofs.zone.Work.first.Statement.{statement}
 use Rattle.zones.proofs.zone.Work.first.Tie as tie
-use Rattle.zones.proofs.zone.Work.first.Reads as reads
-use Rattle.zones.proofs.zone.Work.first.Lts as lts
 
 returns : tie.Need-returns
 unfolding firstWork

@@ -1,5 +1,5 @@
 use Prim.Native.Nat.{_≤_, _-_}
-use mathlib.Core.Path.{_≡_, refl, sym, ap, _∙_}
+use mathlib.Core.Path.{_≡_, refl, sym, _∙_}
 use native.Mathlib.Omega.{arith}
 use borrow.Author.Needs.{needs}
 use mir.Syntax.{w64}
@@ -10,8 +10,6 @@ use Rattle.zones.specs.Reductions.{emptyIn}
 use Rattle.zones.proofs.Progress.{empty-yes, empty-no, empty-zeroPair}
 use Rattle.zones.proofs.zone.Work.is_empty.Statement.{statement}
 use Rattle.zones.proofs.zone.Work.is_empty.Tie as tie
-use Rattle.zones.proofs.zone.Work.is_empty.Reads as reads
-use Rattle.zones.proofs.zone.Work.is_empty.Lts as lts
 
 abbrev Inv-loop : tie.InvT-loop
 Inv-loop size self i₀ i = (i ≤ size) × (emptyIn size self ≡ emptyIn i self)

@@ -1,7 +1,7 @@
 -- Assumes nothing.
-use Prim.Native.Nat.{_≤_, _-_, _+_}
-use mathlib.Core.Path.{_≡_, refl, sym, ap, _∙_}
-use mathlib.Core.Bool.{true, false}
+use Prim.Native.Nat.{_≤_, _-_}
+use mathlib.Core.Path.{_≡_, refl, sym, _∙_}
+use mathlib.Core.Bool.{false}
 use native.Mathlib.Omega.{arith}
 use lib.ListN.{length, length-map}
 use Rattle.zones.specs.Reductions.{reduceSteps}
@@ -9,10 +9,6 @@ use Rattle.zones.proofs.Ranges.{round-ready}
 use Rattle.zones.proofs.Progress.{reduced-next, reduced-stop, reduced-end}
 use Rattle.zones.proofs.zone.Work.reduce.Statement.{statement}
 use Rattle.zones.proofs.zone.Work.reduce.Tie as tie
-use Rattle.zones.proofs.zone.Work.reduce.Reads as reads
-use Rattle.zones.proofs.zone.Work.reduce.Lts as lts
-use Rattle.zones.proofs.zone.Work.is_empty.Reads as is-empty-reads
-use Rattle.zones.proofs.zone.Work.round.Reads as round-reads
 
 abbrev Inv-loop : tie.InvT-loop
 Inv-loop n w₀ k₀ w k = (k ≤ n) × (reduceSteps n k w₀ ≡ record { work = w; empty = false })

@@ -1,14 +1,11 @@
 -- Assumes nothing.
-use Prim.Native.Nat.{_+_, _*_, _-_, _≤_, _<_}
+use Prim.Native.Nat.{_*_, _-_, _≤_}
 use mathlib.Core.Path.{_≡_, refl}
 use native.Mathlib.Omega.{arith}
 use Rattle.zones.specs.Zones.{setOf, resetPlaces}
 use Rattle.zones.proofs.Places.{reset-next, reset-all}
 use Rattle.zones.proofs.zone.Work.reset.Statement.{statement}
 use Rattle.zones.proofs.zone.Work.reset.Tie as tie
-use Rattle.zones.proofs.zone.Work.reset.Reads as reads
-use Rattle.zones.proofs.zone.Work.reset.Lts as lts
-use Rattle.zones.proofs.zone.home_of.Reads as home-of-reads
 
 abbrev Inv-loop : tie.InvT-loop
 Inv-loop size marked old fraction z₀ last at₀ z at = (last ≡ size * 9) × (at ≤ last) × (z ≡ resetPlaces (setOf marked) old at old)

@@ -1,12 +1,10 @@
 -- The loops' invariants: what is done is the definition's rows, and of this row its columns. Assumes nothing.
-use Prim.Native.Nat.{_+_, _*_, _-_, _≤_, _<_}
-use mathlib.Core.Path.{_≡_, refl, sym, ap, _∙_}
-use native.Mathlib.Numerals.{add-one}
+use Prim.Native.Nat.{_-_, _≤_}
+use mathlib.Core.Path.{_≡_, refl, ap, _∙_}
 use native.Mathlib.Omega.{arith}
 use lib.ListN.{length, length-map}
-use borrow.Author.Needs.{needs}
 use Rattle.zones.specs.declared.zone.Work.{Work}
-use Rattle.zones.specs.Zones.{entry, pairAt}
+use Rattle.zones.specs.Zones.{pairAt}
 use Rattle.zones.specs.Reductions.{relaxed, rowSteps, roundSteps}
 use Rattle.zones.proofs.Ranges.{TurnReady, turn-ready, turn-narrow, spread-small, sum-small}
 use Rattle.zones.proofs.Rounds.{relaxed-is, row-next, row-all, round-all}
