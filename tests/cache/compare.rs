@@ -13,6 +13,8 @@ mod drawn;
 mod grown;
 #[path = "../library.rs"]
 mod library;
+#[path = "../long.rs"]
+mod long;
 mod oracle;
 mod order;
 mod random;
@@ -28,7 +30,7 @@ use tally::Tally;
 
 fn main() -> ExitCode {
     let mut tally = Tally::default();
-    let parts: [fn(&mut Tally); 15] = [
+    let parts: [fn(&mut Tally); 11] = [
         order::layout,
         order::empty,
         order::room,
@@ -37,16 +39,19 @@ fn main() -> ExitCode {
         unsound::singly,
         unsound::cut,
         unsound::every_byte,
-        random::damage,
-        random::noise,
-        grown::large,
-        grown::narrow,
         grown::shared_beginnings,
         grown::past_three_bytes,
         grown::piled_up,
     ];
     for part in parts {
         part(&mut tally);
+    }
+    let random: [fn(&mut Tally, u64); 4] =
+        [random::damage, random::noise, grown::large, grown::narrow];
+    for round in long::rounds() {
+        for part in random {
+            part(&mut tally, round);
+        }
     }
     tally.sum_up()
 }

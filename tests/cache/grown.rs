@@ -67,13 +67,13 @@ impl Grown {
 const STORES: [usize; 9] = [0, 0, 8, 9, 40, 163, 800, 3_000, 6_000];
 
 /// A cache with room for all, with automata of every kind, each consulted several times.
-pub fn large(tally: &mut Tally) {
-    let mut dice = Dice::new(11);
+pub fn large(tally: &mut Tally, round: u64) {
+    let mut dice = Dice::new(11 + 1_000 * round);
     let automata = automata::accepted(&mut dice, 130);
     let refused = automata::refused();
     let mut grown = Grown::empty(tally, &mut dice, "a large cache", 120_000);
     for turn in 0..700 {
-        let what = format!("a large cache, turn {}", turn);
+        let what = format!("a large cache, round {}, turn {}", round, turn);
         let automaton = if dice.chance(10) {
             &dice.one(&refused).1
         } else {
@@ -122,8 +122,8 @@ fn every_store(tally: &mut Tally, dice: &mut Dice, grown: &Grown) {
 }
 
 /// Caches that become full, so that 12 comes between answers.
-pub fn narrow(tally: &mut Tally) {
-    for seed in 100..140 {
+pub fn narrow(tally: &mut Tally, round: u64) {
+    for seed in (100..140).map(|seed| seed + 1_000 * round) {
         let mut dice = Dice::new(seed);
         let mut automata = automata::accepted(&mut dice, 20);
         automata.retain(|automaton| automaton.len() < 500);

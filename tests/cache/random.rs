@@ -45,7 +45,8 @@ fn spoil_records(dice: &mut Dice, cache: &mut Cache) {
         1 => cache.records[k].verdict = verdict(dice, false),
         2 => cache.records.insert(other, cache.records[k].clone()),
         3 => cache.records[k].automaton = dice.one(&automata::refused()).1.clone(),
-        4 => {
+        // An earlier damage may have left no bytes.
+        4 if !automaton.is_empty() => {
             let at = dice.below(automaton.len());
             automaton[at] = dice.pick(&[0, 1, 2, 3, 9, 255]);
         }
@@ -108,11 +109,11 @@ fn asked(dice: &mut Dice, automata: &[Vec<u8>], cache: &[u8]) -> Vec<u8> {
     dice.one(&automata::refused()).1.clone()
 }
 
-pub fn damage(tally: &mut Tally) {
-    let mut dice = Dice::new(71);
+pub fn damage(tally: &mut Tally, round: u64) {
+    let mut dice = Dice::new(71 + 1_000 * round);
     let automata = automata::small(&mut dice, 40);
     for turn in 0..TURNS {
-        let what = format!("random damage, turn {}", turn);
+        let what = format!("random damage, round {}, turn {}", round, turn);
         let cache = damaged(&mut dice, &automata);
         let automaton = asked(&mut dice, &automata, &cache);
         let store = dice.pick(&[0, 8, 9, 20, 100, 400]);
@@ -124,11 +125,11 @@ pub fn damage(tally: &mut Tally) {
 }
 
 /// Nothing but random bytes, the first of them often as a header has them.
-pub fn noise(tally: &mut Tally) {
-    let mut dice = Dice::new(81);
+pub fn noise(tally: &mut Tally, round: u64) {
+    let mut dice = Dice::new(81 + 1_000 * round);
     let automata = automata::small(&mut dice, 10);
     for turn in 0..TURNS / 3 {
-        let what = format!("random bytes, turn {}", turn);
+        let what = format!("random bytes, round {}, turn {}", round, turn);
         let length = dice.range(0, 80) as usize;
         let mut cache = random_bytes(&mut dice, length);
         if length >= 5 && dice.chance(80) {

@@ -6,6 +6,8 @@ mod checks;
 #[path = "../draft.rs"]
 mod draft;
 mod drawn;
+#[path = "../long.rs"]
+mod long;
 mod oracle;
 mod spoilt;
 mod table;
@@ -177,8 +179,8 @@ fn kind(outcome: Outcome) -> String {
     }
 }
 
-fn random_automata() -> Vec<Vec<u8>> {
-    let mut dice = Dice::new(1);
+fn random_automata(round: u64) -> Vec<Vec<u8>> {
+    let mut dice = Dice::new(1 + 1_000 * round);
     let mut automata = long_inputs();
     automata.extend((0..SOUND).map(|turn| sound(&mut dice, turn).bytes()));
     automata.extend((0..SHORTCUTS).map(|_| drawn::shortcut(&mut dice).bytes()));
@@ -190,7 +192,7 @@ fn random_automata() -> Vec<Vec<u8>> {
 }
 
 fn comparison(checks: &mut Checks, program: &Path) {
-    let automata = random_automata();
+    let automata: Vec<Vec<u8>> = long::rounds().flat_map(random_automata).collect();
     let mut seen: BTreeMap<String, usize> = BTreeMap::new();
     for automaton in &automata {
         let expected = oracle_says(automaton);

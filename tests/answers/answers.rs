@@ -1,0 +1,51 @@
+//! Holds the proved search to a second one: every answer and every number of the store, for damaged
+//! automata, limits at the ends of their range, and stores of all sizes. Its last line is
+//! 'N passed, M failed'.
+
+mod borders;
+#[path = "../checks.rs"]
+mod checks;
+#[path = "../draft.rs"]
+mod draft;
+#[path = "../search/drawn.rs"]
+mod drawn;
+mod faults;
+#[path = "../library.rs"]
+mod library;
+#[path = "../long.rs"]
+mod long;
+#[path = "../search/oracle.rs"]
+mod oracle;
+mod sizes;
+mod tally;
+
+use std::process::ExitCode;
+use tally::Tally;
+
+/// What must be met; not 9, which takes too long to be met often.
+fn labels() -> Vec<String> {
+    let limits = sizes::KINDS.map(|(label, _)| label);
+    let verdicts = ["reached", "holds n/d", "holds any", tally::LARGE];
+    let mut labels: Vec<String> = limits.map(String::from).to_vec();
+    labels.extend(verdicts.map(String::from));
+    labels.extend([1, 2, 3, 4, 5, 6, 7, 8, 10].map(|number| format!("refused {number}")));
+    labels.extend((1..=8).map(|clocks| format!("{clocks} clocks")));
+    labels
+}
+
+fn main() -> ExitCode {
+    let mut tally = Tally::default();
+    let parts: [fn(&mut Tally, u64); 4] = [
+        faults::pairs,
+        faults::subsets,
+        faults::random_bytes,
+        sizes::every_store,
+    ];
+    for round in long::rounds() {
+        for part in parts {
+            part(&mut tally, round);
+        }
+    }
+    sizes::piled_up(&mut tally);
+    tally.sum_up(labels())
+}

@@ -1,0 +1,108 @@
+//! One search by the library and by the second search, what failed, and which answers were met.
+
+use crate::checks::Checks;
+use crate::drawn::Dice;
+use crate::library::{self, robustness_refusal, Verdict};
+use crate::oracle::{self, Outcome};
+use std::collections::BTreeMap;
+use std::process::ExitCode;
+
+/// A comparison in which an answer hardly occurs would say little about it.
+const LEAST: usize = 100;
+/// Numbers past the lent ones, to see that they stand.
+const PAST: usize = 8;
+pub const LARGE: &str = "n from 900,000 on";
+
+pub type Answer = Result<Verdict, u32>;
+
+/// What the second search leaves, and what it was lent and the numbers past that were before.
+pub struct Left {
+    pub answer: Answer,
+    pub before: Vec<i32>,
+    pub store: Vec<i32>,
+}
+
+#[derive(Default)]
+pub struct Tally {
+    checks: Checks,
+    met: BTreeMap<String, usize>,
+}
+
+fn answer(outcome: Outcome) -> Answer {
+    match outcome {
+        Outcome::Reached { zones } => Ok([0, 0, 0, zones as u64]),
+        Outcome::Holds { n, d, zones } => Ok([1, n as u64, d as u64, zones as u64]),
+        Outcome::HoldsAny { zones } => Ok([1, 1, 0, zones as u64]),
+        Outcome::Refused(number) => Err(u32::from(number)),
+    }
+}
+
+fn kind(answer: Answer) -> String {
+    match answer {
+        Ok([0, ..]) => "reached".into(),
+        Ok([_, _, 0, _]) => "holds any".into(),
+        Ok(_) => "holds n/d".into(),
+        Err(number) => format!("refused {number}"),
+    }
+}
+
+impl Tally {
+    pub fn check(&mut self, ok: bool, otherwise: impl Fn() -> String) {
+        self.checks.check(ok, otherwise);
+    }
+
+    pub fn meet(&mut self, label: String) {
+        *self.met.entry(label).or_default() += 1;
+    }
+
+    /// Lends both searches an equal store of random numbers and compares their answers and all that
+    /// they leave. Gives back the second search's side, so that what follows does not build on a
+    /// failure.
+    pub fn search(&mut self, dice: &mut Dice, what: &str, automaton: &[u8], lent: usize) -> Left {
+        let number = |_| dice.range(1, u32::MAX) as i32;
+        let before: Vec<i32> = (0..lent + PAST).map(number).collect();
+        let (mut ours, mut store) = (before.clone(), before.clone());
+        let got = library::search(automaton, &mut ours[..lent]);
+        let answer = answer(oracle::search(automaton, &mut store[..lent]));
+        let differs = (0..ours.len()).find(|&i| ours[i] != store[i]);
+        self.check(got == answer && differs.is_none(), || {
+            format!(
+                "{what}: {got:?}, not {answer:?}, the store of {lent} differs at {differs:?}\n  \
+                 automaton {automaton:02x?}"
+            )
+        });
+        self.meet(kind(answer));
+        if answer.is_ok_and(|[_, n, _, _]| n >= 900_000) {
+            self.meet(LARGE.into());
+        }
+        Left {
+            answer,
+            before,
+            store,
+        }
+    }
+
+    /// The same, by both functions that tell refusals, where the test knows the number: 1 to 8, or 0
+    /// for none.
+    pub fn refuse(&mut self, dice: &mut Dice, what: &str, automaton: &[u8], number: u32) {
+        let left = self.search(dice, what, automaton, 20);
+        let refusal = unsafe { robustness_refusal(automaton.as_ptr(), automaton.len()) };
+        let refused = number == 0 || left.answer == Err(number) && left.store == left.before;
+        self.check(refused && refusal == number, || {
+            format!(
+                "{what}: {:?} and {refusal}, not {number}\n  automaton {automaton:02x?}",
+                left.answer
+            )
+        });
+    }
+
+    /// Asks that all of the labels were met.
+    pub fn sum_up(mut self, labels: Vec<String>) -> ExitCode {
+        println!("{:?}", self.met);
+        for label in labels {
+            let times = self.met.get(&label).copied().unwrap_or(0);
+            self.check(times >= LEAST, || format!("only {times} times {label}"));
+        }
+        self.checks.sum_up()
+    }
+}

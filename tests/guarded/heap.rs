@@ -1,0 +1,72 @@
+//! The calls that valgrind watches. Each slice is a block of the heap with nothing behind it, and
+//! what the library must not depend on is left uninitialised: the store, the numbers of the reply
+//! and the free bytes of a cache.
+
+use crate::calls::{self, Call, Lent};
+use crate::checks::Checks;
+use crate::memory::Places;
+
+/// A block as long as a slice, of which only the beginning is initialised.
+struct Block<T> {
+    numbers: Vec<T>,
+    known: usize,
+}
+
+impl<T: Copy + PartialEq> Block<T> {
+    fn new(slice: &[T], known: usize) -> Block<T> {
+        let mut numbers = Vec::with_capacity(slice.len());
+        numbers.extend(&slice[..known]);
+        Block { numbers, known }
+    }
+
+    fn start(&mut self) -> *mut T {
+        self.numbers.as_mut_ptr()
+    }
+
+    /// Whether it is as a call on the same contents left them, where it is known or was changed.
+    fn agrees(&self, before: &[T], after: &[T]) -> bool {
+        let start = self.numbers.as_ptr();
+        let written = |i: &usize| *i < self.known || before[*i] != after[*i];
+        let mut places = (0..before.len()).filter(written);
+        places.all(|i| unsafe { *start.wrapping_add(i) == after[i] })
+    }
+}
+
+/// The bytes of a cache that a call may depend on: none to make it empty, else the used part.
+fn known(call: Call, cache: &[u8]) -> usize {
+    match cache.get(..4) {
+        _ if call == Call::MakeEmpty => 0,
+        None => cache.len(),
+        Some(bytes) => {
+            let used = u32::from_be_bytes([0, 1, 2, 3].map(|i| bytes[i]));
+            cache.len().min((used as usize).max(5))
+        }
+    }
+}
+
+/// Makes a call on the heap and compares it with the same call on initialised memory.
+pub fn compare(checks: &mut Checks, what: &str, call: Call, before: &Lent) {
+    let mut after = before.clone();
+    let reply = calls::proved(call, &mut after);
+    let mut automaton = Block::new(&before.automaton, before.automaton.len());
+    let mut cache = Block::new(&before.cache, known(call, &before.cache));
+    let mut store = Block::new(&before.store, 0);
+    let mut numbers = before.numbers.map(|number| Block::new(&[number], 0));
+    let places = Places {
+        automaton: automaton.start(),
+        cache: cache.start(),
+        store: store.start(),
+        numbers: [0, 1, 2, 3, 4].map(|i| numbers[i].start()),
+    };
+    let got = places.call(call, before);
+    let parts = [
+        reply == Some(got),
+        automaton.agrees(&before.automaton, &after.automaton),
+        cache.agrees(&before.cache, &after.cache),
+        store.agrees(&before.store, &after.store),
+        (0..5).all(|i| numbers[i].agrees(&before.numbers[i..=i], &after.numbers[i..=i])),
+    ];
+    checks.check(parts == [true; 5], || {
+        format!("{what}, {call:?} on the heap: {got}, as before: {parts:?}")
+    });
+}

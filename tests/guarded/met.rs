@@ -1,0 +1,68 @@
+//! How often each reply was met, since calls that are all turned down alike would show little.
+
+use crate::calls::{Call, Lent};
+use crate::checks::Checks;
+use std::collections::BTreeMap;
+
+const LEAST: usize = 40;
+
+/// The replies to be met. Not 9: 65,535 zones have to be kept before it (tests/cache has it).
+const POSSIBLE: [(Call, &[u32]); 6] = [
+    (Call::Refusal, &[0, 1, 2, 3, 4, 5, 6, 7, 8]),
+    (Call::Search, &[0, 1, 2, 3, 4, 5, 6, 7, 8, 10]),
+    (Call::MakeEmpty, &[0, 12]),
+    (Call::Sound, &[0, 11]),
+    (Call::LookUp, &[0, 1, 2, 3, 4, 5, 6, 7, 8, 11]),
+    (Call::Consult, &[0, 1, 2, 3, 4, 5, 6, 7, 8, 10, 11, 12]),
+];
+
+/// What else is to be met: a slice of length 0, an automaton that is filed or comes to be.
+const OTHERS: [&str; 5] = [
+    "Refusal, no automaton",
+    "Search, no store",
+    "Sound, no cache",
+    "LookUp, filed",
+    "Consult, filed now",
+];
+
+fn label(call: Call, reply: u32) -> String {
+    format!("{call:?} {reply}")
+}
+
+/// Which of the others a call is.
+fn other(call: Call, before: &Lent, after: &Lent) -> Option<&'static str> {
+    let (at, met) = match call {
+        Call::Refusal => (0, before.automaton.is_empty()),
+        Call::Search => (1, before.store.is_empty()),
+        Call::MakeEmpty => return None,
+        Call::Sound => (2, before.cache.is_empty()),
+        Call::LookUp => (3, after.numbers[0] == 1),
+        Call::Consult => (4, after.cache != before.cache),
+    };
+    met.then(|| OTHERS[at])
+}
+
+#[derive(Default)]
+pub struct Met(BTreeMap<String, usize>);
+
+impl Met {
+    pub fn count(&mut self, call: Call, reply: Option<u32>, before: &Lent, after: &Lent) {
+        let replied = reply.map(|reply| label(call, reply));
+        let other = other(call, before, after).map(String::from);
+        for label in replied.into_iter().chain(other) {
+            *self.0.entry(label).or_default() += 1;
+        }
+    }
+
+    pub fn sum_up(&self, checks: &mut Checks) {
+        println!("met: {:?}", self.0);
+        let mut labels = OTHERS.map(String::from).to_vec();
+        for (call, replies) in POSSIBLE {
+            labels.extend(replies.iter().map(|&reply| label(call, reply)));
+        }
+        for label in labels {
+            let times = self.0.get(&label).copied().unwrap_or(0);
+            checks.check(times >= LEAST, || format!("only {times} times {label}"));
+        }
+    }
+}
