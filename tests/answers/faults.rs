@@ -186,7 +186,8 @@ fn damaged(mut draft: Draft, changes: &[&Change]) -> Vec<u8> {
     bytes
 }
 
-/// Each fault alone, and any two with different numbers: the smaller number is told.
+/// Each fault alone, and any two with different numbers: the smaller number is told. 7 and 8 do not
+/// outlast a cut, since the bytes left have neither edges nor limits.
 pub fn pairs(tally: &mut Tally, round: u64) {
     let mut dice = Dice::new(1_000 * round + 1);
     let faults = faults();

@@ -52,17 +52,16 @@ impl Tally {
 
 fn sort(tally: &mut Tally, automaton: &Draft, answer: Result<Verdict, u32>) {
     let clocks = automaton.invariants[0].len();
-    let zones = answer.map_or(0, |[_, _, _, zones]| zones);
-    match answer.map(Claim::of) {
-        Ok(Claim::Reached) => {
+    match answer.map(|verdict| (Claim::of(verdict), verdict[3])) {
+        Ok((Claim::Reached, _)) => {
             tally.meet("reached", true);
             tally.meet("reached, two clocks or more", clocks > 1);
         }
-        Ok(Claim::Below(..)) => {
+        Ok((Claim::Below(..), zones)) => {
             tally.meet("holds n/d", true);
             tally.meet("holds n/d, three zones or more", zones > 2);
         }
-        Ok(Claim::Any) => tally.meet("holds any", true),
+        Ok((Claim::Any, _)) => tally.meet("holds any", true),
         Err(_) => tally.meet("refused 10", true),
     }
 }
@@ -125,16 +124,12 @@ pub fn judge(tally: &mut Tally, automaton: &Draft) -> Result<Verdict, u32> {
     let mut store = vec![0; STORE];
     let answer = library::search(&bytes, &mut store);
     sort(tally, automaton, answer);
-    match answer.map(Claim::of) {
-        Ok(claim) => {
-            let zones = answer.map_or(0, |[_, _, _, zones]| zones as usize);
+    match answer {
+        Ok(verdict) => {
+            let claim = Claim::of(verdict);
+            let kept = Kept::new(automaton, &store, verdict[3] as usize);
             demand_3(tally, automaton, claim);
-            demand_2(
-                tally,
-                automaton,
-                &Kept::new(automaton, &store, zones),
-                claim,
-            );
+            demand_2(tally, automaton, &kept, claim);
         }
         Err(number) => {
             let otherwise = || format!("refused {number}: {bytes:02x?}");

@@ -18,7 +18,7 @@ mod library;
 #[path = "../long.rs"]
 mod long;
 mod small;
-// Without its bytes that are changed one by one.
+// Only A to H are needed.
 #[allow(dead_code)]
 #[path = "../search/table.rs"]
 mod table;
