@@ -55,6 +55,36 @@ impl Lent {
     }
 }
 
+/// Where all of it stands. The pointers may reach past the parts, where guards are.
+pub struct Places {
+    pub automaton: *const u8,
+    pub cache: *mut u8,
+    pub store: *mut i32,
+    pub numbers: [*mut u64; 5],
+}
+
+impl Places {
+    /// The library's reply. What stands at the places must be as long as what is to be lent.
+    pub fn call(&self, call: Call, lent: &Lent) -> u32 {
+        let (a, a_len) = (self.automaton, lent.automaton.len());
+        let (c, c_len) = (self.cache, lent.cache.len());
+        let (s, s_len) = (self.store, lent.store.len());
+        let [filed, kind, n, d, zones] = self.numbers;
+        unsafe {
+            match call {
+                Call::Refusal => robustness_refusal(a, a_len),
+                Call::Search => robustness_search(a, a_len, s, s_len, kind, n, d, zones),
+                Call::MakeEmpty => robustness_make_empty(c, c_len),
+                Call::Sound => robustness_sound(c, c_len),
+                Call::LookUp => robustness_look_up(c, c_len, a, a_len, filed, kind, n, d, zones),
+                Call::Consult => {
+                    robustness_consult(c, c_len, a, a_len, s, s_len, kind, n, d, zones)
+                }
+            }
+        }
+    }
+}
+
 const GUARDS: usize = 16;
 
 /// A part between guards that a call must leave alone.
@@ -90,24 +120,17 @@ impl<T: Copy + PartialEq + From<u8>> Guarded<T> {
 
 /// The library's reply, with what it leaves in place of what was lent. None if it wrote past that.
 pub fn proved(call: Call, lent: &mut Lent) -> Option<u32> {
-    let (a_len, c_len, s_len) = (lent.automaton.len(), lent.cache.len(), lent.store.len());
     let mut automaton = Guarded::new(&lent.automaton);
     let mut cache = Guarded::new(&lent.cache);
     let mut store = Guarded::new(&lent.store);
     let mut numbers = lent.numbers.map(|number| Guarded::new(&[number]));
-    let (a, c, s) = (automaton.start(), cache.start(), store.start());
-    let [filed, kind, n, d, zones] = [0, 1, 2, 3, 4].map(|i| numbers[i].start());
-    // Not by the safe calls: these pointers reach past the parts, where the guards are.
-    let reply = unsafe {
-        match call {
-            Call::Refusal => robustness_refusal(a, a_len),
-            Call::Search => robustness_search(a, a_len, s, s_len, kind, n, d, zones),
-            Call::MakeEmpty => robustness_make_empty(c, c_len),
-            Call::Sound => robustness_sound(c, c_len),
-            Call::LookUp => robustness_look_up(c, c_len, a, a_len, filed, kind, n, d, zones),
-            Call::Consult => robustness_consult(c, c_len, a, a_len, s, s_len, kind, n, d, zones),
-        }
+    let places = Places {
+        automaton: automaton.start(),
+        cache: cache.start(),
+        store: store.start(),
+        numbers: [0, 1, 2, 3, 4].map(|i| numbers[i].start()),
     };
+    let reply = places.call(call, lent);
     lent.automaton = automaton.part()?;
     lent.cache = cache.part()?;
     lent.store = store.part()?;

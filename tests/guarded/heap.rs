@@ -2,9 +2,8 @@
 //! what the library must not depend on is left uninitialised: the store, the numbers of the reply
 //! and the free bytes of a cache.
 
-use crate::calls::{self, Call, Lent};
+use crate::calls::{self, Call, Lent, Places};
 use crate::checks::Checks;
-use crate::memory::Places;
 
 /// A block as long as a slice, of which only the beginning is initialised.
 struct Block<T> {
