@@ -16,8 +16,7 @@ use draws::Draws;
 use families::{any, family, small, Shape, Shared, LARGEST, MEMBERS, SMALLEST};
 use filed::record;
 use literal::{gcd, Verdict};
-use std::hint::black_box;
-use times::{best, nanoseconds};
+use times::{best, nanoseconds, opaque};
 
 const SEED: u64 = 340;
 // The program's store.
@@ -148,7 +147,7 @@ fn looked_up(times: u32, bytes: &[u8], automaton: &[u8]) -> [f64; 3] {
     const SIDES: [LookUp; 3] = [library::look_up, filed::look_up, filed::look_up_walking];
     agree(bytes, automaton);
     best(times, |i| {
-        microseconds(|| SIDES[i](black_box(bytes), black_box(automaton)))
+        microseconds(|| SIDES[i](opaque(bytes), opaque(automaton)))
     })
 }
 
@@ -158,7 +157,7 @@ fn consulted(times: u32, bytes: &[u8], automaton: &[u8]) -> [f64; 2] {
     let (mut cache, mut store) = (bytes.to_vec(), vec![UNUSED; STORE]);
     best(times, |i| {
         cache.copy_from_slice(bytes);
-        microseconds(|| SIDES[i](black_box(&mut cache), black_box(automaton), &mut store))
+        microseconds(|| SIDES[i](opaque(&mut cache), opaque(automaton), &mut store))
     })
 }
 

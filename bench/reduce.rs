@@ -4,8 +4,7 @@ mod plain;
 mod times;
 
 use plain::{Pair, Work, Zone, NO_LIMIT};
-use std::hint::black_box;
-use times::{best, nanoseconds};
+use times::{best, nanoseconds, opaque};
 
 extern "C" {
     fn zones_bench_reduce(size: usize, times: u64) -> u64;
@@ -57,7 +56,7 @@ fn proved(size: usize, times: u64) -> u64 {
 
 // Nanoseconds for one reduction.
 fn timed(f: fn(usize, u64) -> u64, size: usize, times: u64) -> f64 {
-    nanoseconds(|| f(black_box(size), black_box(times))) / times as f64
+    nanoseconds(|| f(opaque(size), opaque(times))) / times as f64
 }
 
 fn main() {

@@ -21,8 +21,7 @@ mod times;
 use heavy::{EIGHT_CLOCKS, THREE_CLOCKS};
 use literal::{slot_length, Search, Verdict};
 use oracle::Outcome;
-use std::hint::black_box;
-use times::{best, nanoseconds};
+use times::{best, nanoseconds, opaque};
 
 // The program's store.
 const STORE: usize = 16_384;
@@ -111,7 +110,7 @@ fn independent(automaton: &[u8], store: &mut [i32]) -> Answer {
 #[no_mangle]
 #[inline(never)]
 fn one_search(side: &Side, case: &Case, store: &mut [i32]) -> Answer {
-    (side.search)(black_box(case.automaton), store)
+    (side.search)(opaque(case.automaton), store)
 }
 
 // ---- the table

@@ -1,10 +1,17 @@
 // How the two sides of a benchmark are timed.
-use std::hint::black_box;
+use std::mem::ManuallyDrop;
+use std::ptr;
 use std::time::Instant;
+
+// The value by a way that the compiler does not see through; std's own is younger than the oldest rustc in use.
+pub fn opaque<T>(value: T) -> T {
+    let value = ManuallyDrop::new(value);
+    ManuallyDrop::into_inner(unsafe { ptr::read_volatile(&value) })
+}
 
 pub fn nanoseconds<T>(f: impl FnOnce() -> T) -> f64 {
     let start = Instant::now();
-    black_box(f());
+    opaque(f());
     start.elapsed().as_nanos() as f64
 }
 

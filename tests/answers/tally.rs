@@ -72,7 +72,7 @@ impl Tally {
             )
         });
         self.meet(kind(answer));
-        if answer.is_ok_and(|[_, n, _, _]| n >= 900_000) {
+        if matches!(answer, Ok([_, n, _, _]) if n >= 900_000) {
             self.meet(LARGE.into());
         }
         Left {
