@@ -22,7 +22,7 @@ use Rattle.cache.specs.Records.{measured, recordOf}
 use Rattle.cache.specs.Lookups.{lookUp, isAbsent}
 use Rattle.cache.specs.Caches.{usedOf, versionOf, recordBytes, recordsIn, recordsOf, total, allSound, distinct, sound}
 use Rattle.cache.specs.Consulting.{makeEmptyCache, lookUpIn, full, appended, consultAnswer, consultCache, consultStore}
-use Rattle.cache.specs.Growing.{Later, same, after, lent-later}
+use Rattle.cache.specs.Growing.{Later, same, after, lent-later, GivesBack}
 use Rattle.cache.proofs.Splitting.{measured-le, records-none}
 use Rattle.cache.proofs.Same.{equal-same}
 use Rattle.cache.proofs.Written.{written-length, written-automaton, written-measured, filed-back, record-sound}
@@ -177,8 +177,13 @@ known-later c x v zones h (lent-later c′ rest l) =
     let k = known-later c x v zones h l in
     record { accepted = k .accepted; sound = lent-sound c′ (k .sound) rest; there = rw (lent-records c′ (k .sound) rest) (k .there) }
 
-pub given-back : (c b : List ℕ) (amount : ℕ) (v : Verdict) (zones : ℕ) (c′ : List ℕ) → consultAnswer c b amount ≡ Found v zones → Later (consultCache c b amount) c′
-    → (amount′ : ℕ) (s : List ℤ) → (consultAnswer c′ b amount′ ≡ Found v zones) × (consultCache c′ b amount′ ≡ c′) × (consultStore c′ b s ≡ s)
-given-back c b amount v zones c′ e l =
+pub given-back : (c b : List ℕ) (amount : ℕ) (v : Verdict) (zones : ℕ) → consultAnswer c b amount ≡ Found v zones → (c′ : List ℕ) → Later (consultCache c b amount) c′ → GivesBack c′ b v zones
+given-back c b amount v zones e c′ l =
     let h : Asked (consultCache c b amount) b (lookup.Filed v zones) = subst (Known (consultCache c b amount) b) e (known-once c b amount (way c b amount)) in
-    told-all c′ b v zones (answered c′ b (lookup.Filed v zones) (known-later (consultCache c b amount) b v zones h l))
+    let there : lookUpIn c′ b ≡ lookup.Filed v zones = answered c′ b (lookup.Filed v zones) (known-later (consultCache c b amount) b v zones h l) in
+    record {
+      looked = there;
+      answer = λ m. told-all c′ b v zones there m [] .0;
+      cache = λ m. told-all c′ b v zones there m [] .1;
+      store = λ s. told-all c′ b v zones there 0 s .2;
+    }

@@ -23,7 +23,7 @@ use Rattle.cache.specs.Growing.{Grown, emptied, consulted, lent-again, C
 use Rattle.cache.proofs.Same.{same-equal}
 use Rattle.cache.proofs.Sounding.{sound-facts}
 use Rattle.cache.proofs.Consulting.{asked, told-all, refused-all, absent-all, Way, told, turned-down, stopped, filed, way}
-use Rattle.cache.proofs.Filing.{empty-records, empty-sound, filed-there, sound-stays}
+use Rattle.cache.proofs.Filing.{empty-records, empty-sound, filed-there, given-back, refused-unchanged, sound-stays}
 use Rattle.cache.proofs.LentAgain.{lent-records, lent-sound}
 
 pub grown-sound : (c : List ℕ) → Grown c → sound c ≡ true
@@ -87,7 +87,9 @@ module _ (c b : List ℕ) (amount : ℕ) (g : Grown c) where
 
 pub carried : (c b : List ℕ) (amount : ℕ) → Carried c b (consultAnswer c b amount) (consultCache c b amount)
 carried c b amount = record {
+  unchanged = refused-unchanged c b amount;
   stays = sound-stays c b amount;
+  back = given-back c b amount;
   robust = λ g. way-robust c b amount g (way c b amount);
   lasting = λ g v zones e. subst (Lasting b) (sym e) (subst (Lasts c b amount g) e (way-lasting c b amount g (way c b amount)));
 }

@@ -17,11 +17,11 @@ pub record Example : Type 0 where
   pub after : List ℕ
 
 -- "Card A is `00000026 01 01 02 00 01 0001 00000000 00000005 00000000 00000009 00 01 00 00000007 FFFFFFFF`"
-abbrev pub cardA : List ℕ
-cardA = 0 ∷ 0 ∷ 0 ∷ 38 ∷ 1 ∷ 1 ∷ 2 ∷ 0 ∷ 1 ∷ 0 ∷ 1 ∷ 0 ∷ 0 ∷ 0 ∷ 0 ∷ 0 ∷ 0 ∷ 0 ∷ 5 ∷ 0 ∷ 0 ∷ 0 ∷ 0 ∷ 0 ∷ 0 ∷ 0 ∷ 9 ∷ 0 ∷ 1 ∷ 0 ∷ 0 ∷ 0 ∷ 0 ∷ 7 ∷ 255 ∷ 255 ∷ 255 ∷ 255 ∷ []
+abbrev pub automatonA : List ℕ
+automatonA = 0 ∷ 0 ∷ 0 ∷ 38 ∷ 1 ∷ 1 ∷ 2 ∷ 0 ∷ 1 ∷ 0 ∷ 1 ∷ 0 ∷ 0 ∷ 0 ∷ 0 ∷ 0 ∷ 0 ∷ 0 ∷ 5 ∷ 0 ∷ 0 ∷ 0 ∷ 0 ∷ 0 ∷ 0 ∷ 0 ∷ 9 ∷ 0 ∷ 1 ∷ 0 ∷ 0 ∷ 0 ∷ 0 ∷ 7 ∷ 255 ∷ 255 ∷ 255 ∷ 255 ∷ []
 
 abbrev pub Right : Example → Type 0
-Right x = (consultAnswer (x .cache) cardA (x .amount) ≡ x .answer) × (consultCache (x .cache) cardA (x .amount) ≡ x .after)
+Right x = (consultAnswer (x .cache) automatonA (x .amount) ≡ x .answer) × (consultCache (x .cache) automatonA (x .amount) ≡ x .after)
 
 abbrev pub AllRight : List Example → Type 0
 AllRight [] = Unit {0}
@@ -33,7 +33,7 @@ empty free = 0 ∷ 0 ∷ 0 ∷ 5 ∷ 1 ∷ replicate free 9
 
 -- "holds 1/1, one zone": the record takes 17 + 38 bytes, the cache 60
 abbrev recordA : List ℕ
-recordA = 0 ∷ 0 ∷ 0 ∷ 55 ∷ 1 ∷ 0 ∷ 0 ∷ 0 ∷ 1 ∷ 0 ∷ 0 ∷ 0 ∷ 1 ∷ 0 ∷ 0 ∷ 0 ∷ 1 ∷ cardA
+recordA = 0 ∷ 0 ∷ 0 ∷ 55 ∷ 1 ∷ 0 ∷ 0 ∷ 0 ∷ 1 ∷ 0 ∷ 0 ∷ 0 ∷ 1 ∷ 0 ∷ 0 ∷ 0 ∷ 1 ∷ automatonA
 
 abbrev filed : ℕ → List ℕ
 filed free = 0 ∷ 0 ∷ 0 ∷ 60 ∷ 1 ∷ (recordA ++ replicate free 9)
@@ -41,9 +41,9 @@ filed free = 0 ∷ 0 ∷ 0 ∷ 60 ∷ 1 ∷ (recordA ++ replicate free 9)
 abbrev holds : Answer
 holds = Found (Holds (Below (record { n = 1; d = 1 }))) 1
 
--- a foreign version, and the same record twice
-abbrev foreign : List ℕ
-foreign = 0 ∷ 0 ∷ 0 ∷ 5 ∷ 2 ∷ []
+-- another version, and the same record twice
+abbrev otherVersion : List ℕ
+otherVersion = 0 ∷ 0 ∷ 0 ∷ 5 ∷ 2 ∷ []
 
 abbrev twice : List ℕ
 twice = 0 ∷ 0 ∷ 0 ∷ 115 ∷ 1 ∷ (recordA ++ recordA)
@@ -55,6 +55,6 @@ examples =
     ∷ record { cache = empty 58; amount = 8; answer = Refused 10; after = empty 58 }
     ∷ record { cache = empty 54; amount = 8; answer = Refused 12; after = empty 54 }
     ∷ record { cache = filed 0; amount = 0; answer = holds; after = filed 0 }
-    ∷ record { cache = foreign; amount = 9; answer = Refused 11; after = foreign }
+    ∷ record { cache = otherVersion; amount = 9; answer = Refused 11; after = otherVersion }
     ∷ record { cache = twice; amount = 9; answer = Refused 11; after = twice }
     ∷ []

@@ -3,14 +3,16 @@ use Prim.Native.Nat.{ℕ, _≤_}
 use mathlib.Core.Bool.{true}
 use mathlib.Core.List.{List, _++_}
 use mathlib.Core.Path.{_≡_}
+use lib.IntN.{ℤ}
 use lib.ListN.{length, take}
 use Rattle.search.specs.declared.verdict.Answer.{Answer}
-use Rattle.search.specs.declared.verdict.Answer.the-variants.{Found}
+use Rattle.search.specs.declared.verdict.Answer.the-variants.{Found, Refused}
 use Rattle.search.specs.declared.verdict.Verdict.{Verdict}
 use Rattle.search.specs.Demands.{Robust}
 use Rattle.search.specs.Given.{Lasting}
 use Rattle.cache.specs.Caches.{headerLength, usedOf, sound}
-use Rattle.cache.specs.Consulting.{makeEmptyCache, consultCache}
+use Rattle.cache.specs.Consulting.{makeEmptyCache, lookUpIn, consultAnswer, consultCache, consultStore}
+use Rattle.cache.specs.declared.lookup.Lookup.the-variants as lookup
 
 -- "grown from empty only by consulting": of any automata, with any stores, in any number. Between two consultings the used bytes may be lent again with others behind them.
 pub data Grown : List ℕ → Type 0 where
@@ -24,9 +26,19 @@ pub data Later (c : List ℕ) : List ℕ → Type 0 where
   after : (c′ b : List ℕ) (amount : ℕ) → Later c c′ → Later c (consultCache c′ b amount)
   lent-later : (c′ rest : List ℕ) → Later c c′ → Later c (take (usedOf c′) c′ ++ rest)
 
--- what consulting promises beside the equations: a sound cache stays sound, and on a grown one demand 3 holds of the answer
--- and "the filed verdict is the search's, at every store size that lets the search finish"
+-- the cache has filed this verdict of b: lookup and consulting give it back, and nothing is changed, whatever the store
+pub record GivesBack (c b : List ℕ) (v : Verdict) (zones : ℕ) : Type 0 where
+  pub looked : lookUpIn c b ≡ lookup.Filed v zones
+  pub answer : (amount : ℕ) → consultAnswer c b amount ≡ Found v zones
+  pub cache : (amount : ℕ) → consultCache c b amount ≡ c
+  pub store : (s : List ℤ) → consultStore c b s ≡ s
+
+-- What consulting c for b promises beside the equations, c′ being what it leaves: a refusal leaves the cache as it was, a sound cache stays
+-- sound, and a verdict is given back by every cache that comes of this one. On a grown cache demand 3 holds of the answer, and
+-- "the filed verdict is the search's, at every store size that lets the search finish".
 pub record Carried (c b : List ℕ) (r : Answer) (c′ : List ℕ) : Type 0 where
+  pub unchanged : (k : ℕ) → r ≡ Refused k → c′ ≡ c
   pub stays : sound c ≡ true → sound c′ ≡ true
+  pub back : (v : Verdict) (zones : ℕ) → r ≡ Found v zones → (c″ : List ℕ) → Later c′ c″ → GivesBack c″ b v zones
   pub robust : Grown c → Robust b r
   pub lasting : Grown c → (v : Verdict) (zones : ℕ) → r ≡ Found v zones → Lasting b r
