@@ -1,0 +1,41 @@
+-- A text behind a line.
+-- Assumes nothing.
+use Prim.Native.Nat.{ℕ, suc, _+_, _≤_, _<_}
+use mathlib.Core.List.{List, _++_, append-assoc}
+use mathlib.Core.Path.{_≡_, ap, _∙_}
+use lib.ListN.{length, take, set, getD}
+use lib.Seq.{paste, paste-suc, length-paste, take-paste, take-all}
+use native.Mathlib.Omega.{arith}
+use Rattle.robustness.specs.declared.line.Line.{Line}
+use Rattle.robustness.specs.Lines.{Writing, Behind, textOf}
+
+-- ---- a turn of the loop that writes it
+pub turn : (l : Line) (t : List ℕ) (i : ℕ) (bytes : List ℕ) → length (l .bytes) ≡ 80 → l .length + length t ≤ 80 → i < length t → bytes ≡ paste (l .bytes) (l .length) t i
+    → set bytes (l .length + i) (getD t i 0) ≡ paste (l .bytes) (l .length) t (i + 1)
+turn l t i bytes full room h e =
+    let next : suc i ≡ i + 1 = omega arith in
+    ap (λ x. set x (l .length + i) (getD t i 0)) e ∙ paste-suc (l .bytes) (l .length) t i 0 (omega arith) h ∙ ap (paste (l .bytes) (l .length) t) next
+
+-- all of it
+pub pasted : (l : Line) (t : List ℕ) (i : ℕ) (bytes : List ℕ) → length (l .bytes) ≡ 80 → l .length + length t ≤ 80 → i ≡ length t → bytes ≡ paste (l .bytes) (l .length) t i
+    → Behind l t (length t) (record { bytes = bytes; length = l .length + i })
+pasted l t i bytes full room e g = record {
+  writing = record {
+    room = ap length g ∙ length-paste (l .bytes) (l .length) t i (omega arith) (omega arith) ∙ full;
+    written = omega arith;
+  };
+  text = ap (take (l .length + i)) g ∙ take-paste (l .bytes) (l .length) t i (omega arith) (omega arith) ∙ ap (λ x. textOf l ++ x) (take-all i t (omega arith));
+}
+
+-- ---- one text behind another
+pub one : (l : Line) {t : List ℕ} {m : ℕ} {r : Line} (u : List ℕ) (most : ℕ) → Behind l t m r → t ≡ u → m ≤ most → Behind l u most r
+one l {t} {m} {r} u most b e h = record {
+  writing = record { room = b .writing .room; written = omega (arith, b .writing .written) };
+  text = b .text ∙ ap (λ x. textOf l ++ x) e;
+}
+
+pub two : {l : Line} {s : List ℕ} {m : ℕ} {r : Line} {t : List ℕ} {k : ℕ} {q : Line} → Behind l s m r → Behind r t k q → Behind l (s ++ t) (m + k) q
+two {l} {s} {m} {r} {t} {k} {q} b c = record {
+  writing = record { room = c .writing .room; written = omega (arith, b .writing .written, c .writing .written) };
+  text = c .text ∙ ap (λ x. x ++ t) (b .text) ∙ append-assoc (textOf l) s t;
+}

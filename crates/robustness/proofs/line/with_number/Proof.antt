@@ -1,0 +1,39 @@
+use borrow.Author.Needs.{needs}
+use Prim.Native.Nat.{_^_, _<_}
+use mathlib.Core.Path.{_∙_}
+use native.Mathlib.Omega.{arith}
+use Rattle.robustness.proofs.Writing.{one}
+use Rattle.robustness.proofs.Decimals.{written-decimal, at-most-20}
+use Rattle.robustness.proofs.line.with_number.Statement.{statement}
+use Rattle.robustness.proofs.line.with_number.Tie as tie
+
+decimal-requires : tie.Need-decimal-requires
+decimal-requires c κs = search needs
+
+array-share-prefix-digits : tie.Need-array-share-prefix-digits
+array-share-prefix-digits c = search needs
+
+slice-aggregate-with-text : tie.Need-slice-aggregate-with-text
+slice-aggregate-with-text c = search needs
+
+with-text-requires : tie.Need-with-text-requires
+with-text-requires c κs =
+    let d = c .before .decimal .ensures in
+    let n : c .before .before .before .args .n < 2 ^ 64 = search needs in
+    (search needs, omega (arith, d .0 .1, at-most-20 _ _ n (d .1 .0)))
+
+returns : tie.Need-returns
+returns c =
+    let d = c .before .before .decimal .ensures in
+    let n : c .before .before .before .before .args .n < 2 ^ 64 = search needs in
+    one _ _ _ (c .with-text .ensures) (d .1 .1 ∙ written-decimal _ _ (d .1 .0)) (omega (arith, d .0 .1, at-most-20 _ _ n (d .1 .0)))
+
+pub with-number-spec : {M : Type 1} → statement M
+with-number-spec =
+    tie.close
+    (tie.spec
+    decimal-requires
+    array-share-prefix-digits
+    slice-aggregate-with-text
+    with-text-requires
+    returns)
