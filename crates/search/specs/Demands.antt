@@ -1,4 +1,4 @@
--- The user's demands 2 and 3, each one proposition about the search of an automaton's bytes.
+-- Demands 2 and 3, each one proposition about the search of an automaton's bytes.
 use Prim.Native.Nat.{ℕ, _*_, _≤_, _<_}
 use mathlib.Core.List.{List}
 use mathlib.Core.Path.{_≡_}

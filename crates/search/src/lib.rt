@@ -59,7 +59,7 @@ pub fn refusal(automaton: &[u8]) -> u32
 
 // The verdict of an automaton, with the zones kept in the lent store: the answer and the store of document 01's search.
 // The answer is right of all runs (demand 3), the kept zones are the exact sets of states (demand 2), the numbers fit, and
-// no other store's length gives another answer but 10.
+// unless it is 10, every length of a store that does not give 10 gives this answer.
 pub fn search(automaton: &[u8], store: &mut [i32]) -> Answer
     ensures { λ r. ⌜ r ≡ searchAnswer (now (automaton .entry)) (length (now (store .entry))) ⌝ }
     ensures { λ r. ⌜ now (store .exit) ≡ searchStore (now (automaton .entry)) (now (store .entry)) ⌝ }

@@ -1,4 +1,4 @@
--- How large the numbers get, with the bounds as parameters: document 01's and those of a later scale differ only in `scale` and `counts`.
+-- How large the numbers get, with the bounds as parameters: document 01's and those of a later scale differ only in `scale`, `counts` and `widest`.
 use Prim.Native.Nat.{ℕ, suc, _*_, _≤_, _<_, _^_}
 use mathlib.Core.Path.{_≡_}
 use mathlib.Core.Bool.{Bool, false}

@@ -29,7 +29,7 @@ lowerAt i j q w =
     }
 
 -- ---- "Meeting limits"
--- the limits of a location or an edge, by clock from 1: "a guard's hi may be" absent
+-- the limits of a location or an edge, by clock from 1: "A guard's hi may be FFFFFFFF, meaning no upper limit"
 pub record Limits : Type 0 where
   pub lo : ℕ → ℕ
   pub hi : ℕ → ℕ
