@@ -42,9 +42,6 @@ nth-at (x ∷ xs) zero h = record { node = x; nth = refl }
 nth-at (x ∷ xs) (suc j) h = let r = nth-at xs j (omega arith) in record { node = r .node; nth = r .nth }
 
 module _ (b : List ℕ) (a : Accepted b) where
-  abbrev n : ℕ
-  n = suc (clocks b)
-
   pub n≤ : suc (clocks b) ≤ 9
   n≤ = omega (arith, a .complete .clocks≤)
 

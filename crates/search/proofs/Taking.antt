@@ -3,7 +3,7 @@
 use Prim.Native.Nat.{ℕ, zero, suc, _+_, _-_, _*_, _<_, _≤_}
 use mathlib.Core.Path.{_≡_, refl, sym, ap, _∙_, subst}
 use mathlib.Core.List.{List, [], _∷_, _++_}
-use lib.IntN.{ℤ, pos, negsuc, natAbs}
+use lib.IntN.{ℤ, pos, natAbs}
 use lib.Dec.{T}
 use mir.Syntax.{w32, w64}
 use mir.Val.{Fits, SFits, ofZ, toZ}
@@ -112,9 +112,6 @@ module _ {b : List ℕ} (a : Accepted b) {slots : ℕ} where
       pub location : getD s at (pos 0) ≡ pos (here .node .at)
       location = sym (getD-drop at s 0 (pos 0) ∙ ap (λ (i : ℕ). getD s i (pos 0)) at+0) ∙ ap (λ (i : ℕ). getD (drop i s) 0 (pos 0)) e ∙ ap (λ (u : List ℤ). getD u 0 (pos 0)) (slot .same) ∙ slot-location (suc (clocks b)) (here .node .at) (here .node .zone) (slot .rest)
 
-      pub small : here .node .at < 256
-      small = omega (arith, sound-node .location, a .complete .locations≤)
-
       pub asks-decode : slots * slotLength (suc (clocks b)) ≤ length s₀ → ((suc (clocks b) ≤ 9) × (slotLength (suc (clocks b)) ≤ length (take (length s - at) (drop at s)))) × ((i : ℕ) → i < suc (clocks b) * suc (clocks b) → pos 0 ≤ℤ getD (take (length s - at) (drop at s)) (2 + 2 * i) (pos 0))
       asks-decode room = ((n≤ b a, omega (arith, lent-length s at, slot-inside room)), read-counts b a s next at (here .node) e slot)
 
@@ -129,14 +126,7 @@ module _ {b : List ℕ} (a : Accepted b) {slots : ℕ} where
         module _ {l : ℕ} (el : getD s at (pos 0) ≡ pos l) {s′ : List ℤ} {t′ : Turn}
             (g : (p : List ℕ) → Continues b slots s t (expand (systemOf b) (zonesOf b) slots (record { at = l; zone = z; path = p }) (edges b) 0) s′ t′) where
           at≡ : l ≡ here .node .at
-          at≡ = number (sym el ∙ location)
-            where
-              magnitude : ℤ → ℕ
-              magnitude (pos x) = x
-              magnitude (negsuc x) = 0
-
-              number : pos l ≡ pos (here .node .at) → l ≡ here .node .at
-              number d = ap magnitude d
+          at≡ = let e : pos l ≡ pos (here .node .at) = sym el ∙ location in cc
 
           same-node : record { at = l; zone = z; path = here .node .path } ≡ here .node
           same-node = λ i. record { at = at≡ i; zone = zone≡ i; path = here .node .path }

@@ -12,7 +12,6 @@ use Rattle.search.proofs.Judging.{n≤}
 use Rattle.search.proofs.Stepping.{one-more}
 use Rattle.search.proofs.Sounding.{start-sound}
 use borrow.Author.Needs.{needs}
-use borrow.Author.Needs.{needs}
 use Rattle.search.proofs.exploration.explore.Statement.{statement}
 use Rattle.search.proofs.exploration.explore.Tie as tie
 

@@ -2,7 +2,6 @@
 use mathlib.Core.Path.{sym, _∙_}
 use Rattle.search.proofs.Judging.{gives-empty, gives-target, gives-judged}
 use borrow.Author.Needs.{needs}
-use borrow.Author.Needs.{needs}
 use Rattle.search.proofs.exploration.offer.Statement.{statement}
 use Rattle.search.proofs.exploration.offer.Tie as tie
 

@@ -1,7 +1,6 @@
 -- Assumes nothing.
 use borrow.Author.Needs.{needs}
 use Rattle.search.proofs.Stores.{capacity-most, capacity-all}
-use borrow.Author.Needs.{needs}
 use Rattle.search.proofs.exploration.slots_of.Statement.{statement}
 use Rattle.search.proofs.exploration.slots_of.Tie as tie
 
