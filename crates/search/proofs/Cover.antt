@@ -179,6 +179,5 @@ module _ (A : System) (O : Zones) (M : Meaning A O) where
           (covered (after A x (jump n)) xs (h .0 .3)
           (all-done (v .place) (v .node) (v .kept) n (h .0 .0) (h .0 .1 ∙ sym (v .at)) .covers (x .clocks) (keeps-now (x .at) (v .node .zone) (x .clocks) (v .keeps) i) (h .0 .2) (h .0 .3)) (h .1)) g
 
-      -- (a)
       pub holds : (xs : List Step) → Run A s e xs → StandsIn A (A .target) (first A) xs → ⊥
       holds xs h = covered (first A) xs (h .0) (started (h .0)) (h .1)

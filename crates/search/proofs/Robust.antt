@@ -1,4 +1,4 @@
--- Demands 2 and 3 of the search, from the laws of zones.
+-- From the laws of zones: below the exact fraction a kept zone is the exact set, and where the target is reached, a run reaches it.
 use Prim.Native.Nat.{ℕ, _<_}
 use mathlib.Core.List.{List, [], _∷_, _++_}
 use mathlib.Core.Path.{_≡_, refl, ap, _∙_, subst}
@@ -13,7 +13,6 @@ use Rattle.search.proofs.Cover.{holds}
 use Rattle.search.proofs.Same.{Tight, tight-start, tight-next, all-whole, all-tight}
 
 module _ (A : System) (O : Zones) (M : Meaning A O) (s₀ e₀ : ℕ) (L : Laws A O M s₀ e₀) (cap : ℕ) where
-  -- (d)
   pub same : (s e : ℕ) → M .Exact (search A O cap .frac) s e → All A O cap (SameSet A O M s e) (search A O cap .kept)
   same s e b j k n v = (
     all-tight A O M s e s₀ e₀ (L .one-sided) (L .both) (L .exact s e) cap b j k n .ends v,
@@ -79,7 +78,6 @@ module _ (A : System) (O : Zones) (M : Meaning A O) (s₀ e₀ : ℕ) (L : Laws 
   unfolding search
   ends = take-keeps A O cap Reaching goes-on cap 0 (begin A O cap) starts
 
-  -- (b)
   pub reached-hits : search A O cap .code ≡ 1 → Hit A s₀ e₀
   reached-hits = ends .hit
 

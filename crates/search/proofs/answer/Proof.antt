@@ -1,3 +1,4 @@
+-- The answer, by the code with which the search stopped.
 -- Assumes nothing.
 use Rattle.search.proofs.Answers.{answer-holds, answer-reached, answer-refused}
 use borrow.Author.Needs.{needs}

@@ -1,3 +1,4 @@
+-- The answer and the store are the definition's, and the answer has what is promised of it.
 -- Assumes nothing.
 use mathlib.Core.Path.{sym, _∙_, subst}
 use Rattle.search.specs.Promised.{Promised}

@@ -1,3 +1,4 @@
+-- The source of an edge lies within the bytes, where the definition reads it.
 use mathlib.Core.Path.{_∙_}
 use native.Mathlib.Omega.{arith}
 use borrow.Author.Needs.{needs}

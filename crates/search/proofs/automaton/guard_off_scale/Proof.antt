@@ -1,5 +1,4 @@
 -- Whether a guard has a limit off the scale, from the last edge down.
--- Assumes nothing.
 use Prim.Native.Nat.{ℕ, _+_, _*_, _-_, _≤_}
 use mathlib.Core.Bool.{Bool, true}
 use mathlib.Core.List.{List}

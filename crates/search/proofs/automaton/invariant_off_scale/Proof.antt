@@ -1,5 +1,4 @@
 -- Whether an invariant has a limit off the scale, from the last location down.
--- Assumes nothing.
 use Prim.Native.Nat.{ℕ, _-_}
 use mathlib.Core.Bool.{Bool, false}
 use mathlib.Core.List.{List}

@@ -1,5 +1,4 @@
 -- Whether a reset byte names a clock that is not there, from the last edge down.
--- Assumes nothing.
 use Prim.Native.Nat.{ℕ, _^_, _-_}
 use mathlib.Core.Bool.{Bool}
 use mathlib.Core.List.{List}

@@ -1,5 +1,4 @@
 -- Whether start, target, or an end of an edge is no location, from the last edge down.
--- Assumes nothing.
 use Prim.Native.Nat.{ℕ, _-_}
 use mathlib.Core.Bool.{Bool}
 use mathlib.Core.List.{List}

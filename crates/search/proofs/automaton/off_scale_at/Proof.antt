@@ -1,5 +1,4 @@
 -- Whether one of the limits at a place is off the scale, from the last clock down.
--- Assumes nothing.
 use Prim.Native.Nat.{ℕ, suc, _-_}
 use mathlib.Core.Bool.{Bool}
 use mathlib.Core.List.{List}

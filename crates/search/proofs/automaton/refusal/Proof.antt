@@ -1,3 +1,4 @@
+-- The refusal is the number of the definition's first test that applies.
 use Prim.Native.Nat.{ℕ}
 use mathlib.Core.Bool.{cond}
 use mathlib.Core.List.{List}

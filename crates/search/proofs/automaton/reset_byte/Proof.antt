@@ -1,3 +1,4 @@
+-- The reset byte of an edge lies within the bytes, where the definition reads it.
 use native.Mathlib.Omega.{arith}
 use borrow.Author.Needs.{needs}
 use Rattle.search.proofs.Places.{edge-within}

@@ -1,3 +1,4 @@
+-- What has entered a location is empty, at the target, or judged: each is the definition's offer.
 -- Assumes nothing.
 use mathlib.Core.Path.{sym, _∙_}
 use Rattle.search.proofs.Judging.{gives-empty, gives-target, gives-judged}

@@ -1,3 +1,4 @@
+-- How many slots a store has: as many as fit, and no more than the most.
 -- Assumes nothing.
 use borrow.Author.Needs.{needs}
 use Rattle.search.proofs.Stores.{capacity-most, capacity-all}
