@@ -58,6 +58,9 @@ module _ (c : tie.Then1 Inv-loop μ-loop) where
   abbrev head : tie.At-loop Inv-loop μ-loop
   head = c .before .before
 
+  abbrev entry : tie.Start Inv-loop μ-loop
+  entry = start head
+
   abbrev place : ℕ
   place = head .loop .next * head .before .slot-length .result
 
@@ -65,16 +68,16 @@ module _ (c : tie.Then1 Inv-loop μ-loop) where
   place≡ = ap (λ (x : ℕ). head .loop .next * x) (head .loop .inv .1)
 
   inside : place + slotLength (suc (clocks (automaton head))) ≤ length (head .loop .store)
-  inside = slot-inside (start head .pre .0) (on head) (c .if1 .taken) place≡ (start head .pre .1 .room)
+  inside = slot-inside (entry .pre .0) (on head) (c .if1 .taken) place≡ (entry .pre .1 .room)
 
-  below : head .loop .next < start head .args .slots
-  below = few (start head .pre .0) (on head) (c .if1 .taken)
+  below : head .loop .next < entry .args .slots
+  below = few (entry .pre .0) (on head) (c .if1 .taken)
 
 mul-at : tie.Need-mul-at Inv-loop μ-loop
-mul-at c = omega (arith, inside c, now (c .before .before))
+mul-at c = omega (arith, inside c, now (head c))
 
 mul-l : tie.Need-mul-l Inv-loop μ-loop
-mul-l c = omega (arith, inside c, now (c .before .before))
+mul-l c = omega (arith, inside c, now (head c))
 
 slice-copy-out-l : tie.Need-slice-copy-out-l Inv-loop μ-loop
 slice-copy-out-l c = omega (arith, inside c)
@@ -82,10 +85,10 @@ slice-copy-out-l c = omega (arith, inside c)
 cast-l : tie.Need-cast-l Inv-loop μ-loop
 cast-l c =
     let turn = c .before in
-    reads-location (record { sfits = c .l .given }) (location (start (head turn) .pre .0) (on (head turn)) (turn .if1 .taken) (place≡ turn))
+    reads-location (record { sfits = c .l .given }) (location (entry turn .pre .0) (on (head turn)) (turn .if1 .taken) (place≡ turn))
 
 mul-decode : tie.Need-mul-decode Inv-loop μ-loop
-mul-decode c = omega (arith, inside (c .before), now (c .before .before .before))
+mul-decode c = omega (arith, inside (c .before), now (head (c .before)))
 
 sub-decode : tie.Need-sub-decode Inv-loop μ-loop
 sub-decode c = omega (arith, inside (c .before))
@@ -99,12 +102,12 @@ part-decode-end c = search needs
 decode-requires : tie.Need-decode-requires Inv-loop μ-loop
 decode-requires c κs =
     let turn = c .before .before .before in
-    rw (head turn .loop .inv .0) (asks-decode (start (head turn) .pre .0) (on (head turn)) (turn .if1 .taken) (place≡ turn) (start (head turn) .pre .1 .room))
+    rw (head turn .loop .inv .0) (asks-decode (entry turn .pre .0) (on (head turn)) (turn .if1 .taken) (place≡ turn) (entry turn .pre .1 .room))
 
 expand-requires : tie.Need-expand-requires Inv-loop μ-loop
 expand-requires c κs =
     let turn = c .before .before .before .before .before in
-    let pre = start (head turn) .pre in
+    let pre = entry turn .pre in
     (pre .0, onward (pre .0) (on (head turn)) (turn .if1 .taken) (pre .1 .room), sound-zone (pre .0) (on (head turn)) (turn .if1 .taken) (place≡ turn) (rw (head turn .loop .inv .0) at (c .before .decode .ensures)))
 
 -- ---- after the expansion
@@ -112,17 +115,18 @@ module _ (c : tie.After-expand Inv-loop μ-loop) where
   abbrev turn : tie.Then1 Inv-loop μ-loop
   turn = c .before .before .before .before .before .before
 
-  expanded : (s₀ : List ℤ) (q₀ : ZoneState) → Shown (suc (clocks (automaton (head turn)))) s₀ q₀ (start (head turn) .args .store .now) (start (head turn) .args .turn) → SoundState (automaton (head turn)) (start (head turn) .args .slots) q₀ → q₀ .code ≡ 0 →
-      Turned (automaton (head turn)) (start (head turn) .args .slots) s₀ q₀ (head turn .loop .next) (c .expand .last .1 .0) (c .expand .result)
+  expanded : (s₀ : List ℤ) (q₀ : ZoneState) → Shown (suc (clocks (automaton (head turn)))) s₀ q₀ (entry turn .args .store .now) (entry turn .args .turn) → SoundState (automaton (head turn)) (entry turn .args .slots) q₀ → q₀ .code ≡ 0 →
+      Turned (automaton (head turn)) (entry turn .args .slots) s₀ q₀ (head turn .loop .next) (c .expand .last .1 .0) (c .expand .result)
   expanded s₀ q₀ h o g =
       let w = head turn .loop .inv .2 s₀ q₀ h o g in
-      turned (start (head turn) .pre .0) w (turn .if1 .taken) (place≡ turn) (rw (head turn .loop .inv .0) at (c .before .before .decode .ensures))
-      (read-location (record { sfits = c .before .before .before .before .before .l .given }) (location (start (head turn) .pre .0) w (turn .if1 .taken) (place≡ turn))) (c .expand .ensures)
+      turned (entry turn .pre .0) w (turn .if1 .taken) (place≡ turn) (rw (head turn .loop .inv .0) at (c .before .before .decode .ensures))
+      (read-location (record { sfits = c .before .before .before .before .before .l .given }) (location (entry turn .pre .0) w (turn .if1 .taken) (place≡ turn))) (c .expand .ensures)
 
 same-length : tie.Need-same-length Inv-loop μ-loop
 same-length c =
-    let going = start (head (turn (c .before .before .before))) .pre .1 in
-    expanded (c .before .before .before) _ _ (going .shown) (going .sound) (going .going) .same-length (going .room) ∙ sym (at-entry (head (turn (c .before .before .before))))
+    let after = c .before .before .before in
+    let going = entry (turn after) .pre .1 in
+    expanded after _ _ (going .shown) (going .sound) (going .going) .same-length (going .room) ∙ sym (at-entry (head (turn after)))
 
 returns : tie.Need-returns Inv-loop μ-loop
 returns c = record { shows = λ s₀ q₀ h o g. expanded (c .before .before .before) s₀ q₀ h o g .stops (c .if2 .taken) }
