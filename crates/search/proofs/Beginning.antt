@@ -24,7 +24,13 @@ use Rattle.search.proofs.Judged.{take-later}
 use Rattle.search.proofs.Sounding.{start-sound, offer-sound}
 use Rattle.search.proofs.Stores.{capacity-room}
 
-module _ (b : List ℕ) (a : Accepted b) (s : List ℤ) (slots : ℕ) (es : slots ≡ capacityOf (suc (clocks b)) (length s)) where
+-- ---- what the first offer leaves
+pub record Begun (b : List ℕ) (slots : ℕ) (s s′ : List ℤ) (t′ : Turn) : Type 0 where
+  pub goes-on : t′ .code ≡ 0 → Going b slots s′ t′
+  pub stops : (t′ .code ≡ 0 → ⊥) → Shown (suc (clocks b)) s (stateOf b (length s)) s′ t′
+  pub rest : t′ .code ≡ 0 → {s″ : List ℤ} {t″ : Turn} → Continues b slots s′ t′ (take-from (systemOf b) (zonesOf b) slots slots 0) s″ t″ → Shown (suc (clocks b)) s (stateOf b (length s)) s″ t″
+
+module _ {b : List ℕ} (a : Accepted b) (s : List ℤ) {slots : ℕ} (es : slots ≡ capacityOf (suc (clocks b)) (length s)) where
   abbrev blank : ZoneState
   blank = record { kept = []; frac = noLimit; code = 0 }
 
@@ -41,36 +47,39 @@ module _ (b : List ℕ) (a : Accepted b) (s : List ℤ) (slots : ℕ) (es : slot
   pub blank-progress : InProgress b slots s 0
   blank-progress = record { base = s; state = blank; stored = blank-stored; sound = blank-sound; room = room }
 
-  -- s′ and t′ are what the first offer left
-  module _ (r : Reduced) (er : r ≡ enterOf (clocks b) (invariantOf b (start b)) firstWork) (s′ : List ℤ) (t′ : Turn)
+  module _ {r : Reduced} (er : r ≡ enterOf (clocks b) (invariantOf b (start b)) firstWork) {s′ : List ℤ} {t′ : Turn}
       (g : (p : List ℕ) → Gives b slots s 0 (λ q. offer (systemOf b) (zonesOf b) slots q (start b) p (resultOf r)) s′ t′) where
-    abbrev begun : ZoneState
-    begun = begin (systemOf b) (zonesOf b) slots
+    abbrev state : ZoneState
+    state = begin (systemOf b) (zonesOf b) slots
 
     entered : resultOf r ≡ entering b noLimit
     unfolding entering firstWork
     entered = ap resultOf er
 
-    shown : Shown (suc (clocks b)) s begun s′ t′
+    shown : Shown (suc (clocks b)) s state s′ t′
     shown = subst (λ x. Shown (suc (clocks b)) s (offer (systemOf b) (zonesOf b) slots blank (start b) [] x) s′ t′) entered (g [] .shows s blank blank-stored blank-sound)
 
-    sound : SoundState b slots begun
+    sound : SoundState b slots state
     sound = subst (λ x. SoundState b slots (offer (systemOf b) (zonesOf b) slots blank (start b) [] x)) entered
         (offer-sound b a slots (start b) (a .start<) [] blank blank-sound r (subst (SoundResult b) (sym er) (start-sound b a)))
 
-    whole : take-from (systemOf b) (zonesOf b) slots slots 0 begun ≡ stateOf b (length s)
+    whole : take-from (systemOf b) (zonesOf b) slots slots 0 state ≡ stateOf b (length s)
     unfolding search
     whole = ap (searchOf b) es
 
-    pub first-goes : t′ .code ≡ 0 → Going b slots s′ t′
-    first-goes e = record { base = s; state = begun; shown = shown; sound = sound; going = sym (shown .code) ∙ e; room = room }
+    goes-on : t′ .code ≡ 0 → Going b slots s′ t′
+    goes-on e = record { base = s; state = state; shown = shown; sound = sound; going = sym (shown .code) ∙ e; room = room }
 
-    pub first-stops : (t′ .code ≡ 0 → ⊥) → Shown (suc (clocks b)) s (stateOf b (length s)) s′ t′
-    first-stops e = go (begun .code) refl
+    stops : (t′ .code ≡ 0 → ⊥) → Shown (suc (clocks b)) s (stateOf b (length s)) s′ t′
+    stops e = go (state .code) refl
       where
-        go : (k : ℕ) → begun .code ≡ k → Shown (suc (clocks b)) s (stateOf b (length s)) s′ t′
+        go : (k : ℕ) → state .code ≡ k → Shown (suc (clocks b)) s (stateOf b (length s)) s′ t′
         go zero h = absurd (e (shown .code ∙ h))
-        go (suc k) h = subst (λ (q : ZoneState). Shown (suc (clocks b)) s q s′ t′) (sym (take-later (systemOf b) (zonesOf b) slots slots 0 begun .stopped k h) ∙ whole) shown
+        go (suc k) h = subst (λ (q : ZoneState). Shown (suc (clocks b)) s q s′ t′) (sym (take-later (systemOf b) (zonesOf b) slots slots 0 state .stopped k h) ∙ whole) shown
 
-    pub rest-taken : t′ .code ≡ 0 → (s″ : List ℤ) (t″ : Turn) → Continues b slots s′ t′ (take-from (systemOf b) (zonesOf b) slots slots 0) s″ t″ → Shown (suc (clocks b)) s (stateOf b (length s)) s″ t″
-    rest-taken e s″ t″ h = subst (λ (q : ZoneState). Shown (suc (clocks b)) s q s″ t″) whole (h .shows s begun shown sound (sym (shown .code) ∙ e))
+    pub begun : Begun b slots s s′ t′
+    begun = record {
+      goes-on = goes-on;
+      stops = stops;
+      rest = λ e {s″} {t″} h. subst (λ (q : ZoneState). Shown (suc (clocks b)) s q s″ t″) whole (h .shows s state shown sound (sym (shown .code) ∙ e));
+    }

@@ -1,5 +1,5 @@
 -- The capacity enters the outcome through 10 alone.
-use Prim.Native.Nat.{ℕ, zero, suc, _+_, _≤_, _<_}
+use Prim.Native.Nat.{ℕ, zero, suc, _+_, _≤_}
 use mathlib.Core.List.{List, [], _∷_}
 use mathlib.Core.Path.{_≡_, refl, sym, ap, _∙_}
 use mathlib.Core.Bool.{Bool, true, false}
@@ -94,7 +94,3 @@ module _ (A : System) (O : Zones) where
 
   pub finished-same : (c c′ : ℕ) → (search A O c .code ≡ 10 → ⊥) → (search A O c′ .code ≡ 10 → ⊥) → search A O c′ ≡ search A O c
   finished-same c c′ h h′ = elim (decLe c c′) [ yes l ↦ larger-same c c′ l h | no n ↦ sym (larger-same c′ c (omega arith) h′) ]
-
-  -- a smaller one that the kept nodes do not fit gives 10
-  pub smaller-full : (c c′ : ℕ) → (search A O c .code ≡ 10 → ⊥) → c′ < length (search A O c .kept) → (search A O c′ .code ≡ 10 → ⊥) → ⊥
-  smaller-full c c′ h l h′ = omega (arith, search-room c′, ap (λ (x : St A O). length (x .kept)) (finished-same c c′ h h′))

@@ -2,7 +2,6 @@
 use Prim.Native.Nat.{ℕ, zero, suc, _+_, _≤_, _<_}
 use mathlib.Core.List.{List, [], _∷_, _++_}
 use mathlib.Core.Path.{_≡_, refl, sym, _∙_, subst}
-use mathlib.Core.Bool.{false}
 use mathlib.Core.Logic.{⊎-elim}
 use lib.ListN.{length}
 use native.Mathlib.Omega.{arith}
@@ -17,14 +16,13 @@ module _ (A : System) (O : Zones) (M : Meaning A O) where
   -- what every kept node has, at any error
   pub record Sound (k : Nd A O) : Type 0 where
     pub away : k .at ≡ A .target → ⊥
-    pub small : O .big (k .zone) ≡ false
     pub shape : M .Shape (k .zone)
 
   pub all-sound : OneSided A O M → (cap : ℕ) → All A O cap Sound (search A O cap .kept)
   all-sound L cap =
       search-all A O cap Sound (λ f. Unit {0}) (record { enter = λ f b. tt; succ = λ i z f b. tt; lowered = λ z y f b. tt })
-      (λ z f g e b a m. record { away = a; small = m; shape = L .enter-shape f g z e })
-      (λ k i z f g h l c e b a m. record { away = a; small = m; shape = L .succ-shape i (k .zone) z f g l (h .shape) e })
+      (λ z f g e b a m. record { away = a; shape = L .enter-shape f g z e })
+      (λ k i z f g h l c e b a m. record { away = a; shape = L .succ-shape i (k .zone) z f g l (h .shape) e })
       tt
 
   module _ (K : Clocks A) (L : OneSided A O M) (s e : ℕ) (fall : Falls O (λ f. M .Safe f s e)) (cap : ℕ) where
@@ -181,6 +179,5 @@ module _ (A : System) (O : Zones) (M : Meaning A O) where
           (covered (after A x (jump n)) xs (h .0 .3)
           (all-done (v .place) (v .node) (v .kept) n (h .0 .0) (h .0 .1 ∙ sym (v .at)) .covers (x .clocks) (keeps-now (x .at) (v .node .zone) (x .clocks) (v .keeps) i) (h .0 .2) (h .0 .3)) (h .1)) g
 
-      -- (a)
       pub holds : (xs : List Step) → Run A s e xs → StandsIn A (A .target) (first A) xs → ⊥
       holds xs h = covered (first A) xs (h .0) (started (h .0)) (h .1)

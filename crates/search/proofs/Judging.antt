@@ -42,9 +42,6 @@ nth-at (x ∷ xs) zero h = record { node = x; nth = refl }
 nth-at (x ∷ xs) (suc j) h = let r = nth-at xs j (omega arith) in record { node = r .node; nth = r .nth }
 
 module _ (b : List ℕ) (a : Accepted b) where
-  abbrev n : ℕ
-  n = suc (clocks b)
-
   pub n≤ : suc (clocks b) ≤ 9
   n≤ = omega (arith, a .complete .clocks≤)
 
@@ -165,11 +162,27 @@ module _ (b : List ℕ) (a : Accepted b) where
               code = refl;
             })
 
--- ---- the same, as the code has the number of indices
-module _ (b : List ℕ) (a : Accepted b) (l : ℕ) (hl : l < locations b) (w : Work) (sized : Sized lastCounts (suc (clocks b)) w)
-    (slots count : ℕ) (s : List ℤ) (i : InProgress b slots s count) (size : ℕ) (es : size ≡ suc (clocks b)) where
+-- ---- the same, as the code has it: w has entered l, which is not the target, and `size` is the number of indices
+pub record Entered (b : List ℕ) (l : ℕ) (w : Work) (slots count : ℕ) (s : List ℤ) (size : ℕ) : Type 0 where
+  pub accepted : Accepted b
+  pub location : l < locations b
+  pub away : l ≡ target b → ⊥
+  pub sized : Sized lastCounts (suc (clocks b)) w
+  pub progress : InProgress b slots s count
+  pub size≡ : size ≡ suc (clocks b)
+
+module _ {b : List ℕ} {l : ℕ} {w : Work} {slots count : ℕ} {s : List ℤ} {size : ℕ} (entered : Entered b l w slots count s size) where
+  abbrev a : Accepted b
+  a = entered .accepted
+
+  abbrev i : InProgress b slots s count
+  i = entered .progress
+
+  abbrev es : size ≡ suc (clocks b)
+  es = entered .size≡
+
   pub asks-encode : ((size ≤ 9) × (l < 256)) × AllBounded scale lastCounts size (w .zone)
-  asks-encode = ((omega (arith, es, n≤ b a), omega (arith, a .complete .locations≤)), subst (λ (k : ℕ). AllBounded scale lastCounts k (w .zone)) (sym es) (sized .ranged .bounded))
+  asks-encode = ((omega (arith, es, n≤ b a), omega (arith, entered .location, a .complete .locations≤)), subst (λ (k : ℕ). AllBounded scale lastCounts k (w .zone)) (sym es) (entered .sized .ranged .bounded))
 
   pub asks-find : {new : List ℤ} → new ≡ slotOf size l (w .zone) ++ replicate (162 - 2 * (size * size)) (pos 0) → (size ≤ 9) × (count * slotLength size ≤ length s) × (slotLength size ≤ length new)
   asks-find e = (
@@ -202,10 +215,10 @@ module _ (b : List ℕ) (a : Accepted b) (l : ℕ) (hl : l < locations b) (w : W
     read-node f = f ∙ ap (λ (k : ℕ). zoneOf k (take (length s - at) (drop at s))) es ∙ read-zone b a s j at (slot .node) at≡ (slot .slot) (slot .sound)
 
     pub asks-contain : {old : List Pair} → old ≡ zoneOf size (take (length s - at) (drop at s)) → Comparable (w .zone) old size (w .fraction)
-    asks-contain {old} f = subst (λ (k : ℕ). Comparable (w .zone) old k (w .fraction)) (sym es) (comparable b a w sized (slot .node) (slot .sound) (read-node f))
+    asks-contain {old} f = subst (λ (k : ℕ). Comparable (w .zone) old k (w .fraction)) (sym es) (comparable b a w (entered .sized) (slot .node) (slot .sound) (read-node f))
 
   -- what each branch gives
-  module _ (away : l ≡ target b → ⊥) (p : List ℕ) {new : List ℤ} (en : new ≡ slotOf size l (w .zone) ++ replicate (162 - 2 * (size * size)) (pos 0)) (j : ℕ) (h : FirstHit size new s count j) where
+  module _ (p : List ℕ) {new : List ℤ} (en : new ≡ slotOf size l (w .zone) ++ replicate (162 - 2 * (size * size)) (pos 0)) {j : ℕ} (h : FirstHit size new s count j) where
     abbrev op : ZoneState → ZoneState
     op q = offer (systemOf b) (zonesOf b) slots q l p (zone (w .zone) (w .fraction))
 
@@ -218,7 +231,7 @@ module _ (b : List ℕ) (a : Accepted b) (l : ℕ) (hl : l < locations b) (w : W
     pub gives-inside : j < count → {at : ℕ} {old : List Pair} {t : Containment} → at ≡ j * slotLength size → old ≡ zoneOf size (take (length s - at) (drop at s)) → t ≡ containmentOf size (w .zone) old (w .fraction) →
         Gives b slots s count op s (record { count = count; fraction = t .fraction; code = 0 })
     gives-inside hj {at} {old} e f g = record {
-      shows = λ s₀ q d o. judged-inside b a l away w sized slots count s s₀ _ q p d o j hits hj (e ∙ ap (λ (k : ℕ). j * slotLength k) es)
+      shows = λ s₀ q d o. judged-inside b a l (entered .away) w (entered .sized) slots count s s₀ _ q p d o j hits hj (e ∙ ap (λ (k : ℕ). j * slotLength k) es)
           (f ∙ ap (λ (k : ℕ). zoneOf k (take (length s - at) (drop at s))) es) (g ∙ ap (λ (k : ℕ). containmentOf k (w .zone) old (w .fraction)) es);
     }
 
@@ -227,17 +240,17 @@ module _ (b : List ℕ) (a : Accepted b) (l : ℕ) (hl : l < locations b) (w : W
       largest = em ∙ ap (λ (k : ℕ). largestCount k (w .zone)) es
 
       pub gives-big : counts < most → Gives b slots s count op s (record { count = count; fraction = w .fraction; code = 9 })
-      gives-big g = record { shows = λ s₀ q d o. judged-big b a l away w sized slots count s s₀ _ q p d o j hits out (subst (λ (m : ℕ). counts < m) largest g) }
+      gives-big g = record { shows = λ s₀ q d o. judged-big b a l (entered .away) w (entered .sized) slots count s s₀ _ q p d o j hits out (subst (λ (m : ℕ). counts < m) largest g) }
 
       pub gives-full : most ≤ counts → slots ≤ count → Gives b slots s count op s (record { count = count; fraction = w .fraction; code = 10 })
-      gives-full g r = record { shows = λ s₀ q d o. judged-full b a l away w sized slots count s s₀ _ q p d o j hits out (subst (λ (m : ℕ). m ≤ counts) largest g) r }
+      gives-full g r = record { shows = λ s₀ q d o. judged-full b a l (entered .away) w (entered .sized) slots count s s₀ _ q p d o j hits out (subst (λ (m : ℕ). m ≤ counts) largest g) r }
 
       pub gives-kept : most ≤ counts → count < slots → {amount : ℕ} {s′ : List ℤ} → amount ≡ slotLength size →
           s′ ≡ take (count * amount) s ++ (take amount new ++ drop (count * amount + amount) s) → Gives b slots s count op s′ (record { count = count + 1; fraction = w .fraction; code = 0 })
       gives-kept g r {amount} e f =
           let k = e ∙ ap slotLength es in
           record {
-            shows = λ s₀ q d o. judged-kept b a l away w sized slots count s s₀ _ q p d o j hits out (subst (λ (m : ℕ). m ≤ counts) largest g) r (ap (λ (x : ℕ). count * x) k)
+            shows = λ s₀ q d o. judged-kept b a l (entered .away) w (entered .sized) slots count s s₀ _ q p d o j hits out (subst (λ (m : ℕ). m ≤ counts) largest g) r (ap (λ (x : ℕ). count * x) k)
                 (f ∙ (λ i. take (count * amount) s ++ (take (k i) (new≡ i) ++ drop (count * amount + k i) s)));
           }
 

@@ -1,4 +1,4 @@
--- The theory of the reader: laws of its definitions, where the parts of an automaton stand, and what an accepted one obeys.
+-- What is proved of the definitions: of the reader, of the search over any zones, of an automaton's zones, slots and store, and of the answer.
 pub mod Some
 pub mod Places
 pub mod Resets

@@ -1,7 +1,7 @@
 -- Elements of a list by their place.
 use Prim.Native.Nat.{ℕ, zero, suc, _≤_, _<_}
 use mathlib.Core.List.{List, [], _∷_, _++_}
-use mathlib.Core.Path.{_≡_, refl, sym, ap, _∙_, subst}
+use mathlib.Core.Path.{_≡_, refl, sym, _∙_}
 use mathlib.Core.Logic.{_⊎_, inl, inr}
 use lib.ListN.{length, drop}
 use native.Mathlib.Omega.{arith}
@@ -38,38 +38,16 @@ module _ {X : Type 0} where
   nth-lt (x ∷ xs) zero k h = omega arith
   nth-lt (x ∷ xs) (suc j) k h = omega (arith, nth-lt xs j k h)
 
+  clash : {x : X} {xs : List X} → [] ≡ x ∷ xs → ⊥
+  clash e = let z : _≡_ {A = ℕ} 0 1 = cc in omega arith
+
   pub nth-drop : (xs : List X) (n : ℕ) (k : X) (ks : List X) → drop n xs ≡ k ∷ ks → Nth xs n k
   nth-drop [] zero k ks h = clash h
-    where
-      Is : List X → Type 0
-      Is [] = Unit {0}
-      Is (y ∷ ys) = ⊥
-
-      clash : [] ≡ k ∷ ks → ⊥
-      clash e = subst Is e tt
   nth-drop [] (suc n) k ks h = clash h
-    where
-      Is : List X → Type 0
-      Is [] = Unit {0}
-      Is (y ∷ ys) = ⊥
-
-      clash : [] ≡ k ∷ ks → ⊥
-      clash e = subst Is e tt
-  nth-drop (x ∷ xs) zero k ks h = head h
-    where
-      hd : X → List X → X
-      hd d [] = d
-      hd d (y ∷ ys) = y
-
-      head : x ∷ xs ≡ k ∷ ks → x ≡ k
-      head e = ap (hd x) e
+  nth-drop (x ∷ xs) zero k ks h = cc
   nth-drop (x ∷ xs) (suc n) k ks h = nth-drop xs n k ks h
 
   pub drop-none : (xs : List X) (n : ℕ) → drop n xs ≡ [] → length xs ≤ n
   drop-none [] n h = omega arith
-  drop-none (x ∷ xs) zero h = absurd (subst Is (sym h) tt)
-    where
-      Is : List X → Type 0
-      Is [] = Unit {0}
-      Is (y ∷ ys) = ⊥
+  drop-none (x ∷ xs) zero h = absurd (clash (sym h))
   drop-none (x ∷ xs) (suc n) h = omega (arith, drop-none xs n h)

@@ -1,29 +1,23 @@
--- Demands 2 and 3 of the search, from the laws of zones.
-use Prim.Native.Nat.{ℕ, zero, suc, _<_}
+-- From the laws of zones: below the exact fraction a kept zone is the exact set, and where the target is reached, a run reaches it.
+use Prim.Native.Nat.{ℕ, _<_}
 use mathlib.Core.List.{List, [], _∷_, _++_}
 use mathlib.Core.Path.{_≡_, refl, ap, _∙_, subst}
 use borrow.Author.Tests.{eqb-true}
 use native.Mathlib.Omega.{arith}
-use Rattle.search.specs.Runs.{System, Stand, first, Ends}
-use Rattle.search.specs.Search.{zone, fracOf, Zones, Nth, offer, begin, search, verdictOf}
-use Rattle.search.specs.Meaning.{Meaning, Laws, SameSet, Hit, Robust}
+use Rattle.search.specs.Runs.{System, Stand, first}
+use Rattle.search.specs.Search.{zone, fracOf, Zones, Nth, offer, begin, search}
+use Rattle.search.specs.Meaning.{Meaning, Laws, SameSet, Hit}
 use Rattle.search.proofs.Paths.{last-stands}
 use Rattle.search.proofs.Judged.{Nd, St, Res, find-inside, Judged, was-empty, was-target, was-inside, was-big, was-kept, was-full, judged, All, begin-all, step-all, take-keeps}
 use Rattle.search.proofs.Cover.{holds}
 use Rattle.search.proofs.Same.{Tight, tight-start, tight-next, all-whole, all-tight}
 
 module _ (A : System) (O : Zones) (M : Meaning A O) (s₀ e₀ : ℕ) (L : Laws A O M s₀ e₀) (cap : ℕ) where
-  -- (d)
   pub same : (s e : ℕ) → M .Exact (search A O cap .frac) s e → All A O cap (SameSet A O M s e) (search A O cap .kept)
   same s e b j k n v = (
     all-tight A O M s e s₀ e₀ (L .one-sided) (L .both) (L .exact s e) cap b j k n .ends v,
     all-whole A O M s e (L .clocks) (L .one-sided) (L .safe s e) cap (L .tighter _ s e b) j k n .holds v,
   )
-
-  -- between the two fractions a kept zone still contains the exact set
-  pub contains : (s e : ℕ) → M .Safe (search A O cap .frac) s e → (j : ℕ) (k : Nd A O) → Nth (search A O cap .kept) j k
-      → (v : A .Val) → Ends A s e (k .path) (k .at) v → M .In (k .zone) s e v
-  contains s e b j k n = all-whole A O M s e (L .clocks) (L .one-sided) (L .safe s e) cap b j k n .holds
 
   -- ---- reached
   abbrev B : O .F → Type 0
@@ -84,20 +78,9 @@ module _ (A : System) (O : Zones) (M : Meaning A O) (s₀ e₀ : ℕ) (L : Laws 
   unfolding search
   ends = take-keeps A O cap Reaching goes-on cap 0 (begin A O cap) starts
 
-  -- (b)
   pub reached-hits : search A O cap .code ≡ 1 → Hit A s₀ e₀
   reached-hits = ends .hit
 
   -- the fraction never shuts out s₀ and e₀
   pub exact-there : M .Exact (search A O cap .frac) s₀ e₀
   exact-there = ends .fine
-
-  -- (c)
-  pub robust : Robust A s₀ e₀ (M .Safe) (verdictOf (search A O cap))
-  unfolding verdictOf
-  robust = go (search A O cap .code) refl
-    where
-      go : (c : ℕ) → search A O cap .code ≡ c → Robust A s₀ e₀ (M .Safe) (verdictOf (search A O cap))
-      go zero e = rw (verdictOf, e) (λ s t l b. holds A O M (L .clocks) (L .one-sided) s t (L .safe s t) cap e b)
-      go (suc zero) e = rw (verdictOf, e) (reached-hits e)
-      go (suc (suc c)) e = rw (verdictOf, e) tt

@@ -56,9 +56,6 @@ module _ (n : ℕ) where
       e : suc b + a * 9 ≡ suc (b + a * 9)
       e = omega arith
 
-      col : (b + a * 9) % 9 ≡ b
-      col = omega arith
-
       go : counted n (b + a * 9) ≡ min b n + counted n (a * 9) → Dec (b < n) → counted n (suc b + a * 9) ≡ min (suc b) n + counted n (a * 9)
       go ih (yes p) = rw e (omega (arith, counted-in (b + a * 9) (omega arith)))
       go ih (no p) = rw e (omega (arith, counted-out (b + a * 9) (omega arith)))

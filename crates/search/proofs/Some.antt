@@ -9,20 +9,31 @@ use native.Mathlib.Omega.{arith}
 use Rattle.zones.proofs.Choices.{true-false}
 use Rattle.search.specs.Automata.{some}
 
-pub some-yes : (f : ℕ → Bool) (k : ℕ) → 0 < k → f (k - 1) ≡ true → some k f ≡ true
-unfolding some
-some-yes f zero h e = absurd (not-suc-le-zero h)
-some-yes f (suc k) h e = let g : suc k - 1 ≡ k = omega arith in rw (rw g at e)
+-- ---- at i on the way down from n: of the numbers below n, those below i are left to ask
+pub record Down (n : ℕ) (whole : Bool) (f : ℕ → Bool) (i : ℕ) : Type 0 where
+  pub most : i ≤ n
+  pub rest : whole ≡ some i f
 
-pub some-no : (f : ℕ → Bool) (k : ℕ) → 0 < k → f (k - 1) ≡ false → some k f ≡ some (k - 1) f
-unfolding some
-some-no f zero h e = absurd (not-suc-le-zero h)
-some-no f (suc k) h e = let g : suc k - 1 ≡ k = omega arith in rw (rw g at e) (ap (λ (n : ℕ). some n f) (sym g))
+module _ {n : ℕ} {whole : Bool} {f : ℕ → Bool} where
+  pub begins : whole ≡ some n f → Down n whole f n
+  begins e = record { most = omega arith; rest = e }
 
-pub some-none : (f : ℕ → Bool) (k : ℕ) → k ≤ 0 → some k f ≡ false
-unfolding some
-some-none f zero h = refl
-some-none f (suc k) h = absurd (not-suc-le-zero h)
+  pub found : {i : ℕ} → Down n whole f i → 0 < i → f (i - 1) ≡ true → true ≡ whole
+  unfolding some
+  found {i = zero} d h e = absurd (not-suc-le-zero h)
+  found {i = suc k} d h e = let g : suc k - 1 ≡ k = omega arith in sym (d .rest ∙ rw (rw g at e))
+
+  pub passed : {i : ℕ} → Down n whole f i → 0 < i → f (i - 1) ≡ false → Down n whole f (i - 1)
+  unfolding some
+  passed {i = zero} d h e = absurd (not-suc-le-zero h)
+  passed {i = suc k} d h e =
+      let g : suc k - 1 ≡ k = omega arith in
+      record { most = omega (arith, d .most); rest = d .rest ∙ rw (rw g at e) (ap (λ (m : ℕ). some m f) (sym g)) }
+
+  pub ends : {i : ℕ} → Down n whole f i → i ≤ 0 → false ≡ whole
+  unfolding some
+  ends {i = zero} d h = sym (d .rest)
+  ends {i = suc k} d h = absurd (not-suc-le-zero h)
 
 -- where none passes, each fails
 pub fails : (f : ℕ → Bool) (k : ℕ) → some k f ≡ false → (i : ℕ) → i < k → f i ≡ false

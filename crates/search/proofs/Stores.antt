@@ -9,9 +9,6 @@ use lib.Dec.{ltb, eqb}
 use lib.IntN.{ℤ, pos}
 use lib.ListN.{length, getD, take, drop, length-append, length-drop}
 use lib.Seq.{getD-drop, drop-drop, take-at, drop-at, take-all}
-use mir.Facts.{toZ-ofZ}
-use mir.Syntax.{w32}
-use mir.Val.{SFits, ofZ, toZ}
 use native.Mathlib.Omega.{arith}
 use lib.Ieee.Nearest.{div-mono}
 use native.Mathlib.Nat.{mul-le-mul-right, le-trans, le-of-lt, div-mul-le-self}
@@ -205,10 +202,6 @@ capacity-more n amount amount′ h = go (ltb mostSlots (amount / slotLength n)) 
 -- a slot that is among the first `count` lies in the store
 pub slot-fits : (L : ℕ) {j count at len : ℕ} → j < count → count * L ≤ len → at ≡ j * L → at + L ≤ len
 slot-fits L {j} {count} h k e = omega (arith, mul-le-mul-right L h)
-
--- a test on the numbers of two slots, as the code makes it: equal bits are equal numbers
-pub same-bits : {x y : ℤ} → SFits w32 x → SFits w32 y → ofZ w32 x ≡ ofZ w32 y → x ≡ y
-same-bits hx hy e = sym (toZ-ofZ hx) ∙ ap (toZ w32) e ∙ toZ-ofZ hy
 
 -- what a callee gets of a store that is lent from `at` on
 pub lent-part : (s : List ℤ) (at : ℕ) → take (length s - at) (drop at s) ≡ drop at s

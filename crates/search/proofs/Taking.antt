@@ -3,7 +3,7 @@
 use Prim.Native.Nat.{ℕ, zero, suc, _+_, _-_, _*_, _<_, _≤_}
 use mathlib.Core.Path.{_≡_, refl, sym, ap, _∙_, subst}
 use mathlib.Core.List.{List, [], _∷_, _++_}
-use lib.IntN.{ℤ, pos, negsuc, natAbs}
+use lib.IntN.{ℤ, pos, natAbs}
 use lib.Dec.{T}
 use mir.Syntax.{w32, w64}
 use mir.Val.{Fits, SFits, ofZ, toZ}
@@ -58,6 +58,12 @@ module _ (b : List ℕ) (slots : ℕ) where
   abbrev pub taken : ℕ → ℕ → ZoneState → ZoneState
   taken left next q = take-from (systemOf b) (zonesOf b) slots left next q
 
+  -- what the turn at `next` leaves
+  pub record Turned (s₀ : List ℤ) (q₀ : ZoneState) (next : ℕ) (s : List ℤ) (t : Turn) : Type 0 where
+    pub same-length : slots * slotLength (suc (clocks b)) ≤ length s₀ → length s ≡ length s₀
+    pub goes-on : t .code ≡ 0 → Onward s₀ q₀ (next + 1) s t
+    pub stops : (t .code ≡ 0 → ⊥) → Shown (suc (clocks b)) s₀ (taken slots 0 q₀) s t
+
   pub begins : (s₀ : List ℤ) (q₀ : ZoneState) (s : List ℤ) (t : Turn) → Shown (suc (clocks b)) s₀ q₀ s t → SoundState b slots q₀ → q₀ .code ≡ 0 → Onward s₀ q₀ 0 s t
   begins s₀ q₀ s t h o g = record { state = q₀; shown = h; sound = o; going = g; rest = let e : slots - 0 ≡ slots = omega arith in ap (λ (m : ℕ). taken m 0 q₀) e }
 
@@ -78,8 +84,9 @@ module _ (b : List ℕ) (a : Accepted b) (slots : ℕ) where
   pub expand-sound : (j : ℕ) (k : ZoneNode) (q : ZoneState) → Nth (q .kept) j k → SoundState b slots q → SoundState b slots (expand (systemOf b) (zonesOf b) slots k (edges b) 0 q)
   expand-sound j k q m o = expand-keeps (systemOf b) (zonesOf b) slots (SoundState b slots) step-sound j k (edges b) 0 q m (omega arith) o
 
-  -- ---- the node at `next`
-  module _ (s₀ : List ℤ) (q₀ : ZoneState) (next : ℕ) (s : List ℤ) (t : Turn) (w : Onward b slots s₀ q₀ next s t) (h : next < t .count) where
+-- ---- the node at `next`
+module _ {b : List ℕ} (a : Accepted b) {slots : ℕ} where
+  module _ {s₀ : List ℤ} {q₀ : ZoneState} {next : ℕ} {s : List ℤ} {t : Turn} (w : Onward b slots s₀ q₀ next s t) (h : next < t .count) where
     pub onward : slots * slotLength (suc (clocks b)) ≤ length s₀ → Going b slots s t
     onward room = record { base = s₀; state = w .state; shown = w .shown; sound = w .sound; going = w .going; room = room }
 
@@ -92,7 +99,7 @@ module _ (b : List ℕ) (a : Accepted b) (slots : ℕ) where
     pub few : next < slots
     few = omega (arith, w .shown .stored .number, w .sound .most)
 
-    module _ (at : ℕ) (e : at ≡ next * slotLength (suc (clocks b))) where
+    module _ {at : ℕ} (e : at ≡ next * slotLength (suc (clocks b))) where
       slot : SlotAt (suc (clocks b)) (n≤ b a) s next (here .node)
       slot = subst (λ (u : List ℤ). SlotAt (suc (clocks b)) (n≤ b a) u next (here .node)) (sym (w .shown .stored .store)) (slot-at (suc (clocks b)) (n≤ b a) (w .state .kept) s₀ next (here .node) (here .nth))
 
@@ -105,13 +112,10 @@ module _ (b : List ℕ) (a : Accepted b) (slots : ℕ) where
       pub location : getD s at (pos 0) ≡ pos (here .node .at)
       location = sym (getD-drop at s 0 (pos 0) ∙ ap (λ (i : ℕ). getD s i (pos 0)) at+0) ∙ ap (λ (i : ℕ). getD (drop i s) 0 (pos 0)) e ∙ ap (λ (u : List ℤ). getD u 0 (pos 0)) (slot .same) ∙ slot-location (suc (clocks b)) (here .node .at) (here .node .zone) (slot .rest)
 
-      pub small : here .node .at < 256
-      small = omega (arith, sound-node .location, a .complete .locations≤)
-
       pub asks-decode : slots * slotLength (suc (clocks b)) ≤ length s₀ → ((suc (clocks b) ≤ 9) × (slotLength (suc (clocks b)) ≤ length (take (length s - at) (drop at s)))) × ((i : ℕ) → i < suc (clocks b) * suc (clocks b) → pos 0 ≤ℤ getD (take (length s - at) (drop at s)) (2 + 2 * i) (pos 0))
       asks-decode room = ((n≤ b a, omega (arith, lent-length s at, slot-inside room)), read-counts b a s next at (here .node) e slot)
 
-      module _ (z : List Pair) (ez : z ≡ zoneOf (suc (clocks b)) (take (length s - at) (drop at s))) where
+      module _ {z : List Pair} (ez : z ≡ zoneOf (suc (clocks b)) (take (length s - at) (drop at s))) where
         zone≡ : z ≡ here .node .zone
         zone≡ = ez ∙ read-zone b a s next at (here .node) e slot sound-node
 
@@ -119,17 +123,10 @@ module _ (b : List ℕ) (a : Accepted b) (slots : ℕ) where
         sound-zone = subst (SoundZone b) (sym zone≡) (record { ranged = sound-node .ranged; framed = sound-node .framed })
 
         -- s′ and t′ are what the expansion left
-        module _ (l : ℕ) (el : getD s at (pos 0) ≡ pos l) (s′ : List ℤ) (t′ : Turn)
+        module _ {l : ℕ} (el : getD s at (pos 0) ≡ pos l) {s′ : List ℤ} {t′ : Turn}
             (g : (p : List ℕ) → Continues b slots s t (expand (systemOf b) (zonesOf b) slots (record { at = l; zone = z; path = p }) (edges b) 0) s′ t′) where
           at≡ : l ≡ here .node .at
-          at≡ = number (sym el ∙ location)
-            where
-              magnitude : ℤ → ℕ
-              magnitude (pos x) = x
-              magnitude (negsuc x) = 0
-
-              number : pos l ≡ pos (here .node .at) → l ≡ here .node .at
-              number d = ap magnitude d
+          at≡ = let e : pos l ≡ pos (here .node .at) = sym el ∙ location in cc
 
           same-node : record { at = l; zone = z; path = here .node .path } ≡ here .node
           same-node = λ i. record { at = at≡ i; zone = zone≡ i; path = here .node .path }
@@ -138,7 +135,7 @@ module _ (b : List ℕ) (a : Accepted b) (slots : ℕ) where
           shown = subst (λ (k : ZoneNode). Shown (suc (clocks b)) s₀ (expand (systemOf b) (zonesOf b) slots k (edges b) 0 (w .state)) s′ t′) same-node (g (here .node .path) .shows s₀ (w .state) (w .shown) (w .sound) (w .going))
 
           sound : SoundState b slots (expand (systemOf b) (zonesOf b) slots (here .node) (edges b) 0 (w .state))
-          sound = expand-sound next (here .node) (w .state) (here .nth) (w .sound)
+          sound = expand-sound b a slots next (here .node) (w .state) (here .nth) (w .sound)
 
           rest : taken b slots (slots - (next + 1)) (next + 1) (expand (systemOf b) (zonesOf b) slots (here .node) (edges b) 0 (w .state)) ≡ taken b slots slots 0 q₀
           rest =
@@ -147,16 +144,19 @@ module _ (b : List ℕ) (a : Accepted b) (slots : ℕ) where
               sym (ap (λ (m : ℕ). taken b slots m next (w .state)) f ∙ take-one (systemOf b) (zonesOf b) slots (slots - (next + 1)) next (w .state) (here .node) _ (drop-nth (w .state .kept) next (here .node) (here .nth))
               ∙ ap (λ (j : ℕ). taken b slots (slots - (next + 1)) j (expand (systemOf b) (zonesOf b) slots (here .node) (edges b) 0 (w .state))) c) ∙ w .rest
 
-          pub opened-length : slots * slotLength (suc (clocks b)) ≤ length s₀ → length s′ ≡ length s₀
-          opened-length room = shown-length b a slots s₀ (expand (systemOf b) (zonesOf b) slots (here .node) (edges b) 0 (w .state)) s′ room shown sound
+          same-length : slots * slotLength (suc (clocks b)) ≤ length s₀ → length s′ ≡ length s₀
+          same-length room = shown-length b a slots s₀ (expand (systemOf b) (zonesOf b) slots (here .node) (edges b) 0 (w .state)) s′ room shown sound
 
-          pub goes-on : t′ .code ≡ 0 → Onward b slots s₀ q₀ (next + 1) s′ t′
+          goes-on : t′ .code ≡ 0 → Onward b slots s₀ q₀ (next + 1) s′ t′
           goes-on c = record { state = expand (systemOf b) (zonesOf b) slots (here .node) (edges b) 0 (w .state); shown = shown; sound = sound; going = sym (shown .code) ∙ c; rest = rest }
 
-          pub stops : (t′ .code ≡ 0 → ⊥) → Shown (suc (clocks b)) s₀ (taken b slots slots 0 q₀) s′ t′
+          stops : (t′ .code ≡ 0 → ⊥) → Shown (suc (clocks b)) s₀ (taken b slots slots 0 q₀) s′ t′
           stops c = go (expand (systemOf b) (zonesOf b) slots (here .node) (edges b) 0 (w .state) .code) refl
             where
               go : (k : ℕ) → expand (systemOf b) (zonesOf b) slots (here .node) (edges b) 0 (w .state) .code ≡ k → Shown (suc (clocks b)) s₀ (taken b slots slots 0 q₀) s′ t′
               go zero d = absurd (c (shown .code ∙ d))
               go (suc k) d = subst (λ (q : ZoneState). Shown (suc (clocks b)) s₀ q s′ t′)
                   (sym (take-later (systemOf b) (zonesOf b) slots (slots - (next + 1)) (next + 1) (expand (systemOf b) (zonesOf b) slots (here .node) (edges b) 0 (w .state)) .stopped k d) ∙ rest) shown
+
+          pub turned : Turned b slots s₀ q₀ next s′ t′
+          turned = record { same-length = same-length; goes-on = goes-on; stops = stops }

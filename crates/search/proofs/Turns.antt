@@ -24,12 +24,12 @@ use Rattle.search.specs.Slots.{pairsTo, flat, slotOf, slotPair, counted,
 use Rattle.search.proofs.Slotted.{counted-in, counted-out, counted-all, counted-below, pairs-in, pairs-out, pairs-length, flat-length, flat-split, square-in, square-out}
 
 -- ---- `is_within`: the code compares the numbers' bits
-module _ (x y : ℤ) (hx : SFits w32 x) (hy : SFits w32 y) where
+module _ {x y : ℤ} (hx : SFits w32 x) (hy : SFits w32 y) where
   tested : (t : Bool) → ltZ (toZ w32 (ofZ w32 x)) (toZ w32 (ofZ w32 y)) ≡ t → ltZ x y ≡ t
   tested t e = rw (toZ-ofZ w32 x hx, toZ-ofZ w32 y hy) at e
 
-  same : ofZ w32 x ≡ ofZ w32 y → x ≡ y
-  same e = sym (toZ-ofZ w32 x hx) ∙ ap (toZ w32) e ∙ toZ-ofZ w32 y hy
+  pub same-bits : ofZ w32 x ≡ ofZ w32 y → x ≡ y
+  same-bits e = sym (toZ-ofZ w32 x hx) ∙ ap (toZ w32) e ∙ toZ-ofZ w32 y hy
 
 irreflexive : (x : ℤ) → ltZ x x ≡ false
 irreflexive x = le-ltZ x x (omega (arith, int))
@@ -66,21 +66,21 @@ module _ (new old : List ℤ) (t : ℕ) where
 
   module _ (ho : SFits w32 oldM) (hn : SFits w32 newM) where
     pub stops-m : (pairs : ℕ) → t < pairs → ltZ (toZ w32 (ofZ w32 oldM)) (toZ w32 (ofZ w32 newM)) ≡ true → false ≡ withinSlots new old pairs
-    stops-m pairs h e = stops pairs h (rw (tested oldM newM ho hn true e))
+    stops-m pairs h e = stops pairs h (rw (tested ho hn true e))
 
     pub stops-p : (pairs : ℕ) → t < pairs → ofZ w32 oldM ≡ ofZ w32 newM → SFits w32 oldP → SFits w32 newP → ltZ (toZ w32 (ofZ w32 oldP)) (toZ w32 (ofZ w32 newP)) ≡ true → false ≡ withinSlots new old pairs
-    stops-p pairs h e fo fn g = stops pairs h (rw (same oldM newM ho hn e, irreflexive newM, tested oldP newP fo fn true g))
+    stops-p pairs h e fo fn g = stops pairs h (rw (same-bits ho hn e, irreflexive newM, tested fo fn true g))
 
     pub goes-p : ofZ w32 oldM ≡ ofZ w32 newM → SFits w32 oldP → SFits w32 newP → ltZ (toZ w32 (ofZ w32 oldP)) (toZ w32 (ofZ w32 newP)) ≡ false → withinSlots new old t ≡ true → withinSlots new old (t + 1) ≡ true
-    goes-p e fo fn g = goes (rw (same oldM newM ho hn e, irreflexive newM, tested oldP newP fo fn false g))
+    goes-p e fo fn g = goes (rw (same-bits ho hn e, irreflexive newM, tested fo fn false g))
 
     pub goes-m : ltZ (toZ w32 (ofZ w32 oldM)) (toZ w32 (ofZ w32 newM)) ≡ false → (ofZ w32 oldM ≡ ofZ w32 newM → ⊥) → withinSlots new old t ≡ true → withinSlots new old (t + 1) ≡ true
-    goes-m e d = goes (rw (tested oldM newM ho hn false e, above (ltZ newM oldM) refl))
+    goes-m e d = goes (rw (tested ho hn false e, above (ltZ newM oldM) refl))
       where
         above : (b : Bool) → ltZ newM oldM ≡ b → ltZ newM oldM ≡ true
         above true g = g
         above false g =
-            let q : oldM ≡ newM = omega (arith, int, ltZ-false oldM newM (tested oldM newM ho hn false e), ltZ-false newM oldM g) in
+            let q : oldM ≡ newM = omega (arith, int, ltZ-false oldM newM (tested ho hn false e), ltZ-false newM oldM g) in
             absurd (d (ap (ofZ w32) q))
 
 -- ---- `get_pair`: a number of 32 bits, read wide

@@ -1,12 +1,12 @@
 -- What zones mean, and the laws that the search rests on: the one-sided ones below the safe fraction, the others below the exact one.
 -- In document 01 the two fractions are one.
-use Prim.Native.Nat.{ℕ, _+_, _<_, _≤_}
+use Prim.Native.Nat.{ℕ, _+_, _<_}
 use mathlib.Core.List.{List}
 use mathlib.Core.Bool.{true}
 use mathlib.Core.Path.{_≡_}
 use mathlib.Core.Logic.{_↔_}
 use Rattle.search.specs.Runs.{System, Step, Run, StandsIn, first, Ends}
-use Rattle.search.specs.Search.{empty, zone, fracOf, Zones, Node, Verdict, holds, reached, refused}
+use Rattle.search.specs.Search.{empty, zone, fracOf, Zones, Node}
 
 pub record Meaning (A : System) (O : Zones) : Type 1 where
   pub In : O .Z → (s e : ℕ) → A .Val → Type 0
@@ -93,10 +93,3 @@ pub record Hit (A : System) (s e : ℕ) : Type 0 where
   pub steps : List Step
   pub run : Run A s e steps
   pub stands : StandsIn A (A .target) (first A) steps
-
--- demand 3, with 1 and 0 for s₀ and e₀
-module _ (A : System) (s₀ e₀ : ℕ) {F : Type 0} (Below : F → (s e : ℕ) → Type 0) where
-  abbrev pub Robust : Verdict F → Type 0
-  Robust (holds f) = (s e : ℕ) → 1 ≤ s → Below f s e → (xs : List Step) → Run A s e xs → StandsIn A (A .target) (first A) xs → ⊥
-  Robust reached = Hit A s₀ e₀
-  Robust (refused c) = Unit {0}

@@ -99,11 +99,3 @@ module _ (A : System) (O : Zones) where
 
     unfoldable pub search : State (O .Z) (O .F)
     search = take-from cap 0 begin
-
-pub data Verdict (F : Type 0) : Type 0 where
-  holds : F → Verdict F
-  reached : Verdict F
-  refused : ℕ → Verdict F
-
-unfoldable pub verdictOf : {Z F : Type 0} → State Z F → Verdict F
-verdictOf q = elim (q .code) [ zero ↦ holds (q .frac) | suc c ↦ elim c [ zero ↦ reached | suc d ↦ refused (suc (suc d)) ] ]

@@ -1,6 +1,6 @@
+-- The answer, by the code with which the search stopped.
 -- Assumes nothing.
 use Rattle.search.proofs.Answers.{answer-holds, answer-reached, answer-refused}
-use borrow.Author.Needs.{needs}
 use borrow.Author.Needs.{needs}
 use Rattle.search.proofs.answer.Statement.{statement}
 use Rattle.search.proofs.answer.Tie as tie

@@ -1,3 +1,4 @@
+-- The fraction given out: in lowest terms, or no limit.
 -- Assumes nothing.
 use Rattle.search.proofs.Answers.{holding-any, holding-below}
 use borrow.Author.Needs.{needs}

@@ -1,5 +1,7 @@
+-- The answer and the store are the definition's, and the answer has what is promised of it.
 -- Assumes nothing.
-use mathlib.Core.Path.{sym, _∙_, subst}
+use mathlib.Core.Path.{_≡_, sym, _∙_, subst}
+use Rattle.search.specs.Automata.{refusalOf}
 use Rattle.search.specs.Promised.{Promised}
 use Rattle.search.proofs.Accepting.{accepted}
 use Rattle.search.proofs.Answers.{refused-answer, refused-store, count-small, searched-answer, searched-store}
@@ -16,20 +18,22 @@ returns c =
     let answer = refused-answer _ (c .before .refusal .ensures) (c .if1 .taken) _ in
     (answer, (refused-store _ (c .before .refusal .ensures) (c .if1 .taken) _, subst (Promised _ _) (sym answer) (promised _ _)))
 
+ok : (c : tie.Else1) → refusalOf (c .before .before .before .args .automaton .now) ≡ 0
+ok c = sym (c .before .refusal .ensures) ∙ c .if1 .left
+
 explore-requires : tie.Need-explore-requires
-explore-requires c κs = accepted _ (sym (c .before .before .refusal .ensures) ∙ c .before .if1 .left)
+explore-requires c κs = accepted _ (ok (c .before))
 
 answer-requires : tie.Need-answer-requires
-answer-requires c κs = count-small _ (sym (c .before .before .before .before .refusal .ensures) ∙ c .before .before .before .if1 .left) _ _ _ (c .before .explore .ensures)
+answer-requires c κs = count-small _ (ok (c .before .before .before)) _ _ _ (c .before .explore .ensures)
 
 same-length : tie.Need-same-length
 same-length c = search needs
 
 returns-2 : tie.Need-returns-2
 returns-2 c =
-    let ok = sym (c .before .before .before .before .before .refusal .ensures) ∙ c .before .before .before .before .if1 .left in
-    let answer = searched-answer _ ok _ _ _ (c .before .before .explore .ensures) (c .answer .ensures) in
-    (answer, (searched-store _ ok _ _ _ (c .before .before .explore .ensures), subst (Promised _ _) (sym answer) (promised _ _)))
+    let answer = searched-answer _ (ok (c .before .before .before .before)) _ _ _ (c .before .before .explore .ensures) (c .answer .ensures) in
+    (answer, (searched-store _ (ok (c .before .before .before .before)) _ _ _ (c .before .before .explore .ensures), subst (Promised _ _) (sym answer) (promised _ _)))
 
 pub search-spec : {M : Type 1} → statement M
 search-spec =

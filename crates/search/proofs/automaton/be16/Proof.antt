@@ -1,3 +1,4 @@
+-- Two bytes read as a number, big-endian.
 use borrow.Author.Needs.{needs}
 use Rattle.search.specs.Automata.{be16At}
 use Rattle.search.proofs.automaton.be16.Statement.{statement}

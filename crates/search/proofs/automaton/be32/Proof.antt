@@ -1,3 +1,4 @@
+-- Four bytes read as a number, big-endian.
 use borrow.Author.Needs.{needs}
 use Rattle.search.specs.Automata.{be32At}
 use Rattle.search.proofs.automaton.be32.Statement.{statement}

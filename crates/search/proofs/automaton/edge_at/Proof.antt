@@ -1,3 +1,5 @@
+-- Where an edge stands: no product or sum of the counts wraps.
+use Prim.Native.Nat.{_+_, _*_, _<_, _≤_}
 use native.Mathlib.Omega.{arith}
 use borrow.Author.Needs.{needs}
 use Rattle.search.specs.Automata.{edgeAt}
@@ -14,23 +16,33 @@ mul-result c = omega (arith, c .before .shared-slice-known .given 5)
 locations-requires : tie.Need-locations-requires
 locations-requires c κs = search needs
 
+module _ (c : tie.After-locations) where
+  few : c .before .clocks .result < 256
+  few = omega (arith, c .before .before .shared-slice-known .given 5)
+
+  table : 8 * c .before .clocks .result * c .locations .result ≤ 520200
+  table = table-size (c .before .clocks .result) (c .locations .result) few (omega (arith, c .before .before .shared-slice-known .given 6))
+
+  rows : c .before .before .before .args .i * (3 + 8 * c .before .clocks .result) ≤ 133888005
+  rows = rows-size (c .before .before .before .args .i) (c .before .clocks .result) (omega arith) few
+
 mul-result-2 : tie.Need-mul-result-2
-mul-result-2 c = omega (arith, table-size (c .before .clocks .result) (c .locations .result) (omega (arith, c .before .before .shared-slice-known .given 5)) (omega (arith, c .before .before .shared-slice-known .given 6)))
+mul-result-2 c = omega (arith, table c)
 
 add-result : tie.Need-add-result
-add-result c = omega (arith, table-size (c .before .clocks .result) (c .locations .result) (omega (arith, c .before .before .shared-slice-known .given 5)) (omega (arith, c .before .before .shared-slice-known .given 6)))
+add-result c = omega (arith, table c)
 
 mul-result-3 : tie.Need-mul-result-3
-mul-result-3 c = omega (arith, c .before .before .shared-slice-known .given 5)
+mul-result-3 c = omega (arith, few c)
 
 add-result-2 : tie.Need-add-result-2
-add-result-2 c = omega (arith, c .before .before .shared-slice-known .given 5)
+add-result-2 c = omega (arith, few c)
 
 mul-result-4 : tie.Need-mul-result-4
-mul-result-4 c = omega (arith, rows-size (c .before .before .before .args .i) (c .before .clocks .result) (omega arith) (omega (arith, c .before .before .shared-slice-known .given 5)))
+mul-result-4 c = omega (arith, rows c)
 
 add-result-3 : tie.Need-add-result-3
-add-result-3 c = omega (arith, table-size (c .before .clocks .result) (c .locations .result) (omega (arith, c .before .before .shared-slice-known .given 5)) (omega (arith, c .before .before .shared-slice-known .given 6)), rows-size (c .before .before .before .args .i) (c .before .clocks .result) (omega arith) (omega (arith, c .before .before .shared-slice-known .given 5)))
+add-result-3 c = omega (arith, table c, rows c)
 
 returns : tie.Need-returns
 unfolding edgeAt

@@ -1,3 +1,4 @@
+-- The clocks that an edge resets are those of its reset byte.
 use mathlib.Core.Path.{_∙_}
 use borrow.Author.Needs.{needs}
 use Rattle.search.proofs.automaton.edge_resets.Statement.{statement}

@@ -1,3 +1,4 @@
+-- The destination of an edge lies within the bytes, where the definition reads it.
 use mathlib.Core.Path.{_∙_}
 use native.Mathlib.Omega.{arith}
 use borrow.Author.Needs.{needs}
@@ -9,10 +10,10 @@ edge-at-requires : tie.Need-edge-at-requires
 edge-at-requires c κs = search needs
 
 add-wide : tie.Need-add-wide
-add-wide c = omega (arith, edge-within (c .before .before .args .automaton .now) (c .before .before .pre .0) (c .before .before .args .i) (c .before .before .pre .1))
+add-wide c = omega (arith, edge-within _ (c .before .before .pre .0) _ (c .before .before .pre .1))
 
 shared-slice-read-wide : tie.Need-shared-slice-read-wide
-shared-slice-read-wide c = omega (arith, edge-within (c .before .before .before .args .automaton .now) (c .before .before .before .pre .0) (c .before .before .before .args .i) (c .before .before .before .pre .1))
+shared-slice-read-wide c = omega (arith, edge-within _ (c .before .before .before .pre .0) _ (c .before .before .before .pre .1))
 
 wide-requires : tie.Need-wide-requires
 wide-requires c κs = search needs

@@ -1,3 +1,4 @@
+-- Where the limits of a location stand: no product or sum of the counts wraps.
 use native.Mathlib.Omega.{arith}
 use borrow.Author.Needs.{needs}
 use Rattle.search.specs.Automata.{invariantAt}

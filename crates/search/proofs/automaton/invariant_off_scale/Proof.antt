@@ -1,11 +1,12 @@
-use Prim.Native.Nat.{ℕ, _-_, _≤_}
+-- Whether an invariant has a limit off the scale, from the last location down.
+use Prim.Native.Nat.{ℕ, _-_}
 use mathlib.Core.Bool.{Bool, false}
 use mathlib.Core.List.{List}
-use mathlib.Core.Path.{_≡_, sym, _∙_}
+use mathlib.Core.Path.{_≡_, refl, sym, _∙_}
 use native.Mathlib.Omega.{arith}
-use Rattle.search.specs.Automata.{locations, invariantAt, some, offScaleAt, invariantOffScale}
+use Rattle.search.specs.Automata.{locations, invariantAt, offScaleAt, invariantOffScale}
 use Rattle.search.proofs.Places.{invariant-within}
-use Rattle.search.proofs.Some.{some-yes, some-no, some-none}
+use Rattle.search.proofs.Some.{Down, begins, found, passed, ends}
 use Rattle.search.proofs.automaton.invariant_off_scale.Statement.{statement}
 use Rattle.search.proofs.automaton.invariant_off_scale.Tie as tie
 
@@ -13,7 +14,7 @@ abbrev out : List ℕ → ℕ → Bool
 out s l = offScaleAt s false (invariantAt s l)
 
 abbrev Inv-loop : tie.InvT-loop
-Inv-loop automaton l₀ l = (l ≤ locations automaton) × (invariantOffScale automaton ≡ some l (out automaton))
+Inv-loop automaton l₀ l = Down (locations automaton) (invariantOffScale automaton) (out automaton) l
 
 abbrev μ-loop : tie.MeasureT-loop
 μ-loop automaton l₀ l = l
@@ -22,7 +23,7 @@ locations-requires : tie.Need-locations-requires Inv-loop μ-loop
 locations-requires c κs = omega arith
 
 loop-holds : tie.Need-loop-holds Inv-loop μ-loop
-loop-holds c = (omega arith, rw (c .locations .ensures))
+loop-holds c = rw (c .locations .ensures) (begins refl)
 
 sub-l : tie.Need-sub-l Inv-loop μ-loop
 sub-l c = omega arith
@@ -33,25 +34,20 @@ invariant-at-requires c κs = omega arith
 off-scale-at-requires : tie.Need-off-scale-at-requires Inv-loop μ-loop
 off-scale-at-requires c κs = omega (arith, invariant-within (c .before .before .before .before .before .args .automaton .now) (c .before .before .before .before .before .pre) (c .before .before .loop .l - 1) (omega arith))
 
+tested : (c : tie.After-off-scale-at Inv-loop μ-loop) → c .off-scale-at .result ≡ out (c .before .before .before .before .before .before .args .automaton .now) (c .before .before .before .loop .l - 1)
+tested c = rw (c .before .invariant-at .ensures) at (c .off-scale-at .ensures)
+
 returns : tie.Need-returns Inv-loop μ-loop
-returns c =
-    let s = c .before .before .before .before .before .before .before .args .automaton .now in
-    let l = c .before .before .before .before .loop in
-    let e = rw (c .before .before .invariant-at .ensures) at (c .before .off-scale-at .ensures) in
-    sym (l .inv .1 ∙ some-yes (out s) (l .l) (omega arith) (sym e ∙ c .if1 .taken))
+returns c = found (c .before .before .before .before .loop .inv) (omega arith) (sym (tested (c .before)) ∙ c .if1 .taken)
 
 loop-less : tie.Need-loop-less Inv-loop μ-loop
 loop-less c = omega arith
 
 loop-again : tie.Need-loop-again Inv-loop μ-loop
-loop-again c =
-    let s = c .before .before .before .before .before .before .before .args .automaton .now in
-    let l = c .before .before .before .before .loop in
-    let e = rw (c .before .before .invariant-at .ensures) at (c .before .off-scale-at .ensures) in
-    (omega arith, l .inv .1 ∙ some-no (out s) (l .l) (omega arith) (sym e ∙ c .if1 .left))
+loop-again c = passed (c .before .before .before .before .loop .inv) (omega arith) (sym (tested (c .before)) ∙ c .if1 .left)
 
 returns-2 : tie.Need-returns-2 Inv-loop μ-loop
-returns-2 c = sym (c .before .loop .inv .1 ∙ some-none _ _ (c .loop-test .left))
+returns-2 c = ends (c .before .loop .inv) (c .loop-test .left)
 
 pub invariant-off-scale-spec : {M : Type 1} → statement M
 invariant-off-scale-spec =

@@ -1,3 +1,4 @@
+-- Whether one of two numbers is none of the m locations.
 use borrow.Author.Tests.{le-leb, lt-leb}
 use Rattle.search.proofs.automaton.misplaced.Statement.{statement}
 use Rattle.search.proofs.automaton.misplaced.Tie as tie

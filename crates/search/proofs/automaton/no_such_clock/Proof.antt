@@ -1,12 +1,13 @@
-use Prim.Native.Nat.{ℕ, _^_, _-_, _≤_}
+-- Whether a reset byte names a clock that is not there, from the last edge down.
+use Prim.Native.Nat.{ℕ, _^_, _-_}
 use mathlib.Core.Bool.{Bool}
 use mathlib.Core.List.{List}
-use mathlib.Core.Path.{_≡_, sym, _∙_}
+use mathlib.Core.Path.{_≡_, refl, _∙_}
 use lib.Dec.{leb}
 use native.Mathlib.Omega.{arith}
 use borrow.Author.Tests.{le-leb, lt-leb}
-use Rattle.search.specs.Automata.{clocks, edges, resetByte, some, noSuchClock}
-use Rattle.search.proofs.Some.{some-yes, some-no, some-none}
+use Rattle.search.specs.Automata.{clocks, edges, resetByte, noSuchClock}
+use Rattle.search.proofs.Some.{Down, begins, found, passed, ends}
 use Rattle.search.proofs.automaton.no_such_clock.Statement.{statement}
 use Rattle.search.proofs.automaton.no_such_clock.Tie as tie
 
@@ -14,7 +15,7 @@ abbrev stray : List ℕ → ℕ → Bool
 stray s i = leb (2 ^ clocks s) (resetByte s i)
 
 abbrev Inv-loop : tie.InvT-loop
-Inv-loop automaton bound i₀ i = (i ≤ edges automaton) × ((noSuchClock automaton ≡ some i (stray automaton)) × (bound ≡ 2 ^ clocks automaton))
+Inv-loop automaton bound i₀ i = Down (edges automaton) (noSuchClock automaton) (stray automaton) i × (bound ≡ 2 ^ clocks automaton)
 
 abbrev μ-loop : tie.MeasureT-loop
 μ-loop automaton bound i₀ i = i
@@ -29,7 +30,7 @@ edges-requires : tie.Need-edges-requires Inv-loop μ-loop
 edges-requires c κs = omega arith
 
 loop-holds : tie.Need-loop-holds Inv-loop μ-loop
-loop-holds c = (omega arith, (rw (c .edges .ensures), c .before .reset-bound .ensures ∙ rw (c .before .before .clocks .ensures)))
+loop-holds c = (rw (c .edges .ensures) (begins refl), c .before .reset-bound .ensures ∙ rw (c .before .before .clocks .ensures))
 
 sub-i : tie.Need-sub-i Inv-loop μ-loop
 sub-i c = omega arith
@@ -44,7 +45,7 @@ returns : tie.Need-returns Inv-loop μ-loop
 returns c =
     let s = c .before .before .before .before .before .before .before .before .before .args .automaton .now in
     let l = c .before .before .before .before .loop in
-    sym (l .inv .1 .0 ∙ some-yes (stray s) (l .i) (omega arith) (le-leb (2 ^ clocks s) (resetByte s (l .i - 1)) (omega arith)))
+    found (l .inv .0) (omega arith) (le-leb (2 ^ clocks s) (resetByte s (l .i - 1)) (omega arith))
 
 loop-less : tie.Need-loop-less Inv-loop μ-loop
 loop-less c = omega arith
@@ -53,10 +54,10 @@ loop-again : tie.Need-loop-again Inv-loop μ-loop
 loop-again c =
     let s = c .before .before .before .before .before .before .before .before .before .args .automaton .now in
     let l = c .before .before .before .before .loop in
-    (omega arith, (l .inv .1 .0 ∙ some-no (stray s) (l .i) (omega arith) (lt-leb (2 ^ clocks s) (resetByte s (l .i - 1)) (omega arith)), l .inv .1 .1))
+    (passed (l .inv .0) (omega arith) (lt-leb (2 ^ clocks s) (resetByte s (l .i - 1)) (omega arith)), l .inv .1)
 
 returns-2 : tie.Need-returns-2 Inv-loop μ-loop
-returns-2 c = sym (c .before .loop .inv .1 .0 ∙ some-none _ _ (c .loop-test .left))
+returns-2 c = ends (c .before .loop .inv .0) (c .loop-test .left)
 
 pub no-such-clock-spec : {M : Type 1} → statement M
 no-such-clock-spec =

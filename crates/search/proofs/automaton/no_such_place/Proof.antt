@@ -1,10 +1,11 @@
-use Prim.Native.Nat.{ℕ, _≤_}
+-- Whether start, target, or an end of an edge is no location, from the last edge down.
+use Prim.Native.Nat.{ℕ, _-_}
 use mathlib.Core.Bool.{Bool}
 use mathlib.Core.List.{List}
 use mathlib.Core.Path.{_≡_, sym, _∙_}
 use native.Mathlib.Omega.{arith}
-use Rattle.search.specs.Automata.{locations, edges, start, target, from, to, some, misplaced, noSuchPlace}
-use Rattle.search.proofs.Some.{some-yes, some-no, some-none}
+use Rattle.search.specs.Automata.{locations, edges, start, target, from, to, misplaced, noSuchPlace}
+use Rattle.search.proofs.Some.{Down, begins, found, passed, ends}
 use Rattle.search.proofs.automaton.no_such_place.Statement.{statement}
 use Rattle.search.proofs.automaton.no_such_place.Tie as tie
 
@@ -12,7 +13,7 @@ abbrev astray : List ℕ → ℕ → Bool
 astray s i = misplaced (locations s) (from s i) (to s i)
 
 abbrev Inv-loop : tie.InvT-loop
-Inv-loop automaton m i₀ i = (i ≤ edges automaton) × (noSuchPlace automaton ≡ some i (astray automaton))
+Inv-loop automaton m i₀ i = Down (edges automaton) (noSuchPlace automaton) (astray automaton) i
 
 abbrev μ-loop : tie.MeasureT-loop
 μ-loop automaton m i₀ i = i
@@ -29,18 +30,17 @@ target-requires c κs = omega arith
 misplaced-requires : tie.Need-misplaced-requires Inv-loop μ-loop
 misplaced-requires c κs = tt
 
+ends-tested : (c : tie.After-misplaced Inv-loop μ-loop) → let s = c .before .before .before .before .before .args .automaton .now in c .misplaced .result ≡ misplaced (locations s) (start s) (target s)
+ends-tested c = rw (c .before .before .before .locations .ensures, c .before .before .start .ensures, c .before .target .ensures) at (c .misplaced .ensures)
+
 returns : tie.Need-returns Inv-loop μ-loop
-returns c =
-    let e = rw (c .before .before .before .before .locations .ensures, c .before .before .before .start .ensures, c .before .before .target .ensures) at (c .before .misplaced .ensures) in
-    rw (sym e ∙ c .if1 .taken)
+returns c = rw (sym (ends-tested (c .before)) ∙ c .if1 .taken)
 
 edges-requires : tie.Need-edges-requires Inv-loop μ-loop
 edges-requires c κs = omega arith
 
 loop-holds : tie.Need-loop-holds Inv-loop μ-loop
-loop-holds c =
-    let e = rw (c .before .before .before .before .before .locations .ensures, c .before .before .before .before .start .ensures, c .before .before .before .target .ensures) at (c .before .before .misplaced .ensures) in
-    (omega arith, rw (sym e ∙ c .before .if1 .left, c .edges .ensures))
+loop-holds c = rw (c .edges .ensures) (begins (rw (sym (ends-tested (c .before .before)) ∙ c .before .if1 .left)))
 
 sub-i : tie.Need-sub-i Inv-loop μ-loop
 sub-i c = omega arith
@@ -54,25 +54,20 @@ edge-to-requires c κs = (c .before .before .before .before .before .before .bef
 misplaced-requires-2 : tie.Need-misplaced-requires-2 Inv-loop μ-loop
 misplaced-requires-2 c κs = tt
 
+edge-tested : (c : tie.After-misplaced2 Inv-loop μ-loop) → c .misplaced2 .result ≡ astray (c .before .before .before .before .before .before .before .before .before .before .before .before .args .automaton .now) (c .before .before .before .before .loop .i - 1)
+edge-tested c = rw (c .before .before .before .before .before .before .before .before .before .before .locations .ensures, c .before .before .edge-from .ensures, c .before .edge-to .ensures) at (c .misplaced2 .ensures)
+
 returns-2 : tie.Need-returns-2 Inv-loop μ-loop
-returns-2 c =
-    let s = c .before .before .before .before .before .before .before .before .before .before .before .before .before .args .automaton .now in
-    let l = c .before .before .before .before .before .loop in
-    let e = rw (c .before .before .before .before .before .before .before .before .before .before .before .locations .ensures, c .before .before .before .edge-from .ensures, c .before .before .edge-to .ensures) at (c .before .misplaced2 .ensures) in
-    sym (l .inv .1 ∙ some-yes (astray s) (l .i) (omega arith) (sym e ∙ c .if2 .taken))
+returns-2 c = found (c .before .before .before .before .before .loop .inv) (omega arith) (sym (edge-tested (c .before)) ∙ c .if2 .taken)
 
 loop-less : tie.Need-loop-less Inv-loop μ-loop
 loop-less c = omega arith
 
 loop-again : tie.Need-loop-again Inv-loop μ-loop
-loop-again c =
-    let s = c .before .before .before .before .before .before .before .before .before .before .before .before .before .args .automaton .now in
-    let l = c .before .before .before .before .before .loop in
-    let e = rw (c .before .before .before .before .before .before .before .before .before .before .before .locations .ensures, c .before .before .before .edge-from .ensures, c .before .before .edge-to .ensures) at (c .before .misplaced2 .ensures) in
-    (omega arith, l .inv .1 ∙ some-no (astray s) (l .i) (omega arith) (sym e ∙ c .if2 .left))
+loop-again c = passed (c .before .before .before .before .before .loop .inv) (omega arith) (sym (edge-tested (c .before)) ∙ c .if2 .left)
 
 returns-3 : tie.Need-returns-3 Inv-loop μ-loop
-returns-3 c = sym (c .before .loop .inv .1 ∙ some-none _ _ (c .loop-test .left))
+returns-3 c = ends (c .before .loop .inv) (c .loop-test .left)
 
 pub no-such-place-spec : {M : Type 1} → statement M
 no-such-place-spec =

@@ -1,3 +1,4 @@
+-- Whether a lo or a hi is outside its range.
 use borrow.Author.Tests.{lt-ltb, le-ltb}
 use Rattle.search.proofs.automaton.out_of_range.Statement.{statement}
 use Rattle.search.proofs.automaton.out_of_range.Tie as tie

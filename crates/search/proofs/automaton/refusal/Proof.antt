@@ -1,12 +1,13 @@
+-- The refusal is the number of the definition's first test that applies.
 use Prim.Native.Nat.{ℕ}
-use mathlib.Core.Bool.{cond}
+use mathlib.Core.Bool.{false, cond}
 use mathlib.Core.List.{List}
 use mathlib.Core.Path.{_≡_, sym, ap, _∙_}
 use lib.ListN.{length}
 use native.Mathlib.Omega.{arith}
 use borrow.Author.Needs.{needs}
 use Rattle.search.specs.Accepted.{Complete}
-use Rattle.search.specs.Automata.{be16At, edgeAt, formula, noSuchPlace, noSuchClock, guardOffScale, offScale, refusalOf}
+use Rattle.search.specs.Automata.{be16At, edgeAt, formula, oversize, noSuchPlace, noSuchClock, guardOffScale, offScale, refusalOf}
 use Rattle.search.proofs.Refusals.{complete, refusal-1, refusal-2, refusal-3, refusal-4, refusal-5, refusal-rest}
 use Rattle.search.proofs.automaton.refusal.Statement.{statement}
 use Rattle.search.proofs.automaton.refusal.Tie as tie
@@ -35,6 +36,12 @@ oversize-requires c κs = search needs
 returns-4 : tie.Need-returns-4
 returns-4 c = sym (refusal-4 _ (omega arith) (omega arith) (omega arith) (sym (c .before .oversize .ensures) ∙ c .if4 .taken))
 
+abbrev s4 : tie.Else4 → List ℕ
+s4 c = c .before .before .before .before .before .before .before .before .args .automaton .now
+
+sized : (c : tie.Else4) → oversize (s4 c) ≡ false
+sized c = sym (c .before .oversize .ensures) ∙ c .if4 .left
+
 edges-requires : tie.Need-edges-requires
 edges-requires c κs = search needs
 
@@ -43,11 +50,11 @@ unfolding be16At
 edge-at-requires c κs = let k = c .before .before .before .before .before .before .before .before .shared-slice-known .given in omega (arith, k 9, k 10)
 
 returns-5 : tie.Need-returns-5
-returns-5 c = sym (refusal-5 _ (omega arith) (omega arith) (omega arith) (sym (c .before .before .before .before .oversize .ensures) ∙ c .before .before .before .if4 .left) (λ e. c .if5 .taken (e ∙ sym (c .before .edge-at .ensures ∙ rw (c .before .before .edges .ensures)))))
+returns-5 c = sym (refusal-5 _ (omega arith) (omega arith) (omega arith) (sized (c .before .before .before)) (λ e. c .if5 .taken (e ∙ sym (c .before .edge-at .ensures ∙ rw (c .before .before .edges .ensures)))))
 
 -- ---- past each of the tests 5 to 8: the bytes, and what is left to decide
 abbrev s5 : tie.Else5 → List ℕ
-s5 c = c .before .before .before .before .before .before .before .before .before .before .before .args .automaton .now
+s5 c = s4 (c .before .before .before)
 
 abbrev s6 : tie.Else6 → List ℕ
 s6 c = s5 (c .before .before)
@@ -62,10 +69,10 @@ size : (c : tie.Else5) → length (s5 c) ≡ formula (s5 c)
 size c = c .if5 .left ∙ c .before .edge-at .ensures ∙ ap (edgeAt (s5 c)) (c .before .before .edges .ensures)
 
 whole : (c : tie.Else5) → Complete (s5 c)
-whole c = complete _ (omega arith) (sym (c .before .before .before .before .oversize .ensures) ∙ c .before .before .before .if4 .left) (size c)
+whole c = complete _ (omega arith) (sized (c .before .before .before)) (size c)
 
 left-5 : (c : tie.Else5) → refusalOf (s5 c) ≡ cond (noSuchPlace (s5 c)) 6 (cond (noSuchClock (s5 c)) 7 (cond (offScale (s5 c)) 8 0))
-left-5 c = refusal-rest _ (omega arith) (omega arith) (omega arith) (sym (c .before .before .before .before .oversize .ensures) ∙ c .before .before .before .if4 .left) (size c)
+left-5 c = refusal-rest _ (omega arith) (omega arith) (omega arith) (sized (c .before .before .before)) (size c)
 
 left-6 : (c : tie.Else6) → refusalOf (s6 c) ≡ cond (noSuchClock (s6 c)) 7 (cond (offScale (s6 c)) 8 0)
 left-6 c = left-5 (c .before .before) ∙ rw (sym (c .before .no-such-place .ensures) ∙ c .if6 .left)

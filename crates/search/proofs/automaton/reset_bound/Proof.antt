@@ -1,3 +1,4 @@
+-- The first reset byte that names a clock above n is 2 ^ n.
 use Prim.Native.Nat.{_^_, _≤_}
 use native.Mathlib.Nat.{one-mul, mod-eq-of-lt, pow-le-pow-right}
 use native.Mathlib.Omega.{arith}

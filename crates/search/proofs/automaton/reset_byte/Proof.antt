@@ -1,3 +1,4 @@
+-- The reset byte of an edge lies within the bytes, where the definition reads it.
 use native.Mathlib.Omega.{arith}
 use borrow.Author.Needs.{needs}
 use Rattle.search.proofs.Places.{edge-within}
@@ -8,10 +9,10 @@ edge-at-requires : tie.Need-edge-at-requires
 edge-at-requires c κs = search needs
 
 add-result : tie.Need-add-result
-add-result c = omega (arith, edge-within (c .before .before .args .automaton .now) (c .before .before .pre .0) (c .before .before .args .i) (c .before .before .pre .1))
+add-result c = omega (arith, edge-within _ (c .before .before .pre .0) _ (c .before .before .pre .1))
 
 shared-slice-read-result : tie.Need-shared-slice-read-result
-shared-slice-read-result c = omega (arith, edge-within (c .before .before .before .args .automaton .now) (c .before .before .before .pre .0) (c .before .before .before .args .i) (c .before .before .before .pre .1))
+shared-slice-read-result c = omega (arith, edge-within _ (c .before .before .before .pre .0) _ (c .before .before .before .pre .1))
 
 returns : tie.Need-returns
 returns c = rw (c .before .edge-at .ensures)

@@ -1,3 +1,4 @@
+-- The clocks of a reset byte, one by one.
 use native.Mathlib.Nat.{div-one}
 use Rattle.search.specs.Automata.{inByte, firsts, resetSet}
 use Rattle.search.proofs.automaton.reset_set.Statement.{statement}

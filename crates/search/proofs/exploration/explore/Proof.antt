@@ -1,17 +1,20 @@
+-- The whole search: the start is entered and offered, and then the kept zones are taken.
 -- Assumes nothing.
-use Prim.Native.Nat.{ℕ, _*_}
-use mathlib.Core.Path.{sym, ap, _∙_, subst}
+use Prim.Native.Nat.{ℕ, suc, _*_}
+use mathlib.Core.Path.{_≡_, sym, ap, _∙_, subst}
+use mathlib.Core.List.{List}
 use lib.ListN.{length}
 use Rattle.zones.specs.Ranges.{counts}
+use Rattle.zones.specs.Successors.{enterOf}
+use Rattle.zones.specs.Zones.{firstWork}
 use Rattle.zones.proofs.Bounding.{first-sized}
-use Rattle.search.specs.Automata.{clocks}
+use Rattle.search.specs.Automata.{clocks, start, invariantOf}
 use Rattle.search.specs.Exploring.{SoundResult}
 use Rattle.search.specs.Store.{capacityOf}
-use Rattle.search.proofs.Beginning.{blank-progress, first-goes, first-stops, rest-taken}
+use Rattle.search.proofs.Beginning.{Begun, blank-progress, begun}
 use Rattle.search.proofs.Judging.{n≤}
 use Rattle.search.proofs.Stepping.{one-more}
 use Rattle.search.proofs.Sounding.{start-sound}
-use borrow.Author.Needs.{needs}
 use borrow.Author.Needs.{needs}
 use Rattle.search.proofs.exploration.explore.Statement.{statement}
 use Rattle.search.proofs.exploration.explore.Tie as tie
@@ -32,25 +35,47 @@ first-requires : tie.Need-first-requires
 first-requires c κs = search needs
 
 enter-requires : tie.Need-enter-requires
-enter-requires c κs = ((c .before .before .before .before .before .pre, rw (c .before .start .ensures) (c .before .before .before .before .before .pre .start<)), rw (c .first .ensures) (first-sized (10 * counts) _ (n≤ _ (c .before .before .before .before .before .pre))))
+enter-requires c κs =
+    let accepted = c .before .before .before .before .before .pre in
+    ((accepted, rw (c .before .start .ensures) (accepted .start<)), rw (c .first .ensures) (first-sized (10 * counts) _ (n≤ _ accepted)))
+
+-- ---- with the start entered
+module _ (c : tie.After-enter) where
+  abbrev entry : tie.Start
+  entry = c .before .before .before .before .before .before
+
+  abbrev automaton : List ℕ
+  automaton = entry .args .automaton .now
+
+  slots≡ : c .before .before .before .slots-of .result ≡ capacityOf (suc (clocks automaton)) (length (entry .args .store .now))
+  slots≡ = c .before .before .before .slots-of .ensures ∙ ap (λ (n : ℕ). capacityOf n (length (entry .args .store .now))) (one-more (c .before .before .before .before .clocks .ensures))
+
+  first≡ : c .enter .result ≡ enterOf (clocks automaton) (invariantOf automaton (start automaton)) firstWork
+  first≡ = rw (c .before .before .start .ensures, c .before .first .ensures) at (c .enter .ensures)
 
 offer-requires : tie.Need-offer-requires
-offer-requires c κs = ((c .before .before .before .before .before .before .before .pre, rw (c .before .before .before .start .ensures) (c .before .before .before .before .before .before .before .pre .start<)), (blank-progress _ (c .before .before .before .before .before .before .before .pre) _ _ (c .before .before .before .before .slots-of .ensures ∙ ap (λ (n : ℕ). capacityOf n (length (c .before .before .before .before .before .before .before .args .store .now))) (one-more (c .before .before .before .before .before .clocks .ensures))), subst (SoundResult _) (sym (rw (c .before .before .before .start .ensures, c .before .before .first .ensures) at (c .before .enter .ensures))) (start-sound _ (c .before .before .before .before .before .before .before .pre))))
+offer-requires c κs =
+    let accepted = entry (c .before) .pre in
+    ((accepted, rw (c .before .before .before .start .ensures) (accepted .start<)), (blank-progress accepted _ (slots≡ (c .before)), subst (SoundResult _) (sym (first≡ (c .before))) (start-sound _ accepted)))
+
+-- ---- after the first offer
+offered : (c : tie.After-offer) → let e = entry (c .before .before) in Begun (automaton (c .before .before)) (c .before .before .before .before .before .slots-of .result) (e .args .store .now) (c .offer .last .1 .0) (c .offer .result)
+offered c = begun (entry (c .before .before) .pre) _ (slots≡ (c .before .before)) (first≡ (c .before .before)) (rw (c .before .before .before .before .start .ensures) at (c .offer .ensures))
 
 same-length : tie.Need-same-length
 same-length c = search needs
 
 returns : tie.Need-returns
-returns c = first-stops _ (c .before .before .before .before .before .before .before .before .before .before .before .pre) _ _ (c .before .before .before .before .before .before .before .before .slots-of .ensures ∙ ap (λ (n : ℕ). capacityOf n (length (c .before .before .before .before .before .before .before .before .before .before .before .args .store .now))) (one-more (c .before .before .before .before .before .before .before .before .before .clocks .ensures))) _ (rw (c .before .before .before .before .before .before .before .start .ensures, c .before .before .before .before .before .before .first .ensures) at (c .before .before .before .before .before .enter .ensures)) _ _ (rw (c .before .before .before .before .before .before .before .start .ensures) at (c .before .before .before .offer .ensures)) (c .if1 .taken)
+returns c = offered (c .before .before .before) .stops (c .if1 .taken)
 
 take-requires : tie.Need-take-requires
-take-requires c κs = (c .before .before .before .before .before .before .before .before .before .before .before .before .pre, first-goes _ (c .before .before .before .before .before .before .before .before .before .before .before .before .pre) _ _ (c .before .before .before .before .before .before .before .before .before .slots-of .ensures ∙ ap (λ (n : ℕ). capacityOf n (length (c .before .before .before .before .before .before .before .before .before .before .before .before .args .store .now))) (one-more (c .before .before .before .before .before .before .before .before .before .before .clocks .ensures))) _ (rw (c .before .before .before .before .before .before .before .before .start .ensures, c .before .before .before .before .before .before .before .first .ensures) at (c .before .before .before .before .before .before .enter .ensures)) _ _ (rw (c .before .before .before .before .before .before .before .before .start .ensures) at (c .before .before .before .before .offer .ensures)) (c .before .if1 .left))
+take-requires c κs = (entry (c .before .before .before .before .before .before) .pre, offered (c .before .before .before .before) .goes-on (c .before .if1 .left))
 
 same-length-2 : tie.Need-same-length-2
 same-length-2 c = search needs
 
 returns-2 : tie.Need-returns-2
-returns-2 c = rest-taken _ (c .before .before .before .before .before .before .before .before .before .before .before .before .before .before .pre) _ _ (c .before .before .before .before .before .before .before .before .before .before .before .slots-of .ensures ∙ ap (λ (n : ℕ). capacityOf n (length (c .before .before .before .before .before .before .before .before .before .before .before .before .before .before .args .store .now))) (one-more (c .before .before .before .before .before .before .before .before .before .before .before .before .clocks .ensures))) _ (rw (c .before .before .before .before .before .before .before .before .before .before .start .ensures, c .before .before .before .before .before .before .before .before .before .first .ensures) at (c .before .before .before .before .before .before .before .before .enter .ensures)) _ _ (rw (c .before .before .before .before .before .before .before .before .before .before .start .ensures) at (c .before .before .before .before .before .before .offer .ensures)) (c .before .before .before .if1 .left) _ _ (c .before .take .ensures)
+returns-2 c = offered (c .before .before .before .before .before .before) .rest (c .before .before .before .if1 .left) (c .before .take .ensures)
 
 pub explore-spec : {M : Type 1} → statement M
 explore-spec =

@@ -1,14 +1,17 @@
+-- The oldest slot that contains the new one: none before slot j does.
 -- Assumes nothing.
-use Prim.Native.Nat.{ℕ, _*_, _-_, _≤_, _<_}
+use Prim.Native.Nat.{ℕ, _+_, _*_, _-_, _≤_, _<_}
 use mathlib.Core.Path.{_≡_, sym, ap, _∙_}
 use mathlib.Core.Logic.{⊎-elim}
 use mir.Syntax.{w32}
 use mir.Val.{ofZ}
+use lib.ListN.{length}
 use native.Mathlib.Omega.{arith}
 use native.Mathlib.Nat.{not-suc-le-zero}
 use Rattle.search.specs.Exploring.{Hits}
 use Rattle.search.specs.Slots.{slotLength}
-use Rattle.search.proofs.Stores.{slot-fits, same-bits, lent-length, size-square, hit, misses-more, miss-location, miss-inside}
+use Rattle.search.proofs.Stores.{slot-fits, lent-length, size-square, hit, misses-more, miss-location, miss-inside}
+use Rattle.search.proofs.Turns.{same-bits}
 use Rattle.search.proofs.exploration.find.Statement.{statement}
 use Rattle.search.proofs.exploration.find.Tie as tie
 
@@ -24,23 +27,27 @@ slot-length-requires c κs = omega arith
 loop-holds : tie.Need-loop-holds Inv-loop μ-loop
 loop-holds c = (c .slot-length .ensures, omega arith, omega arith, λ i h. absurd (not-suc-le-zero h))
 
+-- in a turn, slot j lies in the store
+fits : (c : tie.In-loop Inv-loop μ-loop) → c .before .loop .at + slotLength (c .before .before .before .args .size) ≤ length (c .before .before .before .args .store .now)
+fits c = slot-fits (slotLength (c .before .before .before .args .size)) (c .loop-test .taken) (c .before .before .before .pre .1) (c .before .loop .inv .2)
+
 mul-if1 : tie.Need-mul-if1 Inv-loop μ-loop
-mul-if1 c = omega (arith, slot-fits (slotLength (c .before .before .before .args .size)) (c .loop-test .taken) (c .before .before .before .pre .1) (c .before .loop .inv .2))
+mul-if1 c = omega (arith, fits c)
 
 shared-slice-copy-out-if1 : tie.Need-shared-slice-copy-out-if1 Inv-loop μ-loop
-shared-slice-copy-out-if1 c = omega (arith, slot-fits (slotLength (c .before .before .before .args .size)) (c .loop-test .taken) (c .before .before .before .pre .1) (c .before .loop .inv .2))
+shared-slice-copy-out-if1 c = omega (arith, fits c)
 
 shared-slice-copy-out-if1-2 : tie.Need-shared-slice-copy-out-if1-2 Inv-loop μ-loop
 shared-slice-copy-out-if1-2 c = omega arith
 
 mul-is-within : tie.Need-mul-is-within Inv-loop μ-loop
-mul-is-within c = omega (arith, slot-fits (slotLength (c .before .before .before .before .before .before .args .size)) (c .before .before .before .loop-test .taken) (c .before .before .before .before .before .before .pre .1) (c .before .before .before .before .loop .inv .2))
+mul-is-within c = omega (arith, fits (c .before .before .before))
 
 sub-is-within : tie.Need-sub-is-within Inv-loop μ-loop
-sub-is-within c = omega (arith, slot-fits (slotLength (c .before .before .before .before .before .before .args .size)) (c .before .before .before .loop-test .taken) (c .before .before .before .before .before .before .pre .1) (c .before .before .before .before .loop .inv .2))
+sub-is-within c = omega (arith, fits (c .before .before .before))
 
 part-is-within-start : tie.Need-part-is-within-start Inv-loop μ-loop
-part-is-within-start c = omega (arith, slot-fits (slotLength (c .before .before .before .before .before .before .args .size)) (c .before .before .before .loop-test .taken) (c .before .before .before .before .before .before .pre .1) (c .before .before .before .before .loop .inv .2))
+part-is-within-start c = omega (arith, fits (c .before .before .before))
 
 part-is-within-end : tie.Need-part-is-within-end Inv-loop μ-loop
 part-is-within-end c = omega arith
@@ -51,7 +58,7 @@ mul-is-within-2 c = omega arith
 is-within-requires : tie.Need-is-within-requires Inv-loop μ-loop
 is-within-requires c κs =
     let start = c .before .before .before .before .before .before .before in
-    (omega (arith, start .pre .2), rw (lent-length (start .args .store .now) (c .before .before .before .before .before .loop .at)) (omega (arith, slot-fits (slotLength (c .before .before .before .before .before .before .before .args .size)) (c .before .before .before .before .loop-test .taken) (c .before .before .before .before .before .before .before .pre .1) (c .before .before .before .before .before .loop .inv .2))), omega (arith, size-square (start .args .size) (start .pre .0)))
+    (omega (arith, start .pre .2), rw (lent-length (start .args .store .now) (c .before .before .before .before .before .loop .at)) (omega (arith, fits (c .before .before .before .before))), omega (arith, size-square (start .args .size) (start .pre .0)))
 
 returns : tie.Need-returns Inv-loop μ-loop
 returns c =
@@ -66,7 +73,7 @@ add-j : tie.Need-add-j Inv-loop μ-loop
 add-j c = omega arith
 
 add-at : tie.Need-add-at Inv-loop μ-loop
-add-at c = omega (arith, c .before .before .before .before .loop .inv .0, slot-fits (slotLength (c .before .before .before .before .before .before .args .size)) (c .before .before .before .loop-test .taken) (c .before .before .before .before .before .before .pre .1) (c .before .before .before .before .loop .inv .2))
+add-at c = omega (arith, c .before .before .before .before .loop .inv .0, fits (c .before .before .before))
 
 loop-less : tie.Need-loop-less Inv-loop μ-loop
 loop-less c = omega arith

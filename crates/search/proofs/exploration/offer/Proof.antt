@@ -1,7 +1,7 @@
+-- What has entered a location is empty, at the target, or judged: each is the definition's offer.
 -- Assumes nothing.
 use mathlib.Core.Path.{sym, _∙_}
 use Rattle.search.proofs.Judging.{gives-empty, gives-target, gives-judged}
-use borrow.Author.Needs.{needs}
 use borrow.Author.Needs.{needs}
 use Rattle.search.proofs.exploration.offer.Statement.{statement}
 use Rattle.search.proofs.exploration.offer.Tie as tie

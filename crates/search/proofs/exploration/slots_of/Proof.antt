@@ -1,7 +1,7 @@
+-- How many slots a store has: as many as fit, and no more than the most.
 -- Assumes nothing.
 use borrow.Author.Needs.{needs}
 use Rattle.search.proofs.Stores.{capacity-most, capacity-all}
-use borrow.Author.Needs.{needs}
 use Rattle.search.proofs.exploration.slots_of.Statement.{statement}
 use Rattle.search.proofs.exploration.slots_of.Tie as tie
 

@@ -1,14 +1,16 @@
+-- The kept zones are taken oldest first, each once: each turn of the loop is one of the definition's.
 -- Assumes nothing.
-use Prim.Native.Nat.{ℕ, suc, _+_, _*_, _-_}
+use Prim.Native.Nat.{ℕ, suc, _+_, _*_, _-_, _≤_, _<_}
 use mathlib.Core.Path.{_≡_, sym, ap, _∙_}
 use mathlib.Core.List.{List}
 use lib.IntN.{ℤ}
+use lib.ListN.{length}
 use native.Mathlib.Omega.{arith}
 use Rattle.search.specs.Automata.{clocks}
 use Rattle.search.specs.Exploring.{ZoneState, SoundState, Shown}
 use Rattle.search.specs.Slots.{slotLength}
 use Rattle.search.proofs.Expanding.{shown-length}
-use Rattle.search.proofs.Taking.{reads-location, read-location, Onward, begins, ends, onward, few, slot-inside, location, asks-decode, sound-zone, opened-length, goes-on, stops}
+use Rattle.search.proofs.Taking.{reads-location, read-location, Onward, Turned, begins, ends, onward, few, slot-inside, location, asks-decode, sound-zone, turned}
 use borrow.Author.Needs.{needs}
 use Rattle.search.proofs.exploration.take.Statement.{statement}
 use Rattle.search.proofs.exploration.take.Tie as tie
@@ -34,156 +36,117 @@ loop-holds c =
     let size : c .before .clocks .result + 1 ≡ suc (clocks (c .before .before .before .args .automaton .now)) = omega (arith, c .before .clocks .ensures) in
     (size, c .slot-length .ensures ∙ ap slotLength size, λ s₀ q₀ h o g. begins _ _ s₀ q₀ _ _ h o g)
 
+-- ---- at the head of the loop
+module _ (c : tie.At-loop Inv-loop μ-loop) where
+  abbrev start : tie.Start Inv-loop μ-loop
+  start = c .before .before .before .before
+
+  abbrev automaton : List ℕ
+  automaton = start .args .automaton .now
+
+  on : Onward automaton (start .args .slots) (start .pre .1 .base) (start .pre .1 .state) (c .loop .next) (c .loop .store) (c .loop .t)
+  on = let going = start .pre .1 in c .loop .inv .2 (going .base) (going .state) (going .shown) (going .sound) (going .going)
+
+  at-entry : length (start .args .store .now) ≡ length (start .pre .1 .base)
+  at-entry = let going = start .pre .1 in shown-length _ (start .pre .0) _ _ _ _ (going .room) (going .shown) (going .sound)
+
+  now : length (c .loop .store) ≡ length (start .args .store .now)
+  now = shown-length _ (start .pre .0) _ _ _ _ (start .pre .1 .room) (on .shown) (on .sound) ∙ sym at-entry
+
+-- ---- in a turn
+module _ (c : tie.Then1 Inv-loop μ-loop) where
+  abbrev head : tie.At-loop Inv-loop μ-loop
+  head = c .before .before
+
+  abbrev entry : tie.Start Inv-loop μ-loop
+  entry = start head
+
+  abbrev place : ℕ
+  place = head .loop .next * head .before .slot-length .result
+
+  place≡ : place ≡ head .loop .next * slotLength (suc (clocks (automaton head)))
+  place≡ = ap (λ (x : ℕ). head .loop .next * x) (head .loop .inv .1)
+
+  inside : place + slotLength (suc (clocks (automaton head))) ≤ length (head .loop .store)
+  inside = slot-inside (entry .pre .0) (on head) (c .if1 .taken) place≡ (entry .pre .1 .room)
+
+  below : head .loop .next < entry .args .slots
+  below = few (entry .pre .0) (on head) (c .if1 .taken)
+
 mul-at : tie.Need-mul-at Inv-loop μ-loop
-mul-at c =
-    let start = c .before .before .before .before .before .before in
-    let loop = c .before .before in
-    let going = start .pre .1 in
-    let on = loop .loop .inv .2 (going .base) (going .state) (going .shown) (going .sound) (going .going) in
-    let first = ap (λ (x : ℕ). loop .loop .next * x) (loop .loop .inv .1) in
-    let inside = slot-inside _ (start .pre .0) _ _ _ _ _ _ on (c .if1 .taken) _ first (going .room) in
-    let same = shown-length _ (start .pre .0) _ _ _ _ (going .room) (on .shown) (on .sound) ∙ sym (shown-length _ (start .pre .0) _ _ _ _ (going .room) (going .shown) (going .sound)) in
-    omega (arith, inside, same)
+mul-at c = omega (arith, inside c, now (head c))
 
 mul-l : tie.Need-mul-l Inv-loop μ-loop
-mul-l c =
-    let start = c .before .before .before .before .before .before in
-    let loop = c .before .before in
-    let going = start .pre .1 in
-    let on = loop .loop .inv .2 (going .base) (going .state) (going .shown) (going .sound) (going .going) in
-    let first = ap (λ (x : ℕ). loop .loop .next * x) (loop .loop .inv .1) in
-    let inside = slot-inside _ (start .pre .0) _ _ _ _ _ _ on (c .if1 .taken) _ first (going .room) in
-    let same = shown-length _ (start .pre .0) _ _ _ _ (going .room) (on .shown) (on .sound) ∙ sym (shown-length _ (start .pre .0) _ _ _ _ (going .room) (going .shown) (going .sound)) in
-    omega (arith, inside, same)
+mul-l c = omega (arith, inside c, now (head c))
 
 slice-copy-out-l : tie.Need-slice-copy-out-l Inv-loop μ-loop
-slice-copy-out-l c =
-    let start = c .before .before .before .before .before .before in
-    let loop = c .before .before in
-    let going = start .pre .1 in
-    let on = loop .loop .inv .2 (going .base) (going .state) (going .shown) (going .sound) (going .going) in
-    let first = ap (λ (x : ℕ). loop .loop .next * x) (loop .loop .inv .1) in
-    let inside = slot-inside _ (start .pre .0) _ _ _ _ _ _ on (c .if1 .taken) _ first (going .room) in
-    let same = shown-length _ (start .pre .0) _ _ _ _ (going .room) (on .shown) (on .sound) ∙ sym (shown-length _ (start .pre .0) _ _ _ _ (going .room) (going .shown) (going .sound)) in
-    omega (arith, inside, same)
+slice-copy-out-l c = omega (arith, inside c)
 
 cast-l : tie.Need-cast-l Inv-loop μ-loop
 cast-l c =
-    let start = c .before .before .before .before .before .before .before in
-    let loop = c .before .before .before in
-    let going = start .pre .1 in
-    let on = loop .loop .inv .2 (going .base) (going .state) (going .shown) (going .sound) (going .going) in
-    let first = ap (λ (x : ℕ). loop .loop .next * x) (loop .loop .inv .1) in
-    reads-location (record { sfits = c .l .given }) (location _ (start .pre .0) _ _ _ _ _ _ on (c .before .if1 .taken) _ first)
+    let turn = c .before in
+    reads-location (record { sfits = c .l .given }) (location (entry turn .pre .0) (on (head turn)) (turn .if1 .taken) (place≡ turn))
 
 mul-decode : tie.Need-mul-decode Inv-loop μ-loop
-mul-decode c =
-    let start = c .before .before .before .before .before .before .before in
-    let loop = c .before .before .before in
-    let going = start .pre .1 in
-    let on = loop .loop .inv .2 (going .base) (going .state) (going .shown) (going .sound) (going .going) in
-    let first = ap (λ (x : ℕ). loop .loop .next * x) (loop .loop .inv .1) in
-    let inside = slot-inside _ (start .pre .0) _ _ _ _ _ _ on (c .before .if1 .taken) _ first (going .room) in
-    let same = shown-length _ (start .pre .0) _ _ _ _ (going .room) (on .shown) (on .sound) ∙ sym (shown-length _ (start .pre .0) _ _ _ _ (going .room) (going .shown) (going .sound)) in
-    omega (arith, inside, same)
+mul-decode c = omega (arith, inside (c .before), now (head (c .before)))
 
 sub-decode : tie.Need-sub-decode Inv-loop μ-loop
-sub-decode c =
-    let start = c .before .before .before .before .before .before .before in
-    let loop = c .before .before .before in
-    let going = start .pre .1 in
-    let on = loop .loop .inv .2 (going .base) (going .state) (going .shown) (going .sound) (going .going) in
-    let first = ap (λ (x : ℕ). loop .loop .next * x) (loop .loop .inv .1) in
-    let inside = slot-inside _ (start .pre .0) _ _ _ _ _ _ on (c .before .if1 .taken) _ first (going .room) in
-    let same = shown-length _ (start .pre .0) _ _ _ _ (going .room) (on .shown) (on .sound) ∙ sym (shown-length _ (start .pre .0) _ _ _ _ (going .room) (going .shown) (going .sound)) in
-    omega (arith, inside, same)
+sub-decode c = omega (arith, inside (c .before))
 
 part-decode-start : tie.Need-part-decode-start Inv-loop μ-loop
-part-decode-start c =
-    let start = c .before .before .before .before .before .before .before .before in
-    let loop = c .before .before .before .before in
-    let going = start .pre .1 in
-    let on = loop .loop .inv .2 (going .base) (going .state) (going .shown) (going .sound) (going .going) in
-    let first = ap (λ (x : ℕ). loop .loop .next * x) (loop .loop .inv .1) in
-    let inside = slot-inside _ (start .pre .0) _ _ _ _ _ _ on (c .before .before .if1 .taken) _ first (going .room) in
-    let same = shown-length _ (start .pre .0) _ _ _ _ (going .room) (on .shown) (on .sound) ∙ sym (shown-length _ (start .pre .0) _ _ _ _ (going .room) (going .shown) (going .sound)) in
-    omega (arith, inside, same)
+part-decode-start c = omega (arith, inside (c .before .before))
 
 part-decode-end : tie.Need-part-decode-end Inv-loop μ-loop
 part-decode-end c = search needs
 
 decode-requires : tie.Need-decode-requires Inv-loop μ-loop
 decode-requires c κs =
-    let start = c .before .before .before .before .before .before .before .before .before in
-    let loop = c .before .before .before .before .before in
-    let going = start .pre .1 in
-    let on = loop .loop .inv .2 (going .base) (going .state) (going .shown) (going .sound) (going .going) in
-    let first = ap (λ (x : ℕ). loop .loop .next * x) (loop .loop .inv .1) in
-    rw (loop .loop .inv .0) (asks-decode _ (start .pre .0) _ _ _ _ _ _ on (c .before .before .before .if1 .taken) _ first (going .room))
+    let turn = c .before .before .before in
+    rw (head turn .loop .inv .0) (asks-decode (entry turn .pre .0) (on (head turn)) (turn .if1 .taken) (place≡ turn) (entry turn .pre .1 .room))
 
 expand-requires : tie.Need-expand-requires Inv-loop μ-loop
 expand-requires c κs =
-    let start = c .before .before .before .before .before .before .before .before .before .before .before in
-    let loop = c .before .before .before .before .before .before .before in
-    let going = start .pre .1 in
-    let on = loop .loop .inv .2 (going .base) (going .state) (going .shown) (going .sound) (going .going) in
-    let first = ap (λ (x : ℕ). loop .loop .next * x) (loop .loop .inv .1) in
-    (start .pre .0, onward _ (start .pre .0) _ _ _ _ _ _ on (c .before .before .before .before .before .if1 .taken) (going .room), sound-zone _ (start .pre .0) _ _ _ _ _ _ on (c .before .before .before .before .before .if1 .taken) _ first _ (rw (loop .loop .inv .0) at (c .before .decode .ensures)))
+    let turn = c .before .before .before .before .before in
+    let pre = entry turn .pre in
+    (pre .0, onward (pre .0) (on (head turn)) (turn .if1 .taken) (pre .1 .room), sound-zone (pre .0) (on (head turn)) (turn .if1 .taken) (place≡ turn) (rw (head turn .loop .inv .0) at (c .before .decode .ensures)))
+
+-- ---- after the expansion
+module _ (c : tie.After-expand Inv-loop μ-loop) where
+  abbrev turn : tie.Then1 Inv-loop μ-loop
+  turn = c .before .before .before .before .before .before
+
+  expanded : (s₀ : List ℤ) (q₀ : ZoneState) → Shown (suc (clocks (automaton (head turn)))) s₀ q₀ (entry turn .args .store .now) (entry turn .args .turn) → SoundState (automaton (head turn)) (entry turn .args .slots) q₀ → q₀ .code ≡ 0 →
+      Turned (automaton (head turn)) (entry turn .args .slots) s₀ q₀ (head turn .loop .next) (c .expand .last .1 .0) (c .expand .result)
+  expanded s₀ q₀ h o g =
+      let w = head turn .loop .inv .2 s₀ q₀ h o g in
+      turned (entry turn .pre .0) w (turn .if1 .taken) (place≡ turn) (rw (head turn .loop .inv .0) at (c .before .before .decode .ensures))
+      (read-location (record { sfits = c .before .before .before .before .before .l .given }) (location (entry turn .pre .0) w (turn .if1 .taken) (place≡ turn))) (c .expand .ensures)
 
 same-length : tie.Need-same-length Inv-loop μ-loop
 same-length c =
-    let start = c .before .before .before .before .before .before .before .before .before .before .before .before .before .before .before in
-    let loop = c .before .before .before .before .before .before .before .before .before .before .before in
-    let going = start .pre .1 in
-    let on = loop .loop .inv .2 (going .base) (going .state) (going .shown) (going .sound) (going .going) in
-    let first = ap (λ (x : ℕ). loop .loop .next * x) (loop .loop .inv .1) in
-    opened-length _ (start .pre .0) _ _ _ _ _ _ on (c .before .before .before .before .before .before .before .before .before .if1 .taken) _ first _ (rw (loop .loop .inv .0) at (c .before .before .before .before .before .decode .ensures)) _ (read-location (record { sfits = c .before .before .before .before .before .before .before .before .l .given }) (location _ (start .pre .0) _ _ _ _ _ _ on (c .before .before .before .before .before .before .before .before .before .if1 .taken) _ first)) _ _ (c .before .before .before .expand .ensures) (going .room) ∙ sym (shown-length _ (start .pre .0) _ _ _ _ (going .room) (going .shown) (going .sound))
+    let after = c .before .before .before in
+    let going = entry (turn after) .pre .1 in
+    expanded after _ _ (going .shown) (going .sound) (going .going) .same-length (going .room) ∙ sym (at-entry (head (turn after)))
 
 returns : tie.Need-returns Inv-loop μ-loop
-returns c =
-    let start = c .before .before .before .before .before .before .before .before .before .before .before .before .before .before .before in
-    let loop = c .before .before .before .before .before .before .before .before .before .before .before in
-    let first = ap (λ (x : ℕ). loop .loop .next * x) (loop .loop .inv .1) in
-    record { shows = λ s₀ q₀ h o g. stops _ (start .pre .0) _ _ _ _ _ _ (loop .loop .inv .2 s₀ q₀ h o g) (c .before .before .before .before .before .before .before .before .before .if1 .taken) _ first _ (rw (loop .loop .inv .0) at (c .before .before .before .before .before .decode .ensures)) _ (read-location (record { sfits = c .before .before .before .before .before .before .before .before .l .given }) (location _ (start .pre .0) _ _ _ _ _ _ (loop .loop .inv .2 s₀ q₀ h o g) (c .before .before .before .before .before .before .before .before .before .if1 .taken) _ first)) _ _ (c .before .before .before .expand .ensures) (c .if2 .taken) }
+returns c = record { shows = λ s₀ q₀ h o g. expanded (c .before .before .before) s₀ q₀ h o g .stops (c .if2 .taken) }
 
 add-next : tie.Need-add-next Inv-loop μ-loop
-add-next c =
-    let start = c .before .before .before .before .before .before .before .before .before .before .before .before .before .before .before in
-    let loop = c .before .before .before .before .before .before .before .before .before .before .before in
-    let going = start .pre .1 in
-    let on = loop .loop .inv .2 (going .base) (going .state) (going .shown) (going .sound) (going .going) in
-    let first = ap (λ (x : ℕ). loop .loop .next * x) (loop .loop .inv .1) in
-    omega (arith, few _ (start .pre .0) _ _ _ _ _ _ on (c .before .before .before .before .before .before .before .before .before .if1 .taken))
+add-next c = omega (arith, below (turn (c .before .before .before)))
 
 loop-less : tie.Need-loop-less Inv-loop μ-loop
-loop-less c =
-    let start = c .before .before .before .before .before .before .before .before .before .before .before .before .before .before .before in
-    let loop = c .before .before .before .before .before .before .before .before .before .before .before in
-    let going = start .pre .1 in
-    let on = loop .loop .inv .2 (going .base) (going .state) (going .shown) (going .sound) (going .going) in
-    let first = ap (λ (x : ℕ). loop .loop .next * x) (loop .loop .inv .1) in
-    omega (arith, few _ (start .pre .0) _ _ _ _ _ _ on (c .before .before .before .before .before .before .before .before .before .if1 .taken))
+loop-less c = omega (arith, below (turn (c .before .before .before)))
 
 loop-again : tie.Need-loop-again Inv-loop μ-loop
 loop-again c =
-    let start = c .before .before .before .before .before .before .before .before .before .before .before .before .before .before .before in
-    let loop = c .before .before .before .before .before .before .before .before .before .before .before in
-    let first = ap (λ (x : ℕ). loop .loop .next * x) (loop .loop .inv .1) in
-    (loop .loop .inv .0, loop .loop .inv .1, λ s₀ q₀ h o g. goes-on _ (start .pre .0) _ _ _ _ _ _ (loop .loop .inv .2 s₀ q₀ h o g) (c .before .before .before .before .before .before .before .before .before .if1 .taken) _ first _ (rw (loop .loop .inv .0) at (c .before .before .before .before .before .decode .ensures)) _ (read-location (record { sfits = c .before .before .before .before .before .before .before .before .l .given }) (location _ (start .pre .0) _ _ _ _ _ _ (loop .loop .inv .2 s₀ q₀ h o g) (c .before .before .before .before .before .before .before .before .before .if1 .taken) _ first)) _ _ (c .before .before .before .expand .ensures) (c .if2 .left))
+    let inv = head (turn (c .before .before .before)) .loop .inv in
+    (inv .0, inv .1, λ s₀ q₀ h o g. expanded (c .before .before .before) s₀ q₀ h o g .goes-on (c .if2 .left))
 
 same-length-2 : tie.Need-same-length-2 Inv-loop μ-loop
-same-length-2 c =
-    let start = c .before .before .before .before .before .before in
-    let loop = c .before .before in
-    let going = start .pre .1 in
-    let on = loop .loop .inv .2 (going .base) (going .state) (going .shown) (going .sound) (going .going) in
-    shown-length _ (start .pre .0) _ _ _ _ (going .room) (on .shown) (on .sound) ∙ sym (shown-length _ (start .pre .0) _ _ _ _ (going .room) (going .shown) (going .sound))
+same-length-2 c = now (c .before .before)
 
 returns-2 : tie.Need-returns-2 Inv-loop μ-loop
-returns-2 c =
-    let start = c .before .before .before .before .before .before in
-    let loop = c .before .before in
-    record { shows = λ s₀ q₀ h o g. ends _ _ s₀ q₀ _ _ _ (c .if1 .left) (loop .loop .inv .2 s₀ q₀ h o g) }
+returns-2 c = record { shows = λ s₀ q₀ h o g. ends _ _ s₀ q₀ _ _ _ (c .if1 .left) (c .before .before .loop .inv .2 s₀ q₀ h o g) }
 
 pub take-spec : {M : Type 1} → statement M
 take-spec =

@@ -1,3 +1,4 @@
+-- After i turns the first i numbers are those given.
 -- Assumes nothing.
 use Prim.Native.Nat.{_-_, _≤_}
 use mathlib.Core.Path.{_≡_, refl}

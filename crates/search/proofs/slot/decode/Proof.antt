@@ -1,3 +1,4 @@
+-- Place by place, the zone has the pairs of the slot at the places that count so far.
 -- Assumes nothing.
 use Prim.Native.Nat.{_*_, _-_, _≤_}
 use mathlib.Core.Path.{_≡_, refl, _∙_}

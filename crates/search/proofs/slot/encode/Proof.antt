@@ -1,3 +1,4 @@
+-- Place by place, the slot has the pairs of the places that count so far, and zeros.
 -- Assumes nothing.
 use Prim.Native.Nat.{_*_, _-_, _≤_}
 use mathlib.Core.Path.{_≡_, refl, _∙_}

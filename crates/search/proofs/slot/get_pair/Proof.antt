@@ -1,3 +1,4 @@
+-- A pair read from a slot: its numbers widened.
 -- Assumes nothing.
 use Prim.Native.Nat.{_+_, _*_}
 use lib.IntN.{pos}

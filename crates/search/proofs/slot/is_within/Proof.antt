@@ -1,3 +1,4 @@
+-- The containment test of two slots: so far every pair passed, and the first that fails decides.
 -- Assumes nothing.
 use Prim.Native.Nat.{_-_, _≤_}
 use mathlib.Core.Path.{_≡_, refl, sym}

@@ -1,3 +1,4 @@
+-- The store with the numbers given in place of one slot.
 -- Assumes nothing.
 use lib.ListN.{take}
 use Rattle.zones.proofs.Lent.{lent-tail}

@@ -1,3 +1,4 @@
+-- A pair written to a slot fits the 32 bits of its numbers.
 -- Assumes nothing.
 use lib.ListN.{set}
 use Prim.Native.Nat.{_+_, _*_}

@@ -1,3 +1,4 @@
+-- The length of a slot does not wrap.
 -- Assumes nothing.
 use borrow.Author.Needs.{needs}
 use native.Mathlib.Nat.{mul-le-mul}
