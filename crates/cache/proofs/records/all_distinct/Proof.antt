@@ -1,4 +1,4 @@
--- The walk of `all_distinct`, two records at a turn: those from `at` on are distinct where all of them are.
+-- `all_distinct` meets its contract, two records at a turn: those from `at` on are distinct where all of them are.
 use Prim.Native.Nat.{_+_, _-_, _≤_}
 use mathlib.Core.Path.{_≡_, refl, _∙_}
 use lib.ListN.{length, drop}

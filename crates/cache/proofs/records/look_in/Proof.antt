@@ -1,4 +1,4 @@
--- The walk of `look_in`: looking among the records from `at` on is looking among all of them.
+-- `look_in` meets its contract: looking among the records from `at` on is looking among all of them.
 use Prim.Native.Nat.{_-_, _≤_}
 use mathlib.Core.Path.{_≡_, refl, _∙_}
 use lib.ListN.{length, drop}

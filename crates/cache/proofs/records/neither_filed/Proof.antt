@@ -1,4 +1,4 @@
--- The walk of `neither_filed`: neither automaton stands in the records from `at` on where neither stands in any of them.
+-- `neither_filed` meets its contract: neither automaton stands in the records from `at` on where neither stands in any of them.
 use Prim.Native.Nat.{_-_, _≤_}
 use mathlib.Core.Path.{_≡_, refl, _∙_}
 use lib.ListN.{length, drop}

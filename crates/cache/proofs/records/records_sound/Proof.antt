@@ -1,4 +1,4 @@
--- The walk of `records_sound`: the records from `at` on are sound where all of them are.
+-- `records_sound` meets its contract: the records from `at` on are sound where all of them are.
 use Prim.Native.Nat.{_-_, _≤_}
 use mathlib.Core.Path.{_≡_, refl, _∙_}
 use lib.ListN.{length, drop}
