@@ -8,7 +8,7 @@ use lib.ListN.{length, take, drop, length-drop}
 use lib.Seq.{take-all}
 use native.Mathlib.Omega.{arith}
 use Rattle.cache.specs.Bytes.{sameBytes}
-use Rattle.cache.specs.Records.{measured, filedAs, recordAutomaton}
+use Rattle.cache.specs.Records.{filedAs, recordAutomaton}
 use Rattle.cache.specs.Lookups.{lookUp, isAbsent, neitherFiled}
 use Rattle.cache.specs.Caches.{recordsIn, distinct}
 use Rattle.cache.proofs.Walking.{MeasuredAt, WholeAt, recordAt, own, same-here, none-here, more-here, none-left}
