@@ -17,11 +17,11 @@ pub record Example : Type 0 where
   pub after : List ℕ
 
 -- "Card A is `00000026 01 01 02 00 01 0001 00000000 00000005 00000000 00000009 00 01 00 00000007 FFFFFFFF`"
-abbrev pub cardA : List ℕ
-cardA = 0 ∷ 0 ∷ 0 ∷ 38 ∷ 1 ∷ 1 ∷ 2 ∷ 0 ∷ 1 ∷ 0 ∷ 1 ∷ 0 ∷ 0 ∷ 0 ∷ 0 ∷ 0 ∷ 0 ∷ 0 ∷ 5 ∷ 0 ∷ 0 ∷ 0 ∷ 0 ∷ 0 ∷ 0 ∷ 0 ∷ 9 ∷ 0 ∷ 1 ∷ 0 ∷ 0 ∷ 0 ∷ 0 ∷ 7 ∷ 255 ∷ 255 ∷ 255 ∷ 255 ∷ []
+abbrev pub automatonA : List ℕ
+automatonA = 0 ∷ 0 ∷ 0 ∷ 38 ∷ 1 ∷ 1 ∷ 2 ∷ 0 ∷ 1 ∷ 0 ∷ 1 ∷ 0 ∷ 0 ∷ 0 ∷ 0 ∷ 0 ∷ 0 ∷ 0 ∷ 5 ∷ 0 ∷ 0 ∷ 0 ∷ 0 ∷ 0 ∷ 0 ∷ 0 ∷ 9 ∷ 0 ∷ 1 ∷ 0 ∷ 0 ∷ 0 ∷ 0 ∷ 7 ∷ 255 ∷ 255 ∷ 255 ∷ 255 ∷ []
 
 abbrev pub Right : Example → Type 0
-Right x = (consultAnswer (x .cache) cardA (x .amount) ≡ x .answer) × (consultCache (x .cache) cardA (x .amount) ≡ x .after)
+Right x = (consultAnswer (x .cache) automatonA (x .amount) ≡ x .answer) × (consultCache (x .cache) automatonA (x .amount) ≡ x .after)
 
 abbrev pub AllRight : List Example → Type 0
 AllRight [] = Unit {0}
@@ -33,7 +33,7 @@ empty free = 0 ∷ 0 ∷ 0 ∷ 5 ∷ 1 ∷ replicate free 9
 
 -- "holds 1/1, one zone": the record takes 17 + 38 bytes, the cache 60
 abbrev recordA : List ℕ
-recordA = 0 ∷ 0 ∷ 0 ∷ 55 ∷ 1 ∷ 0 ∷ 0 ∷ 0 ∷ 1 ∷ 0 ∷ 0 ∷ 0 ∷ 1 ∷ 0 ∷ 0 ∷ 0 ∷ 1 ∷ cardA
+recordA = 0 ∷ 0 ∷ 0 ∷ 55 ∷ 1 ∷ 0 ∷ 0 ∷ 0 ∷ 1 ∷ 0 ∷ 0 ∷ 0 ∷ 1 ∷ 0 ∷ 0 ∷ 0 ∷ 1 ∷ automatonA
 
 abbrev filed : ℕ → List ℕ
 filed free = 0 ∷ 0 ∷ 0 ∷ 60 ∷ 1 ∷ (recordA ++ replicate free 9)

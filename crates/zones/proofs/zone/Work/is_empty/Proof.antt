@@ -8,7 +8,7 @@ use mir.Val.{SFits}
 use mir.Facts.{toZ-ofZ}
 use Rattle.zones.specs.Zones.{pairAt, entry}
 use Rattle.zones.specs.Reductions.{emptyIn}
-use Rattle.zones.proofs.Progress.{empty-yes, empty-no, empty-zeroPair}
+use Rattle.zones.proofs.Progress.{empty-yes, empty-no, empty-none}
 use Rattle.zones.proofs.zone.Work.is_empty.Statement.{statement}
 use Rattle.zones.proofs.zone.Work.is_empty.Tie as tie
 
@@ -35,7 +35,7 @@ unfolding pairAt
 loop-again c = (omega arith, c .before .before .before .before .loop .inv .1 ∙ empty-no _ _ (omega arith) (rw (toZ-ofZ (fits (c .before))) at (c .if1 .left)))
 
 returns-2 : tie.Need-returns-2 Inv-loop μ-loop
-returns-2 c = sym (c .before .loop .inv .1 ∙ empty-zeroPair _ _ (c .loop-test .left))
+returns-2 c = sym (c .before .loop .inv .1 ∙ empty-none _ _ (c .loop-test .left))
 
 pub is-empty-spec : {M : Type 1} → statement M
 is-empty-spec =
