@@ -54,79 +54,85 @@ module _ (t : List ℕ) where
       go false true e = rw (fills true e)
       go false false e = rw (fills false e)
 
--- ---- at a place: m is what is measured there
-module _ (s : List ℕ) (at : ℕ) {m : ℕ} (h : at ≤ length s) (e : m ≡ measured (take (length s - at) (drop at s))) where
-  measure-here : m ≡ measured (drop at s)
-  measure-here = e ∙ ap measured (take-all (length s - at) (drop at s) (omega (arith, length-drop at s)))
+-- ---- at a place: the m bytes that `measure` gives there, and a whole record once its test is past
+pub record MeasuredAt (s : List ℕ) (at m : ℕ) : Type 0 where
+  pub place : at ≤ length s
+  pub read : m ≡ measured (take (length s - at) (drop at s))
 
+pub record WholeAt (s : List ℕ) (at m : ℕ) : Type 0 where
+  pub measured : MeasuredAt s at m
+  pub least : 17 ≤ m
   pub within : at + m ≤ length s
+
+abbrev pub recordAt : List ℕ → ℕ → ℕ → List ℕ
+recordAt s at m = take m (drop at s)
+
+module _ {s : List ℕ} {at m : ℕ} (h : MeasuredAt s at m) where
+  measure-here : m ≡ measured (drop at s)
+  measure-here = h .read ∙ ap measured (take-all (length s - at) (drop at s) (omega (arith, length-drop at s)))
+
+  within : at + m ≤ length s
   within = omega (arith, measure-here, measured-le (drop at s), length-drop at s)
 
-  some : (m ≡ 0 → ⊥) → 0 < measured (drop at s)
-  some z = subst (λ (k : ℕ). 0 < k) measure-here (⊎-elim (λ q. absurd (z q)) (λ p. p) (eq-zero-or-pos m))
-
-  pub least : (m ≡ 0 → ⊥) → 17 ≤ m
-  least z = omega (arith, measure-here, measured-least (drop at s) (some z))
-
-  -- the record and its automaton, as they are lent
-  abbrev pub here : List ℕ
-  here = take m (drop at s)
-
-  lent : take ((at + m) - at) (drop at s) ≡ here
-  lent = let q : (at + m) - at ≡ m = omega arith in rw q
-
-  pub own : take ((at + m) - (at + 17)) (drop (at + 17) s) ≡ recordAutomaton here
-  own =
-      let q : (at + m) - (at + 17) ≡ m - 17 = omega arith in
-      rw (q, ← drop-drop 17 at s) (sym (drop-take 17 m (drop at s)))
-
-  pub long : (m ≡ 0 → ⊥) → 17 ≤ length (take ((at + m) - at) (drop at s))
-  long z = rw lent (omega (arith, length-take-le m (drop at s) (omega (arith, length-drop at s, within)), least z))
-
-  left : drop (measured (drop at s)) (drop at s) ≡ drop (at + m) s
-  left = ap (λ (k : ℕ). drop k (drop at s)) (sym measure-here) ∙ drop-drop m at s
+  pub whole : (m ≡ 0 → ⊥) → WholeAt s at m
+  whole z = ⊎-elim (λ q. absurd (z q)) (λ p. record { measured = h; least = omega (arith, measure-here, measured-least (drop at s) (subst (λ (k : ℕ). 0 < k) measure-here p)); within = within }) (eq-zero-or-pos m)
 
   pub none-here : m ≡ 0 → recordsIn (drop at s) ≡ []
   none-here z = records-none (drop at s) (sym measure-here ∙ z)
 
-  pub more-here : (m ≡ 0 → ⊥) → recordsIn (drop at s) ≡ here ∷ recordsIn (drop (at + m) s)
-  more-here z = records-more (drop at s) (some z) ∙ (λ i. take (sym measure-here i) (drop at s) ∷ recordsIn (left i))
+  pub look-none : (b : List ℕ) → m ≡ 0 → Absent ≡ lookUp (recordsIn (drop at s)) b
+  unfolding lookUp
+  look-none b z = rw (none-here z) refl
+
+  pub sound-none : m ≡ 0 → at < length s → false ≡ soundRecords (drop at s)
+  sound-none z l = sym (none-sound (drop at s) (sym measure-here ∙ z) ∙ ne-eqb 0 (length (drop at s)) (λ q. absurd (omega (arith, length-drop at s))))
+
+module _ {s : List ℕ} {at m : ℕ} (w : WholeAt s at m) where
+  some : 0 < measured (drop at s)
+  some = omega (arith, measure-here (w .measured))
+
+  left : drop (measured (drop at s)) (drop at s) ≡ drop (at + m) s
+  left = ap (λ (k : ℕ). drop k (drop at s)) (sym (measure-here (w .measured))) ∙ drop-drop m at s
+
+  -- the record and its automaton, as they are lent
+  lent : take ((at + m) - at) (drop at s) ≡ recordAt s at m
+  lent = let q : (at + m) - at ≡ m = omega arith in rw q
+
+  pub own : take ((at + m) - (at + 17)) (drop (at + 17) s) ≡ recordAutomaton (recordAt s at m)
+  own =
+      let q : (at + m) - (at + 17) ≡ m - 17 = omega arith in
+      rw (q, ← drop-drop 17 at s) (sym (drop-take 17 m (drop at s)))
+
+  pub long : 17 ≤ length (take ((at + m) - at) (drop at s))
+  long = rw lent (omega (arith, length-take-le m (drop at s) (omega (arith, length-drop at s))))
+
+  pub more-here : recordsIn (drop at s) ≡ recordAt s at m ∷ recordsIn (drop (at + m) s)
+  more-here = records-more (drop at s) some ∙ (λ i. take (sym (measure-here (w .measured)) i) (drop at s) ∷ recordsIn (left i))
 
   -- ---- lookup
-  module _ (b : List ℕ) where
-    pub look-none : m ≡ 0 → lookUp (recordsIn (drop at s)) b ≡ Absent
+  module _ (b : List ℕ) {t : Bool} (q : t ≡ sameBytes (take ((at + m) - (at + 17)) (drop (at + 17) s)) b) where
+    pub same-here : sameBytes (recordAutomaton (recordAt s at m)) b ≡ t
+    same-here = sym (q ∙ ap (λ (x : List ℕ). sameBytes x b) own)
+
+    pub look-found : t ≡ true → filedAs (take ((at + m) - at) (drop at s)) ≡ lookUp (recordsIn (drop at s)) b
     unfolding lookUp
-    look-none z = rw (none-here z)
+    look-found r = rw (more-here, same-here, r) (ap filedAs lent)
 
-    module _ (z : m ≡ 0 → ⊥) {t : Bool} (q : t ≡ sameBytes (take ((at + m) - (at + 17)) (drop (at + 17) s)) b) where
-      same-here : sameBytes (recordAutomaton here) b ≡ t
-      same-here = sym (q ∙ ap (λ (x : List ℕ). sameBytes x b) own)
-
-      pub look-found : t ≡ true → filedAs (take ((at + m) - at) (drop at s)) ≡ lookUp (recordsIn (drop at s)) b
-      unfolding lookUp
-      look-found r = rw (more-here z, same-here, r) (ap filedAs lent)
-
-      pub look-next : t ≡ false → lookUp (recordsIn (drop (at + m) s)) b ≡ lookUp (recordsIn (drop at s)) b
-      unfolding lookUp
-      look-next r = rw (more-here z, same-here, r) refl
+    pub look-next : t ≡ false → lookUp (recordsIn (drop (at + m) s)) b ≡ lookUp (recordsIn (drop at s)) b
+    unfolding lookUp
+    look-next r = rw (more-here, same-here, r) refl
 
   -- ---- sound records
-  pub sound-none : m ≡ 0 → at < length s → soundRecords (drop at s) ≡ false
-  sound-none z l = none-sound (drop at s) (sym measure-here ∙ z) ∙ ne-eqb 0 (length (drop at s)) (λ q. absurd (omega (arith, length-drop at s)))
-
-  sound-here : (m ≡ 0 → ⊥) → soundRecords (drop at s) ≡ cond (soundRecord here) (soundRecords (drop (at + m) s)) false
-  sound-here z = more-sound (drop at s) (some z)
-      ∙ (λ i. cond (soundRecord (take (sym measure-here i) (drop at s))) (soundRecords (left i)) false)
-
-  module _ (z : m ≡ 0 → ⊥) {t : Bool} (q : t ≡ soundRecord (take ((at + m) - at) (drop at s))) where
-    sound-test : soundRecord here ≡ t
-    sound-test = sym (q ∙ ap soundRecord lent)
+  module _ {t : Bool} (q : t ≡ soundRecord (take ((at + m) - at) (drop at s))) where
+    sound-here : soundRecords (drop at s) ≡ cond t (soundRecords (drop (at + m) s)) false
+    sound-here = more-sound (drop at s) some ∙ (λ i. cond (soundRecord (take (sym (measure-here (w .measured)) i) (drop at s))) (soundRecords (left i)) false)
+        ∙ ap (λ (x : Bool). cond x (soundRecords (drop (at + m) s)) false) (sym (q ∙ ap soundRecord lent))
 
     pub sound-next : t ≡ true → soundRecords (drop (at + m) s) ≡ soundRecords (drop at s)
-    sound-next r = sym (sound-here z ∙ rw (sound-test, r))
+    sound-next r = sym (sound-here ∙ rw r)
 
     pub sound-bad : t ≡ false → false ≡ soundRecords (drop at s)
-    sound-bad r = sym (sound-here z ∙ rw (sound-test, r))
+    sound-bad r = sym (sound-here ∙ rw r)
 
 -- ---- at the end nothing is left
 module _ (s : List ℕ) (at : ℕ) (h : length s ≤ at) where
@@ -136,9 +142,9 @@ module _ (s : List ℕ) (at : ℕ) (h : length s ≤ at) where
   pub none-left : recordsIn (drop at s) ≡ []
   none-left = records-none (drop at s) nothing
 
-  pub look-end : (b : List ℕ) → lookUp (recordsIn (drop at s)) b ≡ Absent
+  pub look-end : (b : List ℕ) → Absent ≡ lookUp (recordsIn (drop at s)) b
   unfolding lookUp
-  look-end b = rw none-left
+  look-end b = rw none-left refl
 
-  pub sound-end : soundRecords (drop at s) ≡ true
-  sound-end = none-sound (drop at s) nothing ∙ eq-eqb 0 (length (drop at s)) (omega (arith, length-drop at s))
+  pub sound-end : true ≡ soundRecords (drop at s)
+  sound-end = sym (none-sound (drop at s) nothing ∙ eq-eqb 0 (length (drop at s)) (omega (arith, length-drop at s)))

@@ -14,7 +14,7 @@ use Rattle.cache.specs.declared.lookup.Lookup.{Lookup}
 use Rattle.cache.specs.declared.lookup.Lookup.the-variants.{Filed}
 use Rattle.cache.specs.Bytes.{be32}
 
--- the bytes before the card
+-- the bytes before the automaton
 abbrev pub headLength : ℕ
 headLength = 17
 
@@ -43,7 +43,7 @@ soundTerms kind f =
     cond (eqb kind 0) (eqb (f .n) 0 && eqb (f .d) 0)
     (eqb kind 1 && (leb 1 (f .n) && eqb (gcdOf (f .n) (f .d)) 1))
 
--- and its card is "free of 1 to 8"
+-- and its automaton is "free of 1 to 8"
 unfoldable pub soundRecord : List ℕ → Bool
 soundRecord r = soundTerms (recordKind r) (recordTerms r) && eqb (refusalOf (recordAutomaton r)) 0
 

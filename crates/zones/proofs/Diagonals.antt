@@ -82,7 +82,7 @@ module _ (s e : ℕ) (s> : 0 < s) where
       go (inl z) = omega (arith, lt-read m, ap (λ (q : Pair). up (q .m)) z, ap (λ (q : Pair). down (q .m)) z)
       go (inr k) = omega (arith, lt-read (k .value t), i .gaps a a ha ha)
 
-  -- one with zeroPair is (0, 0) on the diagonal
+  -- a diagonal entry whose m is not below 0 is (0, 0)
   pub sign-zero : (f : Fraction) (q : Pair) → Sign f q → pos 0 ≤ℤ q .m → q ≡ zeroPair
   sign-zero f q (inl z) h = z
   sign-zero f q (inr k) h = let z : ⊥ = omega (arith, lt-read (k .m), le-read h) in absurd z

@@ -19,7 +19,6 @@ use Rattle.zones.specs.Zones.{pairAt}
 use Rattle.zones.specs.Containment.{placeOf, withinTo, within, loweredTo, loweredWithin, containmentOf, larger, countTo, largestCount}
 use Rattle.zones.specs.Ranges.{Bounded, Fits32, Comparable, scale, lastCounts, widest}
 use Rattle.zones.proofs.Choices.{true-false, not-less-shows}
-use Rattle.zones.proofs.Order.{_≼_}
 use Rattle.zones.proofs.Ranges.{lowered-narrow, chosen-narrow, last-here}
 
 -- entry (a, b) stands at place a × 9 + b
@@ -66,12 +65,6 @@ module _ (n : ℕ) (z y : List Pair) where
   unfolding withinTo
   within-shows zero e m hm c = absurd (not-suc-le-zero hm)
   within-shows (suc k) e m hm c = next-shows k (within-shows k) (ltb (k % 9) n) (isLess (placeOf y k) (placeOf z k)) refl refl e m hm c (ℕ-discrete m k)
-
-  pub within-≼ : n ≤ 9 → within n z y ≡ true → (a b : ℕ) → a < n → b < n → pairAt z a b ≼ pairAt y a b
-  unfolding pairAt
-  within-≼ h e a b ha hb =
-      let c : (a * 9 + b) % 9 ≡ b = omega arith in
-      record { kept = within-shows (n * 9) e (a * 9 + b) (omega arith) (omega arith) }
 
   -- ---- the fraction, upwards
   pub lowered-counts : (k : ℕ) (f : Fraction) {g t : Fraction} → k % 9 < n → g ≡ loweredTo n k z y f → t ≡ thresholdOf (placeOf z k) (placeOf y k) → loweredBy g t ≡ loweredTo n (k + 1) z y f

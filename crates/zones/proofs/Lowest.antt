@@ -13,7 +13,6 @@ use native.Mathlib.Nat.{
   lt-of-mul-lt-mul-right,
   eq-zero-or-pos,
   div-self,
-  div-one,
   div-zero,
   zero-div,
   div-le-self,
@@ -151,10 +150,6 @@ module _ (f : Fraction) where
   pub lowest-d-le : lowestTerms f .d ≤ f .d
   unfolding lowestTerms
   lowest-d-le = div-le-self _ _
-
-  pub lowest-stays : gcdOf (f .n) (f .d) ≡ 1 → lowestTerms f ≡ f
-  unfolding lowestTerms
-  lowest-stays e = simp (e, div-one)
 
   module _ (h : 0 < f .n) where
     pub lowest-positive : 0 < lowestTerms f .n

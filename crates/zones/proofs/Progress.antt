@@ -29,10 +29,10 @@ unfolding emptyIn
 empty-no zero w h e = absurd (not-suc-le-zero h)
 empty-no (suc i) w h e = let f : suc i - 1 ≡ i = omega arith in rw (rw f at e) (ap (λ (n : ℕ). emptyIn n w) (sym f))
 
-pub empty-zeroPair : (i : ℕ) (w : Work) → i ≤ 0 → emptyIn i w ≡ false
+pub empty-none : (i : ℕ) (w : Work) → i ≤ 0 → emptyIn i w ≡ false
 unfolding emptyIn
-empty-zeroPair zero w h = refl
-empty-zeroPair (suc i) w h = absurd (not-suc-le-zero h)
+empty-none zero w h = refl
+empty-none (suc i) w h = absurd (not-suc-le-zero h)
 
 -- a zone that is not empty has no diagonal entry below 0
 pub diagonals : (n : ℕ) (w : Work) → emptyIn n w ≡ false → (a : ℕ) → a < n → pos 0 ≤ℤ entry w a a .m

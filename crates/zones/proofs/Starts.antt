@@ -1,4 +1,4 @@
--- The first zone, a zone inside another, and waits one after another.
+-- The first zone, and a zone inside another.
 -- Assumes nothing.
 use Prim.Native.Nat.{ℕ, zero, suc, _+_, _*_, _%_, _<_, _≤_}
 use mathlib.Core.Path.{_≡_, refl, ap, _∙_}
@@ -17,10 +17,10 @@ use Rattle.zones.specs.declared.zone.Work.{Work}
 use Rattle.zones.specs.Integers.{int, eq-read}
 use Rattle.zones.specs.Fractions.{loweredBy}
 use Rattle.zones.specs.Pairs.{thresholdOf}
-use Rattle.zones.specs.Zones.{Limits, pairAt, entry, firstWork}
+use Rattle.zones.specs.Zones.{pairAt, entry, firstWork}
 use Rattle.zones.specs.Containment.{placeOf, within, loweredTo, loweredWithin}
 use Rattle.zones.specs.Values.{valueOf, Below}
-use Rattle.zones.specs.Sets.{squareOf, Has, Within, Waits, Enters}
+use Rattle.zones.specs.Sets.{squareOf, Has}
 use Rattle.zones.specs.Moves.{Shaped, Low}
 use Rattle.zones.proofs.Choices.{not-less-shows}
 use Rattle.zones.proofs.Inside.{within-shows, lowered-ind}
@@ -44,14 +44,6 @@ module _ (s e : ℕ) (s> : 0 < s) (c : ℕ) (n≤ : suc c ≤ 9) where
     λ h a ha. omega (arith, h .start, h .gaps a 0 ha (omega arith), eq-read (first-zero a 0 ha (omega arith))),
     λ h. record { start = h 0 (omega arith); gaps = λ a b ha hb. omega (arith, h a ha, h b hb, eq-read (first-zero a b ha hb)) },
   )
-
-  pub first-proper : 0 < firstWork .fraction .n
-  unfolding firstWork
-  first-proper = omega arith
-
-  pub first-below : Below s e (firstWork .fraction)
-  unfolding firstWork
-  first-below = omega arith
 
 -- ---- a zone inside another: the thresholds of the test are all that is needed
 pub lowered-falls : (n : ℕ) (z y : List Pair) (s e : ℕ) → 0 < s → (f : Fraction) → Below s e (loweredWithin n z y f) → Below s e f
@@ -94,11 +86,3 @@ module _ (n : ℕ) (z y : List Pair) (h : within n z y ≡ true) where
 
 pub inside-has : (s e : ℕ) → 0 < s → (c : ℕ) → suc c ≤ 9 → (w u : Work) (f : Fraction) → within (suc c) (w .zone) (u .zone) ≡ true → Below s e (loweredWithin (suc c) (w .zone) (u .zone) f) → (v : ℕ → ℕ) → Has s e c w v → Has s e c u v
 inside-has s e s> c n≤ w u f h b v = in-above (suc c) (squareOf s e w) (squareOf s e u) v (inside-values (suc c) (w .zone) (u .zone) h s e s> n≤ f b)
-
--- ---- one wait after another
-pub waits-again : (n t t′ : ℕ) (u v w : ℕ → ℕ) → Waits n t u v → Waits n t′ v w → Waits n (t + t′) u w
-waits-again n t t′ u v w f g = record { start = g .start; later = λ x px hx. omega (arith, f .later x px hx, g .later x px hx) }
-
--- a state that entered may wait on
-pub enters-again : (s e c t : ℕ) (I : Limits) (u v w : ℕ → ℕ) → Enters s e c I u v → Waits (suc c) t v w → Within s e c I w → Enters s e c I u w
-enters-again s e c t I u v w h g k = record { wait = h .wait + t; arrived = h .arrived; waited = waits-again (suc c) (h .wait) t u v w (h .waited) g; still = k }

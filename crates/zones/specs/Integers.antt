@@ -155,16 +155,9 @@ ltZ-true x y e = record { lt = subst T (sym e) tt }
 pub ltZ-false : (x y : ℤ) → ltZ x y ≡ false → y ≤ℤ x
 ltZ-false x y e = ltZ-no (subst (λ (b : Bool). T (not b)) (sym e) tt)
 
-is-true : (t : Bool) → T t → t ≡ true
-is-true true h = refl
-is-true false h = absurd h
-
 is-false : (t : Bool) → (T t → ⊥) → t ≡ false
 is-false true h = absurd (h tt)
 is-false false h = refl
-
-pub lt-ltZ : (x y : ℤ) → x <ℤ y → ltZ x y ≡ true
-lt-ltZ x y h = is-true (ltZ x y) (h .lt)
 
 pub le-ltZ : (x y : ℤ) → y ≤ℤ x → ltZ x y ≡ false
 le-ltZ x y h = is-false (ltZ x y) (λ t. omega (arith, le-read h, lt-down x y t))

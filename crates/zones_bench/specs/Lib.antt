@@ -1,1 +1,2 @@
+-- What the benchmark computes.
 pub mod Bench

@@ -1,1 +1,2 @@
+-- What is loaded.
 pub mod Loading

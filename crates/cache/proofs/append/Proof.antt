@@ -1,3 +1,4 @@
+-- `append` meets its contract: what the writer leaves in the part lent to it, then the used length.
 use Prim.Native.Nat.{_+_}
 use mathlib.Core.List.{_++_, append-assoc}
 use mathlib.Core.Path.{sym, _∙_}
@@ -8,39 +9,6 @@ use Rattle.cache.proofs.Writing.{appends}
 use borrow.Author.Needs.{needs}
 use Rattle.cache.proofs.append.Statement.{statement}
 use Rattle.cache.proofs.append.Tie as tie
-
-add-next : tie.Need-add-next
-add-next c = search needs
-
-add-next-2 : tie.Need-add-next-2
-add-next-2 c = search needs
-
-sub-write : tie.Need-sub-write
-sub-write c = search needs
-
-part-write-start : tie.Need-part-write-start
-part-write-start c = search needs
-
-part-write-end : tie.Need-part-write-end
-part-write-end c = search needs
-
-write-requires : tie.Need-write-requires
-write-requires c κs = search needs
-
-cast-bytes-of : tie.Need-cast-bytes-of
-cast-bytes-of c = search needs
-
-bytes-of-requires : tie.Need-bytes-of-requires
-bytes-of-requires c κs = search needs
-
-slice-aggregate-copy : tie.Need-slice-aggregate-copy
-slice-aggregate-copy c = search needs
-
-copy-requires : tie.Need-copy-requires
-copy-requires c κs = search needs
-
-same-length : tie.Need-same-length
-same-length c = search needs
 
 returns : tie.Need-returns
 returns c =
@@ -53,15 +21,15 @@ pub append-spec : {M : Type 1} → statement M
 append-spec =
     tie.close
     (tie.spec
-    add-next
-    add-next-2
-    sub-write
-    part-write-start
-    part-write-end
-    write-requires
-    cast-bytes-of
-    bytes-of-requires
-    slice-aggregate-copy
-    copy-requires
-    same-length
+    (λ c. search needs)
+    (λ c. search needs)
+    (λ c. search needs)
+    (λ c. search needs)
+    (λ c. search needs)
+    (λ c κs. search needs)
+    (λ c. search needs)
+    (λ c κs. search needs)
+    (λ c. search needs)
+    (λ c κs. search needs)
+    (λ c. search needs)
     returns)

@@ -1,3 +1,4 @@
+-- `make_empty` meets its contract: too few bytes, or the five of an empty cache.
 use mathlib.Core.Path.{sym, _∙_}
 use native.Mathlib.Omega.{arith}
 use Rattle.cache.proofs.Asking.{empty-refused, empty-unchanged, empty-done, empty-made}
@@ -8,18 +9,9 @@ use Rattle.cache.proofs.make_empty.Tie as tie
 returns : tie.Need-returns
 returns c = (sym (empty-refused _ (omega arith)), sym (empty-unchanged _ (omega arith)))
 
-slice-aggregate-copy : tie.Need-slice-aggregate-copy
-slice-aggregate-copy c = search needs
-
-copy-requires : tie.Need-copy-requires
-copy-requires c κs = search needs
-
-same-length : tie.Need-same-length
-same-length c = search needs
-
 returns-2 : tie.Need-returns-2
 returns-2 c = (sym (empty-done _ (omega arith)), c .before .before .copy .ensures ∙ sym (empty-made _ (omega arith)))
 
 pub make-empty-spec : {M : Type 1} → statement M
 make-empty-spec =
-    tie.close (tie.spec returns slice-aggregate-copy copy-requires same-length returns-2)
+    tie.close (tie.spec returns (λ c. search needs) (λ c κs. search needs) (λ c. search needs) returns-2)

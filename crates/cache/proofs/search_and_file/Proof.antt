@@ -1,3 +1,4 @@
+-- `search_and_file` meets its contract: 12 where there is no room, else the search and its verdict filed.
 use Prim.Native.Nat.{_+_}
 use mathlib.Core.Path.{refl, ap, _∙_}
 use lib.ListN.{length}
@@ -8,50 +9,17 @@ use borrow.Author.Needs.{needs}
 use Rattle.cache.proofs.search_and_file.Statement.{statement}
 use Rattle.cache.proofs.search_and_file.Tie as tie
 
-number-at-requires : tie.Need-number-at-requires
-number-at-requires c κs = search needs
-
-cast-used : tie.Need-cast-used
-cast-used c = search needs
-
-add-length : tie.Need-add-length
-add-length c = search needs
-
-sub-if1 : tie.Need-sub-if1
-sub-if1 c = search needs
-
-same-length : tie.Need-same-length
-same-length c = search needs
-
 returns : tie.Need-returns
 returns c =
     let a = c .before .before .before .before .before .args in
     let h = full-short (a .cache .now) (17 + length (a .automaton .now)) (omega arith) in
     (rw h refl, (rw h refl, rw h refl))
 
-sub-if2 : tie.Need-sub-if2
-sub-if2 c = search needs
-
-same-length-2 : tie.Need-same-length-2
-same-length-2 c = search needs
-
 returns-2 : tie.Need-returns-2
 returns-2 c =
     let a = c .before .before .before .before .before .before .args in
     let h = full-long (a .cache .now) (17 + length (a .automaton .now)) (omega arith) in
     (rw h refl, (rw h refl, rw h refl))
-
-search-requires : tie.Need-search-requires
-search-requires c κs = search needs
-
-file-requires : tie.Need-file-requires
-file-requires c κs = search needs
-
-same-length-3 : tie.Need-same-length-3
-same-length-3 c = search needs
-
-same-length-4 : tie.Need-same-length-4
-same-length-4 c = search needs
 
 returns-3 : tie.Need-returns-3
 returns-3 c =
@@ -64,17 +32,17 @@ pub search-and-file-spec : {M : Type 1} → statement M
 search-and-file-spec =
     tie.close
     (tie.spec
-    number-at-requires
-    cast-used
-    add-length
-    sub-if1
-    same-length
+    (λ c κs. search needs)
+    (λ c. search needs)
+    (λ c. search needs)
+    (λ c. search needs)
+    (λ c. search needs)
     returns
-    sub-if2
-    same-length-2
+    (λ c. search needs)
+    (λ c. search needs)
     returns-2
-    search-requires
-    file-requires
-    same-length-3
-    same-length-4
+    (λ c κs. search needs)
+    (λ c κs. search needs)
+    (λ c. search needs)
+    (λ c. search needs)
     returns-3)

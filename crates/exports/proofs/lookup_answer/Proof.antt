@@ -1,31 +1,18 @@
+-- `lookup_answer` meets its contract, case by case.
 use mathlib.Core.Path.{refl}
 use Rattle.exports.specs.Replies.{lookupAnswer}
 use borrow.Author.Needs.{needs}
 use Rattle.exports.proofs.lookup_answer.Statement.{statement}
 use Rattle.exports.proofs.lookup_answer.Tie as tie
 
-enum-known-lookup : tie.Need-enum-known-lookup
-enum-known-lookup c = search needs
-
-enum-told : tie.Need-enum-told
-enum-told c = search needs
-
-enum-known-lookup-2 : tie.Need-enum-known-lookup-2
-enum-known-lookup-2 c = search needs
-
-returns : tie.Need-returns
-unfolding lookupAnswer
-returns c = rw (c .before .lookup .given .1) refl
-
-returns-2 : tie.Need-returns-2
-unfolding lookupAnswer
-returns-2 c = rw (c .enum-told .given .1) refl
-
-returns-3 : tie.Need-returns-3
-unfolding lookupAnswer
-returns-3 c = rw (c .before .lookup2 .given .1) refl
-
 pub lookup-answer-spec : {M : Type 1} → statement M
+unfolding lookupAnswer
 lookup-answer-spec =
     tie.close
-    (tie.spec enum-known-lookup enum-told enum-known-lookup-2 returns returns-2 returns-3)
+    (tie.spec
+    (λ c. search needs)
+    (λ c. search needs)
+    (λ c. search needs)
+    (λ c. rw (c .before .lookup .given .1) refl)
+    (λ c. rw (c .enum-told .given .1) refl)
+    (λ c. rw (c .before .lookup2 .given .1) refl))

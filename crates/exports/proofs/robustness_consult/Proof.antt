@@ -1,18 +1,7 @@
+-- `robustness_consult` meets its contract: what `consult` did, and its answer told.
 use borrow.Author.Needs.{needs}
 use Rattle.exports.proofs.robustness_consult.Statement.{statement}
 use Rattle.exports.proofs.robustness_consult.Tie as tie
-
-consult-requires : tie.Need-consult-requires
-consult-requires c κs = search needs
-
-tell-requires : tie.Need-tell-requires
-tell-requires c κs = search needs
-
-same-length : tie.Need-same-length
-same-length c = search needs
-
-same-length-2 : tie.Need-same-length-2
-same-length-2 c = search needs
 
 returns : tie.Need-returns
 returns c =
@@ -22,4 +11,4 @@ returns c =
 
 pub robustness-consult-spec : {M : Type 1} → statement M
 robustness-consult-spec =
-    tie.close (tie.spec consult-requires tell-requires same-length same-length-2 returns)
+    tie.close (tie.spec (λ c κs. search needs) (λ c κs. search needs) (λ c. search needs) (λ c. search needs) returns)

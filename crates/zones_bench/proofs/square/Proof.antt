@@ -1,4 +1,4 @@
--- Assumes nothing.
+-- `square` meets its contract: the places passed are filled.
 use Prim.Native.Nat.{_-_, _≤_}
 use mathlib.Core.Path.{_≡_, ap, _∙_}
 use native.Mathlib.Omega.{arith}
@@ -13,27 +13,9 @@ Inv-loop z₀ at₀ z at = (at ≤ 81) × (z ≡ benchPlaces at)
 abbrev μ-loop : tie.MeasureT-loop
 μ-loop z₀ at₀ z at = 81 - at
 
-first-requires : tie.Need-first-requires Inv-loop μ-loop
-first-requires c κs = tt
-
 loop-holds : tie.Need-loop-holds Inv-loop μ-loop
 unfolding benchPlaces
 loop-holds c = (omega arith, ap (λ w. w .zone) (c .before .first .ensures))
-
-pair-of-requires : tie.Need-pair-of-requires Inv-loop μ-loop
-pair-of-requires c κs = omega arith
-
-mul-z : tie.Need-mul-z Inv-loop μ-loop
-mul-z c = omega arith
-
-array-set-from-z : tie.Need-array-set-from-z Inv-loop μ-loop
-array-set-from-z c = omega arith
-
-add-at : tie.Need-add-at Inv-loop μ-loop
-add-at c = omega arith
-
-loop-less : tie.Need-loop-less Inv-loop μ-loop
-loop-less c = omega arith
 
 loop-again : tie.Need-loop-again Inv-loop μ-loop
 loop-again c = (omega arith, filled-next _ (c .before .before .loop .inv .1) (c .pair-of .ensures))
@@ -47,12 +29,12 @@ square-spec =
     (tie.spec
     Inv-loop
     μ-loop
-    first-requires
+    (λ c κs. tt)
     loop-holds
-    pair-of-requires
-    mul-z
-    array-set-from-z
-    add-at
-    loop-less
+    (λ c κs. omega arith)
+    (λ c. omega arith)
+    (λ c. omega arith)
+    (λ c. omega arith)
+    (λ c. omega arith)
     loop-again
     returns)

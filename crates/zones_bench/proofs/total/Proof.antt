@@ -1,4 +1,4 @@
--- Assumes nothing.
+-- `total` meets its contract: the sum is that of the turns passed.
 use Prim.Native.Nat.{_-_, _≤_, _<_}
 use mathlib.Core.Path.{_≡_, refl, ap, _∙_}
 use native.Mathlib.Omega.{arith}
@@ -13,24 +13,12 @@ Inv-loop size times z sum₀ t₀ sum t = (t ≤ times) × (sum < 1000003) × (z
 abbrev μ-loop : tie.MeasureT-loop
 μ-loop size times z sum₀ t₀ sum t = times - t
 
-square-requires : tie.Need-square-requires Inv-loop μ-loop
-square-requires c κs = tt
-
 loop-holds : tie.Need-loop-holds Inv-loop μ-loop
 unfolding benchTotal
 loop-holds c = (omega arith, omega arith, c .square .ensures, refl)
 
 once-requires : tie.Need-once-requires Inv-loop μ-loop
 once-requires c κs = (c .before .loop .inv .2, omega arith, omega arith)
-
-add-sum : tie.Need-add-sum Inv-loop μ-loop
-add-sum c = omega arith
-
-add-t : tie.Need-add-t Inv-loop μ-loop
-add-t c = omega arith
-
-loop-less : tie.Need-loop-less Inv-loop μ-loop
-loop-less c = omega arith
 
 loop-again : tie.Need-loop-again Inv-loop μ-loop
 loop-again c = (omega arith, omega arith, c .before .before .loop .inv .2, total-next _ _ _ _ (c .before .before .loop .inv .3) (c .once .ensures .0))
@@ -44,11 +32,11 @@ total-spec =
     (tie.spec
     Inv-loop
     μ-loop
-    square-requires
+    (λ c κs. tt)
     loop-holds
     once-requires
-    add-sum
-    add-t
-    loop-less
+    (λ c. omega arith)
+    (λ c. omega arith)
+    (λ c. omega arith)
     loop-again
     returns)

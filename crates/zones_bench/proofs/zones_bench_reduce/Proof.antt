@@ -1,4 +1,4 @@
--- Assumes nothing.
+-- `zones_bench_reduce` meets its contract: a size out of range, or the total.
 use native.Mathlib.Omega.{arith}
 use Rattle.zones_bench.proofs.Filling.{bench-none, bench-large, bench-some}
 use Rattle.zones_bench.proofs.zones_bench_reduce.Statement.{statement}

@@ -1,3 +1,4 @@
+-- `same` meets its contract: the bytes before i and from j on are the same.
 use Prim.Native.Nat.{ℕ, _-_, _≤_}
 use mathlib.Core.List.{List}
 use mathlib.Core.Path.{sym, ap}
@@ -19,32 +20,11 @@ returns c = sym (differ-same _ _ (λ e. c .if1 .taken (ap length e)))
 loop-holds : tie.Need-loop-holds Inv-loop μ-loop
 loop-holds c = (omega arith, omega arith, outer-start _ _ (c .if1 .left))
 
-sub-j : tie.Need-sub-j Inv-loop μ-loop
-sub-j c = omega arith
-
-shared-slice-read-if2 : tie.Need-shared-slice-read-if2 Inv-loop μ-loop
-shared-slice-read-if2 c = omega arith
-
-shared-slice-read-if2-2 : tie.Need-shared-slice-read-if2-2 Inv-loop μ-loop
-shared-slice-read-if2-2 c = let o = c .before .before .before .loop .inv .2 in omega (arith, o .size)
-
 returns-2 : tie.Need-returns-2 Inv-loop μ-loop
 returns-2 c = let i = c .before .before .before .before .loop .i in sym (differ-same _ _ (λ e. c .if2 .taken (ap (λ (s : List ℕ). getD s i 0) e)))
 
-shared-slice-read-if3 : tie.Need-shared-slice-read-if3 Inv-loop μ-loop
-shared-slice-read-if3 c = omega arith
-
-shared-slice-read-if3-2 : tie.Need-shared-slice-read-if3-2 Inv-loop μ-loop
-shared-slice-read-if3-2 c = let o = c .before .before .before .before .before .before .loop .inv .2 in omega (arith, o .size)
-
 returns-3 : tie.Need-returns-3 Inv-loop μ-loop
 returns-3 c = let j = c .before .before .before .before .before .before .before .loop .j in sym (differ-same _ _ (λ e. c .if3 .taken (ap (λ (s : List ℕ). getD s (j - 1) 0) e)))
-
-add-i : tie.Need-add-i Inv-loop μ-loop
-add-i c = omega arith
-
-loop-less : tie.Need-loop-less Inv-loop μ-loop
-loop-less c = omega arith
 
 loop-again : tie.Need-loop-again Inv-loop μ-loop
 loop-again c =
@@ -63,14 +43,14 @@ same-spec =
     μ-loop
     returns
     loop-holds
-    sub-j
-    shared-slice-read-if2
-    shared-slice-read-if2-2
+    (λ c. omega arith)
+    (λ c. omega arith)
+    (λ c. omega (arith, c .before .before .before .loop .inv .2 .size))
     returns-2
-    shared-slice-read-if3
-    shared-slice-read-if3-2
+    (λ c. omega arith)
+    (λ c. omega (arith, c .before .before .before .before .before .before .loop .inv .2 .size))
     returns-3
-    add-i
-    loop-less
+    (λ c. omega arith)
+    (λ c. omega arith)
     loop-again
     returns-4)

@@ -1,3 +1,4 @@
+-- `holding` meets its contract: divisor 0 or not.
 use mathlib.Core.Path.{sym}
 use Rattle.cache.proofs.Reading.{holding-any, holding-below}
 use Rattle.cache.proofs.record.holding.Statement.{statement}

@@ -1,3 +1,4 @@
+-- `measure` meets its contract: one law for each test that fails, and one for a record.
 use Rattle.cache.proofs.Splitting.{measured-field}
 use mathlib.Core.Path.{sym}
 use native.Mathlib.Omega.{arith}
@@ -8,12 +9,6 @@ use Rattle.cache.proofs.record.measure.Tie as tie
 
 returns : tie.Need-returns
 returns c = sym (measured-short _ (omega arith))
-
-number-at-requires : tie.Need-number-at-requires
-number-at-requires c κs = search needs
-
-cast-length : tie.Need-cast-length
-cast-length c = search needs
 
 returns-2 : tie.Need-returns-2
 returns-2 c = sym (measured-small _ (omega arith))
@@ -26,4 +21,4 @@ returns-4 c = sym (measured-field _ _ (sym (c .before .before .number-at .ensure
 
 pub measure-spec : {M : Type 1} → statement M
 measure-spec =
-    tie.close (tie.spec returns number-at-requires cast-length returns-2 returns-3 returns-4)
+    tie.close (tie.spec returns (λ c κs. search needs) (λ c. search needs) returns-2 returns-3 returns-4)

@@ -1,3 +1,4 @@
+-- `terms_sound` meets its contract: one law for each branch.
 use Prim.Native.Nat.{ℕ}
 use mathlib.Core.Path.{sym, ap, _∙_}
 use lib.Dec.{eqb}
@@ -18,12 +19,9 @@ returns-3 c = sym (terms-kind _ _ (c .before .if1 .left) (c .if3 .taken))
 returns-4 : tie.Need-returns-4
 returns-4 c = sym (terms-zero _ _ (c .before .if3 .left) (c .if4 .taken))
 
-gcd-requires : tie.Need-gcd-requires
-gcd-requires c κs = search needs
-
 returns-5 : tie.Need-returns-5
 returns-5 c = ap (λ (g : ℕ). eqb g 1) (c .gcd .ensures) ∙ sym (terms-holds _ _ (c .before .before .if3 .left) (c .before .if4 .left))
 
 pub terms-sound-spec : {M : Type 1} → statement M
 terms-sound-spec =
-    tie.close (tie.spec returns returns-2 returns-3 returns-4 gcd-requires returns-5)
+    tie.close (tie.spec returns returns-2 returns-3 returns-4 (λ c κs. search needs) returns-5)

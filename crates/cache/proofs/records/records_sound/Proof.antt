@@ -1,10 +1,11 @@
+-- `records_sound` meets its contract: the records from `at` on are sound where all of them are.
 use Prim.Native.Nat.{_-_, _≤_}
-use mathlib.Core.Path.{_≡_, refl, sym, _∙_}
+use mathlib.Core.Path.{_≡_, refl, _∙_}
 use lib.ListN.{length, drop}
 use native.Mathlib.Omega.{arith}
 use borrow.Author.Needs.{needs}
 use Rattle.cache.specs.Caches.{soundRecords}
-use Rattle.cache.proofs.Walking.{within, least, long, sound-none, sound-next, sound-bad, sound-end}
+use Rattle.cache.proofs.Walking.{MeasuredAt, WholeAt, whole, long, sound-none, sound-next, sound-bad, sound-end}
 use Rattle.cache.proofs.records.records_sound.Statement.{statement}
 use Rattle.cache.proofs.records.records_sound.Tie as tie
 
@@ -14,54 +15,32 @@ Inv-loop bytes at₀ at = (at ≤ length bytes) × (soundRecords (drop at bytes)
 abbrev μ-loop : tie.MeasureT-loop
 μ-loop bytes at₀ at = length bytes - at
 
+-- past `measure`, and past its test
+measured-at : (c : tie.After-measure Inv-loop μ-loop) → MeasuredAt (c .before .before .before .before .before .args .bytes .now) (c .before .before .before .loop .at) (c .measure .result)
+measured-at c = record { place = c .before .before .before .loop .inv .0; read = c .measure .ensures }
+
+whole-at : (c : tie.Else1 Inv-loop μ-loop) → WholeAt (c .before .before .before .before .before .before .args .bytes .now) (c .before .before .before .before .loop .at) (c .before .measure .result)
+whole-at c = whole (measured-at (c .before)) (c .if1 .left)
+
 loop-holds : tie.Need-loop-holds Inv-loop μ-loop
 loop-holds c = (omega arith, refl)
 
-sub-measure : tie.Need-sub-measure Inv-loop μ-loop
-sub-measure c = omega arith
-
-part-measure-start : tie.Need-part-measure-start Inv-loop μ-loop
-part-measure-start c = search needs
-
-part-measure-end : tie.Need-part-measure-end Inv-loop μ-loop
-part-measure-end c = search needs
-
-measure-requires : tie.Need-measure-requires Inv-loop μ-loop
-measure-requires c κs = search needs
-
 returns : tie.Need-returns Inv-loop μ-loop
-returns c = sym (sound-none (c .before .before .before .before .before .before .args .bytes .now) (c .before .before .before .before .loop .at) (c .before .before .before .before .loop .inv .0) (c .before .measure .ensures) (c .if1 .taken) (omega arith)) ∙ c .before .before .before .before .loop .inv .1
-
-add-next : tie.Need-add-next Inv-loop μ-loop
-add-next c = omega (arith, within (c .before .before .before .before .before .before .args .bytes .now) (c .before .before .before .before .loop .at) (c .before .before .before .before .loop .inv .0) (c .before .measure .ensures))
-
-sub-record-sound : tie.Need-sub-record-sound Inv-loop μ-loop
-sub-record-sound c = omega arith
-
-part-record-sound-start : tie.Need-part-record-sound-start Inv-loop μ-loop
-part-record-sound-start c =
-    let w = within (c .before .before .before .before .before .before .args .bytes .now) (c .before .before .before .before .loop .at) (c .before .before .before .before .loop .inv .0) (c .before .measure .ensures) in
-    search needs
-
-part-record-sound-end : tie.Need-part-record-sound-end Inv-loop μ-loop
-part-record-sound-end c =
-    let w = within (c .before .before .before .before .before .before .args .bytes .now) (c .before .before .before .before .loop .at) (c .before .before .before .before .loop .inv .0) (c .before .measure .ensures) in
-    search needs
+returns c = sound-none (measured-at (c .before)) (c .if1 .taken) (omega arith) ∙ c .before .before .before .before .loop .inv .1
 
 record-sound-requires : tie.Need-record-sound-requires Inv-loop μ-loop
-record-sound-requires c κs = long (c .before .before .before .before .before .before .before .args .bytes .now) (c .before .before .before .before .before .loop .at) (c .before .before .before .before .before .loop .inv .0) (c .before .before .measure .ensures) (c .before .if1 .left)
-
-loop-less : tie.Need-loop-less Inv-loop μ-loop
-loop-less c = omega (arith, within (c .before .before .before .before .before .before .before .before .before .args .bytes .now) (c .before .before .before .before .before .before .before .loop .at) (c .before .before .before .before .before .before .before .loop .inv .0) (c .before .before .before .before .measure .ensures), least (c .before .before .before .before .before .before .before .before .before .args .bytes .now) (c .before .before .before .before .before .before .before .loop .at) (c .before .before .before .before .before .before .before .loop .inv .0) (c .before .before .before .before .measure .ensures) (c .before .before .before .if1 .left))
+record-sound-requires c κs = long (whole-at (c .before))
 
 loop-again : tie.Need-loop-again Inv-loop μ-loop
-loop-again c = (within (c .before .before .before .before .before .before .before .before .before .args .bytes .now) (c .before .before .before .before .before .before .before .loop .at) (c .before .before .before .before .before .before .before .loop .inv .0) (c .before .before .before .before .measure .ensures), sound-next (c .before .before .before .before .before .before .before .before .before .args .bytes .now) (c .before .before .before .before .before .before .before .loop .at) (c .before .before .before .before .before .before .before .loop .inv .0) (c .before .before .before .before .measure .ensures) (c .before .before .before .if1 .left) (c .before .record-sound .ensures) (c .if2 .taken) ∙ c .before .before .before .before .before .before .before .loop .inv .1)
+loop-again c =
+    let w = whole-at (c .before .before .before) in
+    (w .within, sound-next w (c .before .record-sound .ensures) (c .if2 .taken) ∙ c .before .before .before .before .before .before .before .loop .inv .1)
 
 returns-2 : tie.Need-returns-2 Inv-loop μ-loop
-returns-2 c = sound-bad (c .before .before .before .before .before .before .before .before .before .args .bytes .now) (c .before .before .before .before .before .before .before .loop .at) (c .before .before .before .before .before .before .before .loop .inv .0) (c .before .before .before .before .measure .ensures) (c .before .before .before .if1 .left) (c .before .record-sound .ensures) (c .if2 .left) ∙ c .before .before .before .before .before .before .before .loop .inv .1
+returns-2 c = sound-bad (whole-at (c .before .before .before)) (c .before .record-sound .ensures) (c .if2 .left) ∙ c .before .before .before .before .before .before .before .loop .inv .1
 
 returns-3 : tie.Need-returns-3 Inv-loop μ-loop
-returns-3 c = sym (sound-end (c .before .before .before .args .bytes .now) (c .before .loop .at) (omega arith)) ∙ c .before .loop .inv .1
+returns-3 c = sound-end (c .before .before .before .args .bytes .now) (c .before .loop .at) (omega arith) ∙ c .before .loop .inv .1
 
 pub records-sound-spec : {M : Type 1} → statement M
 records-sound-spec =
@@ -70,17 +49,17 @@ records-sound-spec =
     Inv-loop
     μ-loop
     loop-holds
-    sub-measure
-    part-measure-start
-    part-measure-end
-    measure-requires
+    (λ c. omega arith)
+    (λ c. search needs)
+    (λ c. search needs)
+    (λ c κs. search needs)
     returns
-    add-next
-    sub-record-sound
-    part-record-sound-start
-    part-record-sound-end
+    (λ c. omega (arith, whole-at c))
+    (λ c. omega arith)
+    (λ c. let w = whole-at c in search needs)
+    (λ c. let w = whole-at c in search needs)
     record-sound-requires
-    loop-less
+    (λ c. omega (arith, whole-at (c .before .before .before)))
     loop-again
     returns-2
     returns-3)

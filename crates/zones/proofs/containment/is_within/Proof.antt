@@ -1,4 +1,4 @@
--- Assumes nothing.
+-- `is_within` meets its contract, downwards: the test of the places below `at` is the whole test.
 use Prim.Native.Nat.{_*_, _≤_}
 use mathlib.Core.Path.{_≡_, refl, sym, _∙_}
 use native.Mathlib.Omega.{arith}
@@ -13,45 +13,18 @@ Inv-loop size z y at₀ at = (at ≤ size * 9) × (within size z y ≡ withinTo 
 abbrev μ-loop : tie.MeasureT-loop
 μ-loop size z y at₀ at = at
 
-mul-at : tie.Need-mul-at Inv-loop μ-loop
-mul-at c = omega arith
-
 loop-holds : tie.Need-loop-holds Inv-loop μ-loop
 loop-holds c = (omega arith, refl)
-
-sub-at : tie.Need-sub-at Inv-loop μ-loop
-sub-at c = omega arith
-
-mul-new : tie.Need-mul-new Inv-loop μ-loop
-mul-new c = omega arith
-
-array-copy-out-new : tie.Need-array-copy-out-new Inv-loop μ-loop
-array-copy-out-new c = omega arith
-
-mul-old : tie.Need-mul-old Inv-loop μ-loop
-mul-old c = omega arith
-
-array-copy-out-old : tie.Need-array-copy-out-old Inv-loop μ-loop
-array-copy-out-old c = omega arith
-
-is-less-requires : tie.Need-is-less-requires Inv-loop μ-loop
-is-less-requires c κs = omega arith
 
 returns : tie.Need-returns Inv-loop μ-loop
 returns c =
     let row = c .before .before .before .before .before .before in
     sym (row .loop .inv .1 ∙ within-fails _ _ _ (row .loop .at) (omega arith) (c .before .before .if1 .taken) (sym (c .before .is-less .ensures) ∙ c .if2 .taken))
 
-loop-less : tie.Need-loop-less Inv-loop μ-loop
-loop-less c = omega arith
-
 loop-again : tie.Need-loop-again Inv-loop μ-loop
 loop-again c =
     let row = c .before .before .before .before .before .before in
     (omega arith, row .loop .inv .1 ∙ within-goes _ _ _ (row .loop .at) (omega arith) (c .before .before .if1 .taken) (sym (c .before .is-less .ensures) ∙ c .if2 .left))
-
-loop-less-2 : tie.Need-loop-less-2 Inv-loop μ-loop
-loop-less-2 c = omega arith
 
 loop-again-2 : tie.Need-loop-again-2 Inv-loop μ-loop
 loop-again-2 c =
@@ -67,17 +40,17 @@ is-within-spec =
     (tie.spec
     Inv-loop
     μ-loop
-    mul-at
+    (λ c. omega arith)
     loop-holds
-    sub-at
-    mul-new
-    array-copy-out-new
-    mul-old
-    array-copy-out-old
-    is-less-requires
+    (λ c. omega arith)
+    (λ c. omega arith)
+    (λ c. omega arith)
+    (λ c. omega arith)
+    (λ c. omega arith)
+    (λ c κs. omega arith)
     returns
-    loop-less
+    (λ c. omega arith)
     loop-again
-    loop-less-2
+    (λ c. omega arith)
     loop-again-2
     returns-2)

@@ -1,6 +1,6 @@
--- Assumes nothing.
+-- `largest_count` meets its contract: `most` is the largest count of the places passed.
 use Prim.Native.Nat.{_*_, _-_, _≤_}
-use mathlib.Core.Path.{_≡_, refl, ap, _∙_}
+use mathlib.Core.Path.{_≡_, refl, _∙_}
 use mathlib.Core.Logic.{⊎-elim}
 use native.Mathlib.Omega.{arith}
 use Rattle.zones.specs.Containment.{countTo}
@@ -14,24 +14,9 @@ Inv-loop size z most₀ last at₀ most at = (last ≡ size * 9) × (at ≤ last
 abbrev μ-loop : tie.MeasureT-loop
 μ-loop size z most₀ last at₀ most at = last - at
 
-mul-last : tie.Need-mul-last Inv-loop μ-loop
-mul-last c = omega arith
-
 loop-holds : tie.Need-loop-holds Inv-loop μ-loop
 unfolding countTo
 loop-holds c = (omega arith, omega arith, refl)
-
-mul-q : tie.Need-mul-q Inv-loop μ-loop
-mul-q c = omega arith
-
-array-copy-out-q : tie.Need-array-copy-out-q Inv-loop μ-loop
-array-copy-out-q c = omega arith
-
-add-at : tie.Need-add-at Inv-loop μ-loop
-add-at c = omega arith
-
-loop-less : tie.Need-loop-less Inv-loop μ-loop
-loop-less c = omega arith
 
 loop-again : tie.Need-loop-again Inv-loop μ-loop
 loop-again c =
@@ -45,7 +30,7 @@ loop-again c =
 returns : tie.Need-returns Inv-loop μ-loop
 returns c =
     let e : c .before .loop .at ≡ c .before .before .args .size * 9 = omega arith in
-    c .before .loop .inv .2 ∙ ap (λ k. countTo (c .before .before .args .size) k (c .before .before .args .t1)) e
+    rw e at (c .before .loop .inv .2)
 
 pub largest-count-spec : {M : Type 1} → statement M
 largest-count-spec =
@@ -53,11 +38,11 @@ largest-count-spec =
     (tie.spec
     Inv-loop
     μ-loop
-    mul-last
+    (λ c. omega arith)
     loop-holds
-    mul-q
-    array-copy-out-q
-    add-at
-    loop-less
+    (λ c. omega arith)
+    (λ c. omega arith)
+    (λ c. omega arith)
+    (λ c. omega arith)
     loop-again
     returns)

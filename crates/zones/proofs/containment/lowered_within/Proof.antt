@@ -1,6 +1,6 @@
--- Assumes nothing.
+-- `lowered_within` meets its contract: the fraction is lowered by the places passed, whose thresholds fit.
 use Prim.Native.Nat.{_*_, _-_, _≤_}
-use mathlib.Core.Path.{_≡_, refl, ap, _∙_}
+use mathlib.Core.Path.{_≡_, refl, _∙_}
 use mathlib.Core.Logic.{⊎-elim}
 use native.Mathlib.Omega.{arith}
 use Rattle.zones.specs.Containment.{loweredTo}
@@ -15,24 +15,9 @@ Inv-loop size z y f₀ last at₀ f at = (last ≡ size * 9) × (at ≤ last) ×
 abbrev μ-loop : tie.MeasureT-loop
 μ-loop size z y f₀ last at₀ f at = last - at
 
-mul-last : tie.Need-mul-last Inv-loop μ-loop
-mul-last c = omega arith
-
 loop-holds : tie.Need-loop-holds Inv-loop μ-loop
 unfolding loweredTo
 loop-holds c = (omega arith, omega arith, refl)
-
-mul-new : tie.Need-mul-new Inv-loop μ-loop
-mul-new c = omega arith
-
-array-copy-out-new : tie.Need-array-copy-out-new Inv-loop μ-loop
-array-copy-out-new c = omega arith
-
-mul-old : tie.Need-mul-old Inv-loop μ-loop
-mul-old c = omega arith
-
-array-copy-out-old : tie.Need-array-copy-out-old Inv-loop μ-loop
-array-copy-out-old c = omega arith
 
 threshold-requires : tie.Need-threshold-requires Inv-loop μ-loop
 threshold-requires c κs =
@@ -53,12 +38,6 @@ lowered-in-place-requires c κs =
       rw (c .threshold .ensures) (turn-threshold _ _ _ _ (start .pre .0) (start .pre .1) k (omega arith) (c .before .before .before .if1 .taken)),
     )
 
-add-at : tie.Need-add-at Inv-loop μ-loop
-add-at c = omega arith
-
-loop-less : tie.Need-loop-less Inv-loop μ-loop
-loop-less c = omega arith
-
 loop-again : tie.Need-loop-again Inv-loop μ-loop
 loop-again c =
     let loop = c .before .before in (
@@ -71,7 +50,7 @@ loop-again c =
 returns : tie.Need-returns Inv-loop μ-loop
 returns c =
     let e : c .before .loop .at ≡ c .before .before .args .size * 9 = omega arith in
-    c .before .loop .inv .2 ∙ ap (λ k. loweredTo (c .before .before .args .size) k (c .before .before .args .t1) (c .before .before .args .t2) (c .before .before .args .f0)) e
+    rw e at (c .before .loop .inv .2)
 
 pub lowered-within-spec : {M : Type 1} → statement M
 lowered-within-spec =
@@ -79,15 +58,15 @@ lowered-within-spec =
     (tie.spec
     Inv-loop
     μ-loop
-    mul-last
+    (λ c. omega arith)
     loop-holds
-    mul-new
-    array-copy-out-new
-    mul-old
-    array-copy-out-old
+    (λ c. omega arith)
+    (λ c. omega arith)
+    (λ c. omega arith)
+    (λ c. omega arith)
     threshold-requires
     lowered-in-place-requires
-    add-at
-    loop-less
+    (λ c. omega arith)
+    (λ c. omega arith)
     loop-again
     returns)

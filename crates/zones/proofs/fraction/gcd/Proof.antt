@@ -13,12 +13,6 @@ Inv-loop x y a₀ b₀ a b = gcdOf a b ≡ gcdOf x y
 abbrev μ-loop : tie.MeasureT-loop
 μ-loop x y a₀ b₀ a b = b
 
-loop-holds : tie.Need-loop-holds Inv-loop μ-loop
-loop-holds c = refl
-
-rem-r : tie.Need-rem-r Inv-loop μ-loop
-rem-r c = omega arith
-
 loop-less : tie.Need-loop-less Inv-loop μ-loop
 loop-less c = mod-lt _ (omega arith)
 
@@ -31,4 +25,4 @@ returns c =
     rw (e, gcd-zero) at (c .before .loop .inv)
 
 pub gcd-spec : {M : Type 1} → statement M
-gcd-spec = tie.close (tie.spec Inv-loop μ-loop loop-holds rem-r loop-less loop-again returns)
+gcd-spec = tie.close (tie.spec Inv-loop μ-loop (λ c. refl) (λ c. omega arith) loop-less loop-again returns)

@@ -1,4 +1,4 @@
--- Assumes nothing.
+-- `load` meets its contract: the places passed are filled with pairs in range.
 use Prim.Native.Nat.{_-_, _≤_}
 use native.Mathlib.Omega.{arith}
 use Rattle.zones.specs.Ranges.{Fits32}
@@ -12,35 +12,8 @@ Inv-loop old fraction z₀ at₀ z at = (at ≤ 81) × Filled at z × Fits32 fra
 abbrev μ-loop : tie.MeasureT-loop
 μ-loop old fraction z₀ at₀ z at = 81 - at
 
-narrow-requires : tie.Need-narrow-requires Inv-loop μ-loop
-narrow-requires c κs = tt
-
-first-requires : tie.Need-first-requires Inv-loop μ-loop
-first-requires c κs = tt
-
 loop-holds : tie.Need-loop-holds Inv-loop μ-loop
 loop-holds c = (omega arith, filled-none (c .before .first .ensures), c .before .before .narrow .ensures)
-
-mul-q : tie.Need-mul-q Inv-loop μ-loop
-mul-q c = omega arith
-
-array-copy-out-q : tie.Need-array-copy-out-q Inv-loop μ-loop
-array-copy-out-q c = omega arith
-
-loaded-requires : tie.Need-loaded-requires Inv-loop μ-loop
-loaded-requires c κs = tt
-
-mul-z : tie.Need-mul-z Inv-loop μ-loop
-mul-z c = omega arith
-
-array-set-from-z : tie.Need-array-set-from-z Inv-loop μ-loop
-array-set-from-z c = omega arith
-
-add-at : tie.Need-add-at Inv-loop μ-loop
-add-at c = omega arith
-
-loop-less : tie.Need-loop-less Inv-loop μ-loop
-loop-less c = omega arith
 
 loop-again : tie.Need-loop-again Inv-loop μ-loop
 loop-again c = (omega arith, filled-next (omega arith) (c .before .before .before .loop .inv .1) (c .loaded .ensures), c .before .before .before .loop .inv .2)
@@ -54,15 +27,15 @@ load-spec =
     (tie.spec
     Inv-loop
     μ-loop
-    narrow-requires
-    first-requires
+    (λ c κs. tt)
+    (λ c κs. tt)
     loop-holds
-    mul-q
-    array-copy-out-q
-    loaded-requires
-    mul-z
-    array-set-from-z
-    add-at
-    loop-less
+    (λ c. omega arith)
+    (λ c. omega arith)
+    (λ c κs. tt)
+    (λ c. omega arith)
+    (λ c. omega arith)
+    (λ c. omega arith)
+    (λ c. omega arith)
     loop-again
     returns)

@@ -1,4 +1,4 @@
--- Assumes nothing.
+-- `digits` is safe and ends: each turn passes a byte.
 use Prim.Native.Nat.{_-_}
 use native.Mathlib.Omega.{arith}
 use lib.ListN.{length}
@@ -11,45 +11,18 @@ Inv-loop s from minus value₀ at₀ value at = Unit {0}
 abbrev μ-loop : tie.MeasureT-loop
 μ-loop s from minus value₀ at₀ value at = length s - at
 
-loop-holds : tie.Need-loop-holds Inv-loop μ-loop
-loop-holds c = tt
-
-shared-slice-read-b : tie.Need-shared-slice-read-b Inv-loop μ-loop
-shared-slice-read-b c = omega arith
-
-is-digit-requires : tie.Need-is-digit-requires Inv-loop μ-loop
-is-digit-requires c κs = tt
-
-returns : tie.Need-returns Inv-loop μ-loop
-returns c = tt
-
-and-digit-requires : tie.Need-and-digit-requires Inv-loop μ-loop
-and-digit-requires c κs = tt
-
-add-at : tie.Need-add-at Inv-loop μ-loop
-add-at c = omega arith
-
-loop-less : tie.Need-loop-less Inv-loop μ-loop
-loop-less c = omega arith
-
-loop-again : tie.Need-loop-again Inv-loop μ-loop
-loop-again c = tt
-
-returns-2 : tie.Need-returns-2 Inv-loop μ-loop
-returns-2 c = tt
-
 pub digits-spec : {M : Type 1} → statement M
 digits-spec =
     tie.close
     (tie.spec
     Inv-loop
     μ-loop
-    loop-holds
-    shared-slice-read-b
-    is-digit-requires
-    returns
-    and-digit-requires
-    add-at
-    loop-less
-    loop-again
-    returns-2)
+    (λ c. tt)
+    (λ c. omega arith)
+    (λ c κs. tt)
+    (λ c. tt)
+    (λ c κs. tt)
+    (λ c. omega arith)
+    (λ c. omega arith)
+    (λ c. tt)
+    (λ c. tt))

@@ -1,4 +1,4 @@
--- Assumes nothing.
+-- `Fraction::lowered` meets its contract: 1/0 or not, and the two products compared.
 use native.Mathlib.Omega.{arith}
 use Rattle.zones.specs.Integers.{product-below}
 use Rattle.zones.proofs.Choices.{lowered-new, lowered-old, lowered-none}

@@ -6,21 +6,12 @@ use Rattle.zones.proofs.Lowest.{lowest-of-zero}
 use Rattle.zones.proofs.fraction.Fraction.lowest_terms.Statement.{statement}
 use Rattle.zones.proofs.fraction.Fraction.lowest_terms.Tie as tie
 
-gcd-requires : tie.Need-gcd-requires
-gcd-requires c κs = search needs
-
 returns : tie.Need-returns
 returns c = sym (lowest-of-zero _ (sym (c .before .gcd .ensures) ∙ c .if1 .taken))
-
-div-n : tie.Need-div-n
-div-n c = search needs
-
-div-d : tie.Need-div-d
-div-d c = search needs
 
 returns-2 : tie.Need-returns-2
 unfolding lowestTerms
 returns-2 c = rw (c .before .gcd .ensures)
 
 pub lowest-terms-spec : {M : Type 1} → statement M
-lowest-terms-spec = tie.close (tie.spec gcd-requires returns div-n div-d returns-2)
+lowest-terms-spec = tie.close (tie.spec (λ c κs. search needs) returns (λ c. search needs) (λ c. search needs) returns-2)

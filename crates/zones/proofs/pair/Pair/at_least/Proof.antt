@@ -1,4 +1,4 @@
--- Assumes nothing.
+-- `Pair::at_least` meets its contract.
 use borrow.Author.Needs.{needs}
 use lib.IntN.{pos, negℤ, _-ℤ_, +ℤ-idl}
 use mathlib.Core.Path.{_∙_}
@@ -10,9 +10,6 @@ use Rattle.zones.specs.Integers.{abs-fits, abs-minus}
 use Rattle.zones.proofs.Choices.{pair-is}
 use Rattle.zones.proofs.pair.Pair.at_least.Statement.{statement}
 use Rattle.zones.proofs.pair.Pair.at_least.Tie as tie
-
-cast-m : tie.Need-cast-m
-cast-m c = search needs
 
 sub-m : tie.Need-sub-m
 sub-m c =
@@ -26,4 +23,4 @@ returns c =
     rw (toZ-pos w64 {n = n} (omega arith)) (pair-is 1 (toZ-ofZ g ∙ +ℤ-idl (negℤ (pos n))))
 
 pub at-least-spec : {M : Type 1} → statement M
-at-least-spec = tie.close (tie.spec cast-m sub-m returns)
+at-least-spec = tie.close (tie.spec (λ c. search needs) sub-m returns)

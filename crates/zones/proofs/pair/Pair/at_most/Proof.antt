@@ -1,4 +1,4 @@
--- Assumes nothing.
+-- `Pair::at_most` meets its contract.
 use borrow.Author.Needs.{needs}
 use mir.Syntax.{w64}
 use mir.Facts.{toZ-pos}
@@ -7,11 +7,8 @@ use Rattle.zones.proofs.Choices.{pair-is}
 use Rattle.zones.proofs.pair.Pair.at_most.Statement.{statement}
 use Rattle.zones.proofs.pair.Pair.at_most.Tie as tie
 
-cast-t2 : tie.Need-cast-t2
-cast-t2 c = search needs
-
 returns : tie.Need-returns
 returns c = pair-is 1 (toZ-pos w64 {n = c .args .hi} (omega arith))
 
 pub at-most-spec : {M : Type 1} → statement M
-at-most-spec = tie.close (tie.spec cast-t2 returns)
+at-most-spec = tie.close (tie.spec (λ c. search needs) returns)

@@ -1,12 +1,9 @@
--- Assumes nothing.
+-- `Pair::smaller` meets its contract: the pair chosen, and the threshold to the other.
 use borrow.Author.Needs.{needs}
 use mathlib.Core.Path.{sym, _∙_}
 use Rattle.zones.proofs.Choices.{less-shows, not-less-shows, smaller-new, smaller-old}
 use Rattle.zones.proofs.pair.Pair.smaller.Statement.{statement}
 use Rattle.zones.proofs.pair.Pair.smaller.Tie as tie
-
-is-less-requires : tie.Need-is-less-requires
-is-less-requires c κs = search needs
 
 threshold-requires : tie.Need-threshold-requires
 threshold-requires c κs =
@@ -25,4 +22,4 @@ returns-2 : tie.Need-returns-2
 returns-2 c = smaller-old _ _ _ (sym (c .before .before .is-less .ensures) ∙ c .before .if1 .left) (c .threshold2 .ensures)
 
 pub smaller-spec : {M : Type 1} → statement M
-smaller-spec = tie.close (tie.spec is-less-requires threshold-requires threshold-requires-2 returns returns-2)
+smaller-spec = tie.close (tie.spec (λ c κs. search needs) threshold-requires threshold-requires-2 returns returns-2)

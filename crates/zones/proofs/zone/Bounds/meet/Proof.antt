@@ -1,4 +1,4 @@
--- Assumes nothing.
+-- `Bounds::meet` meets its contract: the upper limit where there is one, then the lower.
 use mathlib.Core.Path.{ap, _∙_}
 use native.Mathlib.Omega.{arith}
 use Rattle.zones.specs.Zones.{lowerMet}
@@ -7,9 +7,6 @@ use Rattle.zones.proofs.Ranges.{upper-ready}
 use borrow.Author.Needs.{needs}
 use Rattle.zones.proofs.zone.Bounds.meet.Statement.{statement}
 use Rattle.zones.proofs.zone.Bounds.meet.Tie as tie
-
-meet-lower-requires : tie.Need-meet-lower-requires
-meet-lower-requires c κs = search needs
 
 returns : tie.Need-returns
 returns c = c .meet-lower .ensures ∙ met-absent _ _ _ _ (c .before .if1 .taken)
@@ -29,4 +26,4 @@ returns-2 c =
 pub meet-spec : {M : Type 1} → statement M
 meet-spec =
     tie.close
-    (tie.spec meet-lower-requires returns meet-upper-requires meet-lower-requires-2 returns-2)
+    (tie.spec (λ c κs. search needs) returns meet-upper-requires meet-lower-requires-2 returns-2)

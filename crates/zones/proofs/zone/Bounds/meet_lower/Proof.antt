@@ -1,13 +1,10 @@
--- Assumes nothing.
+-- `Bounds::meet_lower` meets its contract: the smaller bound, and the fraction lowered by its threshold.
 use Rattle.zones.specs.Ranges.{scale, stepCounts, widest}
 use Rattle.zones.proofs.Limits.{lower-met}
 use Rattle.zones.proofs.Ranges.{step-small, both-narrow, here, least-bounded}
 use borrow.Author.Needs.{needs}
 use Rattle.zones.proofs.zone.Bounds.meet_lower.Statement.{statement}
 use Rattle.zones.proofs.zone.Bounds.meet_lower.Tie as tie
-
-at-least-requires : tie.Need-at-least-requires
-at-least-requires c κs = search needs
 
 smaller-requires : tie.Need-smaller-requires
 smaller-requires c κs =
@@ -24,4 +21,4 @@ returns : tie.Need-returns
 returns c = lower-met _ _ (c .before .before .before .before .at-least .ensures) (c .before .before .before .smaller .ensures) (c .lowered .ensures)
 
 pub meet-lower-spec : {M : Type 1} → statement M
-meet-lower-spec = tie.close (tie.spec at-least-requires smaller-requires lowered-requires returns)
+meet-lower-spec = tie.close (tie.spec (λ c κs. search needs) smaller-requires lowered-requires returns)

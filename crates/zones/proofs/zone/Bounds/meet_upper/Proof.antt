@@ -1,4 +1,4 @@
--- Assumes nothing.
+-- `Bounds::meet_upper` meets its contract: the smaller bound, and the fraction lowered by its threshold.
 use mathlib.Core.Path.{refl}
 use Rattle.zones.specs.Ranges.{scale, stepCounts, widest}
 use Rattle.zones.proofs.Limits.{upper-met}
@@ -6,9 +6,6 @@ use Rattle.zones.proofs.Ranges.{step-small, both-narrow, here, most-bou
 use borrow.Author.Needs.{needs}
 use Rattle.zones.proofs.zone.Bounds.meet_upper.Statement.{statement}
 use Rattle.zones.proofs.zone.Bounds.meet_upper.Tie as tie
-
-at-most-requires : tie.Need-at-most-requires
-at-most-requires c κs = search needs
 
 smaller-requires : tie.Need-smaller-requires
 smaller-requires c κs =
@@ -25,4 +22,4 @@ returns : tie.Need-returns
 returns c = upper-met _ _ (c .before .before .before .before .at-most .ensures) (c .before .before .before .smaller .ensures) (c .lowered .ensures)
 
 pub meet-upper-spec : {M : Type 1} → statement M
-meet-upper-spec = tie.close (tie.spec at-most-requires smaller-requires lowered-requires returns)
+meet-upper-spec = tie.close (tie.spec (λ c κs. search needs) smaller-requires lowered-requires returns)

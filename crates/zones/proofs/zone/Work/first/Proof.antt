@@ -1,4 +1,4 @@
--- Assumes nothing.
+-- `Work::first` meets its contract.
 use mathlib.Core.Path.{refl}
 use Rattle.zones.specs.Zones.{firstWork}
 use Rattle.zones.proofs.zone.Work.first.Statement.{statement}

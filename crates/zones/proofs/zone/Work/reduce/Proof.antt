@@ -1,4 +1,4 @@
--- Assumes nothing.
+-- `Work::reduce` meets its contract: what is done is the definition's middle indices, and no zone passed is empty.
 use Prim.Native.Nat.{_≤_, _-_}
 use mathlib.Core.Path.{_≡_, refl, sym, _∙_}
 use mathlib.Core.Bool.{false}
@@ -32,12 +32,6 @@ returns : tie.Need-returns Inv-loop μ-loop
 returns c =
     reduced-stop _ _ _ _ _ (c .before .before .before .before .loop .inv .1) (c .before .before .round .ensures) (sym (c .before .is-empty .ensures) ∙ c .if1 .taken) (omega arith)
 
-add-k : tie.Need-add-k Inv-loop μ-loop
-add-k c = omega arith
-
-loop-less : tie.Need-loop-less Inv-loop μ-loop
-loop-less c = omega arith
-
 loop-again : tie.Need-loop-again Inv-loop μ-loop
 loop-again c =
     (omega arith, reduced-next _ _ _ _ _ (c .before .before .before .before .loop .inv .1) (c .before .before .round .ensures) (sym (c .before .is-empty .ensures) ∙ c .if1 .left))
@@ -55,7 +49,7 @@ reduce-spec =
     round-requires
     is-empty-requires
     returns
-    add-k
-    loop-less
+    (λ c. omega arith)
+    (λ c. omega arith)
     loop-again
     returns-2)
