@@ -1,3 +1,4 @@
+use crate::fraction::lowered_in_place;
 use crate::zone::Work;
 ghost use mathlib.Core.Path.{_≡_};
 ghost use Prim.Native.Nat.{_≤_};
@@ -28,7 +29,7 @@ impl Work {
                 let choice = there.smaller(to.sum(from));
                 let pair = choice.pair;
                 z[i * 9 + j] = pair;
-                f = f.lowered(choice.threshold);
+                f = lowered_in_place(f, choice.threshold);
                 j += 1;
             }
             i += 1;

@@ -1,4 +1,5 @@
 use crate::fraction::Fraction;
+use crate::fraction::lowered_in_place;
 use crate::pair::Pair;
 ghost use mathlib.Core.Path.{_≡_};
 ghost use mathlib.Core.Bool.{false};
@@ -83,7 +84,7 @@ impl Bounds {
         Bounds {
             upper,
             lower,
-            fraction: self.fraction.lowered(choice.threshold),
+            fraction: lowered_in_place(self.fraction, choice.threshold),
         }
     }
 
@@ -98,7 +99,7 @@ impl Bounds {
         Bounds {
             upper,
             lower,
-            fraction: self.fraction.lowered(choice.threshold),
+            fraction: lowered_in_place(self.fraction, choice.threshold),
         }
     }
 }

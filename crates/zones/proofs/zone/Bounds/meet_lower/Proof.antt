@@ -11,14 +11,14 @@ smaller-requires c κs =
     let h = c .before .pre in
     (step-small (h .lower), rw (c .at-least .ensures) (step-small (least-bounded _ (h .lo≤))))
 
-lowered-requires : tie.Need-lowered-requires
-lowered-requires c κs =
+lowered-in-place-requires : tie.Need-lowered-in-place-requires
+lowered-in-place-requires c κs =
     let start = c .before .before .before .before in
     let h = start .pre in
     (h .fraction, rw (c .before .before .smaller .ensures, c .before .before .before .at-least .ensures) (both-narrow widest widest scale stepCounts here _ _ (h .lower) (least-bounded _ (h .lo≤))))
 
 returns : tie.Need-returns
-returns c = lower-met _ _ (c .before .before .before .before .at-least .ensures) (c .before .before .before .smaller .ensures) (c .lowered .ensures)
+returns c = lower-met _ _ (c .before .before .before .before .at-least .ensures) (c .before .before .before .smaller .ensures) (c .lowered-in-place .ensures)
 
 pub meet-lower-spec : {M : Type 1} → statement M
-meet-lower-spec = tie.close (tie.spec (λ c κs. search needs) smaller-requires lowered-requires returns)
+meet-lower-spec = tie.close (tie.spec (λ c κs. search needs) smaller-requires lowered-in-place-requires returns)

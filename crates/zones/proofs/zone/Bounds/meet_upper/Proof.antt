@@ -12,14 +12,14 @@ smaller-requires c κs =
     let h = c .before .pre in
     (step-small (h .upper), rw (c .at-most .ensures) (step-small (most-bounded _ (h .hi≤ refl))))
 
-lowered-requires : tie.Need-lowered-requires
-lowered-requires c κs =
+lowered-in-place-requires : tie.Need-lowered-in-place-requires
+lowered-in-place-requires c κs =
     let start = c .before .before .before .before in
     let h = start .pre in
     (h .fraction, rw (c .before .before .smaller .ensures, c .before .before .before .at-most .ensures) (both-narrow widest widest scale stepCounts here _ _ (h .upper) (most-bounded _ (h .hi≤ refl))))
 
 returns : tie.Need-returns
-returns c = upper-met _ _ (c .before .before .before .before .at-most .ensures) (c .before .before .before .smaller .ensures) (c .lowered .ensures)
+returns c = upper-met _ _ (c .before .before .before .before .at-most .ensures) (c .before .before .before .smaller .ensures) (c .lowered-in-place .ensures)
 
 pub meet-upper-spec : {M : Type 1} → statement M
-meet-upper-spec = tie.close (tie.spec (λ c κs. search needs) smaller-requires lowered-requires returns)
+meet-upper-spec = tie.close (tie.spec (λ c κs. search needs) smaller-requires lowered-in-place-requires returns)

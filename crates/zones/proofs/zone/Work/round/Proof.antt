@@ -54,9 +54,9 @@ smaller-requires c κs =
     let t = turn (c .before) in
     (spread-small (t .at), rw (c .sum .ensures) (sum-small _ _ (t .to) (t .from)))
 
-lowered-requires : tie.Need-lowered-requires Inv-loop2 μ-loop2 Inv-loop μ-loop
+lowered-in-place-requires : tie.Need-lowered-in-place-requires Inv-loop2 μ-loop2 Inv-loop μ-loop
 unfolding pairAt
-lowered-requires c κs =
+lowered-in-place-requires c κs =
     let t = turn (c .before .before .before) in
     (t .fraction, rw (c .before .smaller .ensures, c .before .before .sum .ensures) (turn-narrow _ _ _ _ t))
 
@@ -66,7 +66,7 @@ loop2-again c =
     let row = c .before .before .before .before .before .before .before .before in
     let now : Work = record { zone = row .loop2 .z; fraction = row .loop2 .f } in (
       omega arith,
-      relaxed-is now _ _ _ _ _ _ (c .before .before .before .sum .ensures) (c .before .before .smaller .ensures) (c .lowered .ensures) ∙ ap (relaxed _ _ _) (row .loop2 .inv .1) ∙ row-next _ _ _ _,
+      relaxed-is now _ _ _ _ _ _ (c .before .before .before .sum .ensures) (c .before .before .smaller .ensures) (c .lowered-in-place .ensures) ∙ ap (relaxed _ _ _) (row .loop2 .inv .1) ∙ row-next _ _ _ _,
     )
 
 loop-again : tie.Need-loop-again Inv-loop2 μ-loop2 Inv-loop μ-loop
@@ -103,7 +103,7 @@ round-spec =
     (λ c. omega arith)
     (λ c. omega arith)
     (λ c. omega arith)
-    lowered-requires
+    lowered-in-place-requires
     (λ c. omega arith)
     (λ c. omega arith)
     loop2-again
