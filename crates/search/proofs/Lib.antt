@@ -1,4 +1,6 @@
 -- The theory of the reader: laws of its definitions, where the parts of an automaton stand, and what an accepted one obeys.
+pub mod Calling
+pub mod Opening
 pub mod Some
 pub mod Places
 pub mod Resets

@@ -3,7 +3,7 @@ ghost use mathlib.Core.Path.{_≡_};
 ghost use Prim.Native.Nat.{_+_, _*_, _^_, _≤_, _<_};
 ghost use lib.ListN.{length};
 ghost use Rattle.search.specs.Accepted.{Complete};
-ghost use Rattle.search.specs.Automata.{be16At, be32At, clocks, locations, edges, start, target, invariantAt, edgeAt, from, to, resetByte, resetSet, loAt, hiAt};
+ghost use Rattle.search.specs.Automata.{be16At, be32At, clocks, locations, edges, start, target, invariantAt, edgeAt, from, to, resetByte, resetSet, edgeOf, loAt, hiAt};
 ghost use Rattle.search.specs.Automata.{oversize, misplaced, noSuchPlace, noSuchClock, outOfRange, offScaleAt, invariantOffScale, guardOffScale, refusalOf};
 
 const VERSION: u8 = 1;
@@ -13,6 +13,19 @@ const SCALE: u32 = 1000000;
 
 // The hi of a guard without an upper limit.
 pub const NO_UPPER: u32 = 4294967295;
+
+pub struct Counts {
+    pub clocks: usize,
+    pub locations: usize,
+    pub edges: usize,
+}
+
+// The ends of an edge and, for each clock by its number, whether it is reset.
+pub struct Edge {
+    pub from: usize,
+    pub to: usize,
+    pub resets: [bool; 9],
+}
 
 fn wide(x: u8) -> u32
     ensures { λ r. ⌜ (r ≡ x) × (r < 256) ⌝ }
@@ -92,7 +105,7 @@ pub fn edge_at(automaton: &[u8], i: usize) -> usize
     11 + 8 * n * locations(automaton) + i * (3 + 8 * n)
 }
 
-pub fn edge_from(automaton: &[u8], i: usize) -> usize
+fn edge_from(automaton: &[u8], i: usize) -> usize
     requires { ⌜ Complete (now automaton) ⌝ }
     requires { ⌜ i < edges (now automaton) ⌝ }
     ensures { λ r. ⌜ r ≡ from (now (automaton .entry)) i ⌝ }
@@ -101,7 +114,7 @@ pub fn edge_from(automaton: &[u8], i: usize) -> usize
     wide(automaton[at]) as usize
 }
 
-pub fn edge_to(automaton: &[u8], i: usize) -> usize
+fn edge_to(automaton: &[u8], i: usize) -> usize
     requires { ⌜ Complete (now automaton) ⌝ }
     requires { ⌜ i < edges (now automaton) ⌝ }
     ensures { λ r. ⌜ r ≡ to (now (automaton .entry)) i ⌝ }
@@ -136,13 +149,26 @@ fn reset_set(b: u8) -> [bool; 9]
     ]
 }
 
-// For each clock by its number, whether edge i resets it.
-pub fn edge_resets(automaton: &[u8], i: usize) -> [bool; 9]
+fn edge_resets(automaton: &[u8], i: usize) -> [bool; 9]
     requires { ⌜ Complete (now automaton) ⌝ }
     requires { ⌜ i < edges (now automaton) ⌝ }
     ensures { λ r. ⌜ r ≡ resetSet (resetByte (now (automaton .entry)) i) ⌝ }
 {
     reset_set(reset_byte(automaton, i))
+}
+
+impl Edge {
+    // Edge i.
+    pub fn read(automaton: &[u8], i: usize) -> Edge
+        requires { ⌜ Complete (now automaton) × (i < edges (now automaton)) ⌝ }
+        ensures { λ r. ⌜ r ≡ edgeOf (now (automaton .entry)) i ⌝ }
+    {
+        Edge {
+            from: edge_from(automaton, i),
+            to: edge_to(automaton, i),
+            resets: edge_resets(automaton, i),
+        }
+    }
 }
 
 // The lo of clock x, counted from 1, among the limits at `at`.

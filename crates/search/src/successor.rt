@@ -5,8 +5,7 @@ use crate::automaton::edge_at;
 use crate::automaton::hi_at;
 use crate::automaton::invariant_at;
 use crate::automaton::lo_at;
-use crate::opened::destination_of;
-use crate::opened::resets_of;
+use crate::opened::edge_of;
 use zones::pair::Pair;
 use zones::reduction::Reduced;
 use zones::zone::Bounds;
@@ -95,10 +94,7 @@ pub fn follow(automaton: &[u8], i: usize, w: Work) -> Reduced
         return met;
     }
     let work = met.work;
-    let resets = resets_of(automaton, i);
-    enter(
-        automaton,
-        destination_of(automaton, i),
-        work.reset(n + 1, resets),
-    )
+    let edge = edge_of(automaton, i);
+    let resets = edge.resets;
+    enter(automaton, edge.to, work.reset(n + 1, resets))
 }
