@@ -1,6 +1,5 @@
 -- The theory of the reader: laws of its definitions, where the parts of an automaton stand, and what an accepted one obeys.
-pub mod Calling
-pub mod Opening
+-- Last, what the walks by hand share.
 pub mod Some
 pub mod Places
 pub mod Resets
@@ -28,3 +27,5 @@ pub mod Demands
 pub mod Answers
 pub mod Examples
 pub mod Given
+pub mod Calling
+pub mod Opening

@@ -1,5 +1,6 @@
 -- An opened automaton in a walk by hand: its bytes are taken out of it; and `open` is called on plain bytes, and the struct held in a local.
 -- In a local MIR erases the lifetime of the struct's type, so the value is shown to have the type at `erased`.
+-- Assumes nothing.
 use Prim.Native.Nat.{ℕ}
 use mathlib.Core.Path.{_≡_}
 use mathlib.Core.List.{List, [], _∷_}

@@ -6,8 +6,6 @@ use lib.Dec.{ltb, leb, eqb}
 use lib.ListN.{length, getD}
 use Rattle.zones.specs.Ranges.{scale}
 use Rattle.zones.specs.Zones.{Limits}
-use Rattle.search.specs.declared.automaton.Counts.{Counts}
-use Rattle.search.specs.declared.automaton.Edge.{Edge}
 
 -- ---- numbers
 unfoldable pub be16At : List ℕ → ℕ → ℕ
@@ -95,14 +93,6 @@ firsts (suc n) f = f 0 ∷ firsts n (λ x. f (suc x))
 -- a reset byte as a list by clock, from 0
 unfoldable pub resetSet : ℕ → List Bool
 resetSet b = firsts 9 (inByte b)
-
--- edge i: its ends and its resets
-abbrev pub edgeOf : List ℕ → ℕ → Edge
-edgeOf s i = record { from = from s i; to = to s i; resets = resetSet (resetByte s i) }
-
--- the counts
-abbrev pub countsOf : List ℕ → Counts
-countsOf s = record { clocks = clocks s; locations = locations s; edges = edges s }
 
 -- ---- "Turned down"
 -- one of the numbers below k passes the test

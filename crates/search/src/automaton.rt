@@ -3,8 +3,9 @@ ghost use mathlib.Core.Path.{_≡_};
 ghost use Prim.Native.Nat.{_+_, _*_, _^_, _≤_, _<_};
 ghost use lib.ListN.{length};
 ghost use Rattle.search.specs.Accepted.{Complete};
-ghost use Rattle.search.specs.Automata.{be16At, be32At, clocks, locations, edges, start, target, invariantAt, edgeAt, from, to, resetByte, resetSet, edgeOf, loAt, hiAt};
+ghost use Rattle.search.specs.Automata.{be16At, be32At, clocks, locations, edges, start, target, invariantAt, edgeAt, from, to, resetByte, resetSet, loAt, hiAt};
 ghost use Rattle.search.specs.Automata.{oversize, misplaced, noSuchPlace, noSuchClock, outOfRange, offScaleAt, invariantOffScale, guardOffScale, refusalOf};
+ghost use Rattle.search.specs.Opened.{edgeOf, limitsOf};
 
 const VERSION: u8 = 1;
 
@@ -25,6 +26,12 @@ pub struct Edge {
     pub from: usize,
     pub to: usize,
     pub resets: [bool; 9],
+}
+
+// The limits of one clock.
+pub struct Limits {
+    pub lo: u32,
+    pub hi: u32,
 }
 
 fn wide(x: u8) -> u32
@@ -172,7 +179,7 @@ impl Edge {
 }
 
 // The lo of clock x, counted from 1, among the limits at `at`.
-pub fn lo_at(automaton: &[u8], at: usize, x: usize) -> u32
+fn lo_at(automaton: &[u8], at: usize, x: usize) -> u32
     requires { ⌜ 0 < x ⌝ }
     requires { ⌜ at + 8 * x ≤ length (now automaton) ⌝ }
     ensures { λ r. ⌜ r ≡ loAt (now (automaton .entry)) at x ⌝ }
@@ -181,12 +188,25 @@ pub fn lo_at(automaton: &[u8], at: usize, x: usize) -> u32
 }
 
 // The hi of clock x, counted from 1, among the limits at `at`.
-pub fn hi_at(automaton: &[u8], at: usize, x: usize) -> u32
+fn hi_at(automaton: &[u8], at: usize, x: usize) -> u32
     requires { ⌜ 0 < x ⌝ }
     requires { ⌜ at + 8 * x ≤ length (now automaton) ⌝ }
     ensures { λ r. ⌜ r ≡ hiAt (now (automaton .entry)) at x ⌝ }
 {
     be32(automaton, at + 8 * (x - 1) + 4)
+}
+
+impl Limits {
+    // Of clock x, counted from 1, among the limits at `at`.
+    pub fn read(automaton: &[u8], at: usize, x: usize) -> Limits
+        requires { ⌜ (0 < x) × (at + 8 * x ≤ length (now automaton)) ⌝ }
+        ensures { λ r. ⌜ r ≡ limitsOf (now (automaton .entry)) at x ⌝ }
+    {
+        Limits {
+            lo: lo_at(automaton, at, x),
+            hi: hi_at(automaton, at, x),
+        }
+    }
 }
 
 // ---- the refusals

@@ -2,16 +2,16 @@
 // fetched from the bytes, and not copied out.
 use crate::automaton::Counts;
 use crate::automaton::Edge;
+use crate::automaton::Limits;
 use crate::automaton::clocks;
 use crate::automaton::edges;
-use crate::automaton::hi_at;
 use crate::automaton::locations;
 ghost use mathlib.Core.Path.{_≡_};
 ghost use Prim.Native.Nat.{_+_, _*_, _≤_, _<_};
 ghost use lib.ListN.{length};
 ghost use Rattle.search.specs.Accepted.{Accepted};
-ghost use Rattle.search.specs.Automata.{edges, countsOf, edgeOf, hiAt};
-ghost use Rattle.search.specs.Opened.{Opened, openedOf};
+ghost use Rattle.search.specs.Automata.{edges};
+ghost use Rattle.search.specs.Opened.{Opened, openedOf, countsOf, edgeOf, limitsOf};
 
 pub struct Automaton<'a> {
     pub bytes: &'a [u8],
@@ -53,12 +53,12 @@ pub fn edge<'a>(a: Automaton<'a>, i: usize) -> Edge
     Edge::read(a.bytes, i)
 }
 
-// The upper limit of clock x, counted from 1, among the limits at `at`.
-pub fn limit<'a>(a: Automaton<'a>, at: usize, x: usize) -> u32
+// The limits of its clock x, counted from 1, among those at `at`.
+pub fn limits<'a>(a: Automaton<'a>, at: usize, x: usize) -> Limits
     requires { ⌜ (0 < x) × (at + 8 * x ≤ length (now (a .bytes))) ⌝ }
-    ensures { λ r. ⌜ r ≡ hiAt (now (a .entry .bytes)) at x ⌝ }
+    ensures { λ r. ⌜ r ≡ limitsOf (now (a .entry .bytes)) at x ⌝ }
 {
-    hi_at(a.bytes, at, x)
+    Limits::read(a.bytes, at, x)
 }
 
 // ---- the same of plain bytes
@@ -74,4 +74,11 @@ pub fn edge_of(bytes: &[u8], i: usize) -> Edge
     ensures { λ r. ⌜ r ≡ edgeOf (now (bytes .entry)) i ⌝ }
 {
     edge(open(bytes), i)
+}
+
+pub fn limits_of(bytes: &[u8], at: usize, x: usize) -> Limits
+    requires { ⌜ Accepted (now bytes) × (0 < x) × (at + 8 * x ≤ length (now bytes)) ⌝ }
+    ensures { λ r. ⌜ r ≡ limitsOf (now (bytes .entry)) at x ⌝ }
+{
+    limits(open(bytes), at, x)
 }

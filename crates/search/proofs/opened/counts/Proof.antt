@@ -33,8 +33,7 @@ use denote.Triple.Spec.{Meets, tripleOf}
 use denote.Triple.Table.{entered}
 use denote.Triple.Walked.{says, needs, Stays, stay-none, walkOf, goes-none, ends-at, walked, walk-meets}
 use denote.Exit.{yes}
-use Rattle.search.specs.Automata.{countsOf}
-use Rattle.search.specs.Opened.{Opened}
+use Rattle.search.specs.Opened.{Opened, countsOf}
 use Rattle.search.specs.declared.automaton.Counts.{Counts}
 use Rattle.search.specs.declared.opened.Automaton.{Automaton}
 use Rattle.search.proofs.opened.Automaton as T

@@ -31,7 +31,7 @@ meet-requires c κs =
     let start = c .before .before .before in
     let a = start .pre .0 .0 in
     let hi = start .pre .0 .1 in
-    asks-limits _ _ (ap (λ x. x + 3) (c .edge-at .ensures)) (c .before .clocks .ensures) (a .complete .clocks≤) (omega (arith, edge-within _ (a .complete) _ hi)) (guard-scale _ a _ hi) (omega arith) (start .pre .1)
+    (a, asks-limits _ _ (ap (λ x. x + 3) (c .edge-at .ensures)) (c .before .clocks .ensures) (a .complete .clocks≤) (omega (arith, edge-within _ (a .complete) _ hi)) (guard-scale _ a _ hi) (omega arith) (start .pre .1))
 
 add-reduce : tie.Need-add-reduce
 add-reduce c = search needs
