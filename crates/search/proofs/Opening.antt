@@ -14,6 +14,7 @@ use prog.Memory.{Memory}
 use prog.Routine.{Routine}
 use prog.Wp.{Heap, Env, Calls, Loops}
 use ghost.Atoms.{Atoms, sem}
+use contract.Lifetimes.{Lfts}
 use contract.Monad.{Fun}
 use sound.WpLaws.{FmC}
 use types.Kit.{Given, Item, ‵, raw, _⊛_, given, _$_, _∵_, !, Post, runs, lands, Seq, qed, move, drop, use1, use2, split, learn, frame, done}
@@ -37,20 +38,20 @@ module _ {M : Type 1} (𝓤 : URA M) (H : Heap 𝓤) (A : Atoms 𝓤) (mem : Mem
   abbrev pub Open : Contract 𝓤
   Open = Called 𝓤 H A opens.ended (opens.clauses 𝓤 H A mem run)
 
--- the struct's type at a lifetime
-abbrev pub Struct : Lft → RattleType
-Struct κ = T.the-row (namedLft 1 0 tt (κ, tt))
+-- the struct's type, over a signature's lifetimes
+abbrev pub Struct : Lfts 1 → RattleType
+Struct κs = T.the-row (namedLft 1 0 tt κs)
 
 -- the struct is Copy: one copy of what it owns is kept, and of the other what bytes owns is taken out
 pub bytes-out : {M : Type 1} (𝓤 : URA M) (H : Heap 𝓤) (A : Atoms 𝓤) (W : Given 𝓤 H A) (κ : Lft) (d : Automaton)
-    → ent 𝓤 (sem 𝓤 H A (Struct κ .own d (T′.lowered d ∷ []))) (sep 𝓤 (sem 𝓤 H A (Bytes κ (d .bytes))) (sem 𝓤 H A (Struct κ .own d (T′.lowered d ∷ []))))
+    → ent 𝓤 (sem 𝓤 H A (Struct (κ, tt) .own d (T′.lowered d ∷ []))) (sep 𝓤 (sem 𝓤 H A (Bytes κ (d .bytes))) (sem 𝓤 H A (Struct (κ, tt) .own d (T′.lowered d ∷ []))))
 bytes-out 𝓤 H A W κ d =
     let α = namedLft 1 0 tt (κ, tt) in
     let D = T.the-type α in
     let L = T′.the-laws α in
     let fields : Values (D .parts) = (d .bytes, (d .n, (d .m, (d .edges, tt)))) in
     let v = T′.lowered d in
-    let Own = Struct κ .own d (v ∷ []) in
+    let Own = Struct (κ, tt) .own d (v ∷ []) in
     qed W (‵ Own ∷ []) ∵ use1 W (‵ Own ⊛ ‵ Own) (LL.copy D (T′.the-copy α) 𝓤 H A W .twice d (v ∷ [])) $ split ! $
     use1 W (given (v ∷ [] ≡ v ∷ []) (‵ (all-own (D .parts) L fields))) (own-open 𝓤 H A W D L fields v) $ learn ! (λ _.
     use1 W (‵ (ownAt (D .parts) L 0 (d .bytes)) ⊛ ‵ (rest (D .parts) L 0 fields)) (own-out 𝓤 H A W (D .parts) L 0 fields) $ split ! $ move ! (1 ∷ []) $ drop ! $ frame ! $ done !)
@@ -66,7 +67,7 @@ module _ {M : Type 1} (𝓤 : URA M) (H : Heap 𝓤) (A : Atoms 𝓤) (W : Given
   -- once it has returned, what the struct owns stands first, and its value is known to fit the local
   pub calls-open : {K : Type 0} {Γ : List (Item 𝓤)} {E : Env 𝓤 H} {C : Calls 𝓤 H} {Λ : Loops 𝓤 H} {p : Post 𝓤 H} {f : Name} {xs : List Operand} {d : Place} {rest : Body}
       → K → FmC 𝓤 H (W .laws) C → Triple 𝓤 (C f) (Open 𝓤 H A mem run) → Accepted (now s) → Opds K W (raw (Open 𝓤 H A mem run .pre to-open) ∷ ‵ (Bytes κ s) ∷ Γ) E xs (mach s ∷ [])
-      → ((u : Val) → Holds (hasTy (T′.mir erased) u) × WT u → Seq K W (‵ (Struct κ .own (openedOf s) (u ∷ [])) ∷ (‵ (flft κ q) ⊛ ‵ ftrue) ∷ ‵ (Bytes κ s) ∷ Γ) (lands C Λ E d u rest p))
+      → ((u : Val) → Holds (hasTy (T′.mir erased) u) × WT u → Seq K W (‵ (Struct (κ, tt) .own (openedOf s) (u ∷ [])) ∷ (‵ (flft κ q) ⊛ ‵ ftrue) ∷ ‵ (Bytes κ s) ∷ Γ) (lands C Λ E d u rest p))
       → Seq K W ((‵ (flft κ q) ⊛ ‵ ftrue) ∷ ‵ (Bytes κ s) ∷ Γ) (runs C Λ E (seq (call f xs d) rest) p)
   calls-open t fm known accepted os k =
       use2 W (raw (Open 𝓤 H A mem run .pre to-open) ⊛ ‵ (Bytes κ s)) (lends 𝓤 H A W κ q s (Accepted (now s)) accepted) $ split t $

@@ -13,14 +13,13 @@ use prog.Memory.{Memory}
 use prog.Routine.{Routine}
 use prog.Wp.{Heap, Calls, Loops, WpFn, Tables}
 use ghost.Atoms.{Atoms}
-use contract.Lifetimes.{Lfts}
 use contract.Monad.{Fun}
 use contract.Running.{givenOf, tables, tablesOf}
 use types.Kit.{Given, ‵, raw, _⊛_, _$_, _∵_, !, qed, by, move, drop, use1, use2, split, fsplit}
 use types.Part.{whole, sub, look-in}
 use types.Run.{look, init, forget, stop, fld, from, load, of-opd, and-then, no-more, assigns, land, returns, enter, alloc1, alloc0, params1, pass1, pass0, free1, free0}
 use sound.WpLaws.{FmC, fmOf, WpFn-mono}
-use denote.RattleType.{RattleType, owns}
+use denote.RattleType.{owns}
 use denote.Plain.{uint-vals, uint-tells}
 use denote.Builtin.{u8, usize}
 use denote.Ref.{now}
@@ -39,7 +38,7 @@ use Rattle.search.specs.Opened.{Opened, edgeOf}
 use Rattle.search.specs.declared.automaton.Edge.{Edge}
 use Rattle.search.specs.declared.opened.Automaton.{Automaton}
 use Rattle.search.proofs.Calling.{Called, calls-for, AllFit, passes, leaves, mach, Bytes}
-use Rattle.search.proofs.Opening.{bytes-out}
+use Rattle.search.proofs.Opening.{Struct, bytes-out}
 use Rattle.search.proofs.opened.Automaton as T
 use Rattle.search.proofs.opened.Automaton.Laws as T′
 use Rattle.search.proofs.automaton.Edge as R
@@ -53,12 +52,8 @@ use Rattle.search.proofs.opened.edge as self
 use Rattle.search.proofs.opened.edge.Statement as stated
 use Rattle.search.proofs.opened.edge.Code as code
 
--- the struct's type, over the signature's lifetimes
-abbrev B : Lfts 1 → RattleType
-B κs = T.the-row (namedLft 1 0 tt κs)
-
 abbrev stayed : Stays (self.ended .signature .params) (self.ended .kept)
-stayed = (stay-none B yes, (stay-none (λ _. usize) yes, tt))
+stayed = (stay-none Struct yes, (stay-none (λ _. usize) yes, tt))
 
 module _ {M : Type 1} (𝓤 : URA M) (H : Heap 𝓤) (A : Atoms 𝓤) (mem : Memory → SProp 𝓤) (run : Routine → Fun 𝓤) where
   -- the contract that the proof cites
@@ -85,23 +80,23 @@ module _ {M : Type 1} (𝓤 : URA M) (H : Heap 𝓤) (A : Atoms 𝓤) (W : Given
   module _ (C : Calls 𝓤 H) (Λ : Loops 𝓤 H) (fm : FmC 𝓤 H (W .laws) C) (known : Triple 𝓤 (C #read) (Read 𝓤 H A mem run)) where
     walk : Holds (hasTy (T′.mir (named 0)) v) × WT v → Complete (now (d .bytes)) × (i < edges (now (d .bytes))) → ent 𝓤 (onEntry 𝓤 H A self.signature (κ, tt) (q, tt) (d, (i, tt)) given-vals) (WpFn 𝓤 H C Λ code.function (v ∷ vint w64 i ∷ []) Post)
     walk wt pre =
-        qed W ((‵ (flft κ q) ⊛ ‵ ftrue) ∷ ‵ (owns (B (κ, tt) ∷ usize ∷ []) (d, (i, tt)) given-vals) ∷ []) ∵ enter ! C Λ code.function (v ∷ vint w64 i ∷ []) _ $
+        qed W ((‵ (flft κ q) ⊛ ‵ ftrue) ∷ ‵ (owns (Struct (κ, tt) ∷ usize ∷ []) (d, (i, tt)) given-vals) ∷ []) ∵ enter ! C Λ code.function (v ∷ vint w64 i ∷ []) _ $
         alloc1 ! (λ l₀. alloc1 ! (λ l₁. alloc1 ! (λ l₂. alloc1 ! (λ l₃. alloc0 ! $ params1 ! $ pass1 ! (init ! 4 refl wt) $ pass1 ! (init ! 2 refl (tt, record { fits = fits .0 })) $ pass0 ! $
         assigns ! (of-opd ! (load ! (from ! (fld ! refl (stop !))) (look-in ! 4 (sub ! 0 refl (whole !))))) (from ! (stop !)) (init ! 0 refl (tt, wt .1 .0)) $
         -- [_3; …; _2; …; _1; …; room for _0; …; the token; what is passed]
-        move ! (9 ∷ []) $ fsplit ! $ move ! (1 ∷ []) $ drop ! $ use1 W (‵ (Bytes κ (d .bytes)) ⊛ ‵ (B (κ, tt) .own d (v ∷ []))) (bytes-out 𝓤 H A W κ d) $ split ! $ move ! (0 ∷ 10 ∷ []) $
+        move ! (9 ∷ []) $ fsplit ! $ move ! (1 ∷ []) $ drop ! $ use1 W (‵ (Bytes κ (d .bytes)) ⊛ ‵ (Struct (κ, tt) .own d (v ∷ []))) (bytes-out 𝓤 H A W κ d) $ split ! $ move ! (0 ∷ 10 ∷ []) $
         use2 W (raw (Read 𝓤 H A mem run .pre goes)) (passes 𝓤 H A W κ q (ShrSlice (named 0) κ u8) (d .bytes) (mach (d .bytes) ∷ []) (i ∷ []) fits _ pre) $
         calls-for ! fm read.ended (read.clauses 𝓤 H A mem run) known goes found (λ r e. id⊢ 𝓤 _) (and-then ! (load ! (from ! (stop !)) (look ! 2 refl)) (and-then ! (load ! (from ! (stop !)) (look ! 4 refl)) (no-more !))) (λ u is.
         -- [the result; the token; what the struct owns; _3; …; _2; …; _1; …; room for _0; …]
         land ! (from ! (stop !)) (init ! 9 refl (LL.lawful R.the-type R′.the-laws 𝓤 H A W .typed found _ is .0)) $
         returns ! (look ! 9 refl) $ forget ! 3 refl $ forget ! 5 refl $ forget ! 7 refl $ forget ! 9 refl $
         move ! (9 ∷ 10 ∷ []) $ free1 ! $ move ! (7 ∷ 8 ∷ []) $ free1 ! $ move ! (5 ∷ 6 ∷ []) $ free1 ! $ move ! (3 ∷ 4 ∷ []) $ free1 ! $ free0 ! $
-        by ! (via 𝓤 _ (leaves 𝓤 H A W κ q (B (κ, tt)) d (v ∷ []) (i ∷ []) fits R.the-row found u) (ends-at 𝓤 H A self.ended stayed (self.clauses 𝓤 H A mem run) W (((κ, tt), (q, tt), tt, (d, (i, tt)), given-vals), tt) u found (tt, (tt, tt)) (tt, (tt, tt)))))))))
+        by ! (via 𝓤 _ (leaves 𝓤 H A W κ q (Struct (κ, tt)) d (v ∷ []) (i ∷ []) fits R.the-row found u) (ends-at 𝓤 H A self.ended stayed (self.clauses 𝓤 H A mem run) W (((κ, tt), (q, tt), tt, (d, (i, tt)), given-vals), tt) u found (tt, (tt, tt)) (tt, (tt, tt)))))))))
 
 self-meets : {M : Type 1} (𝓤 : URA M) (H : Heap 𝓤) (A : Atoms 𝓤) (W : Given 𝓤 H A) (mem : Memory → SProp 𝓤) (run : Routine → Fun 𝓤) (𝓣 : Tables 𝓤 H)
     → Triple 𝓤 (𝓣 .C #read) (Read 𝓤 H A mem run)
     → Meets 𝓤 H A self.signature (WpFn 𝓤 H (𝓣 .C) (𝓣 .Λ) code.function) (self.spec 𝓤 H A mem run)
-self-meets 𝓤 H A W mem run 𝓣 known = walk-meets 𝓤 H A self.ended stayed W (goes-none 𝓤 H A W 1 B yes (λ κs x f. refl), (goes-none 𝓤 H A W 1 (λ _. usize) yes (λ κs x f. refl), tt)) (self.clauses 𝓤 H A mem run) (WpFn 𝓤 H (𝓣 .C) (𝓣 .Λ) code.function) (WpFn-mono 𝓤 H (W .laws) 𝓣 code.function)
+self-meets 𝓤 H A W mem run 𝓣 known = walk-meets 𝓤 H A self.ended stayed W (goes-none 𝓤 H A W 1 Struct yes (λ κs x f. refl), (goes-none 𝓤 H A W 1 (λ _. usize) yes (λ κs x f. refl), tt)) (self.clauses 𝓤 H A mem run) (WpFn 𝓤 H (𝓣 .C) (𝓣 .Λ) code.function) (WpFn-mono 𝓤 H (W .laws) 𝓣 code.function)
     (walked 𝓤 H A self.ended stayed (self.clauses 𝓤 H A mem run) (WpFn 𝓤 H (𝓣 .C) (𝓣 .Λ) code.function) (λ κs. (LL.vals (T.the-type (namedLft 1 0 tt κs)) (T′.the-laws (namedLft 1 0 tt κs)), (uint-vals w64, tt))) (λ κs. (LL.tells (T.the-type (namedLft 1 0 tt κs)) (T′.the-laws (namedLft 1 0 tt κs)), (uint-tells w64, tt)))
     (λ κs qs bounds a g are. needs 𝓤 (Opened (a .0) × (a .1 .0 < a .0 .edges)) _ (λ h.
     walk 𝓤 H A W mem run (κs .0) (qs .0) (a .0) (a .1 .0) (are .1 .0 .1, tt) (𝓣 .C) (𝓣 .Λ) (fmOf 𝓤 H (W .laws) 𝓣) known (LL.lawful (T.the-type (namedLft 1 0 tt κs)) (T′.the-laws (namedLft 1 0 tt κs)) 𝓤 H A W .typed (a .0) _ (are .0) .0)

@@ -81,7 +81,7 @@ module _ {M : Type 1} (𝓤 : URA M) (H : Heap 𝓤) (A : Atoms 𝓤) (W : Given
         -- [the token; what bytes owns; _4; …; _3; …; _2; …; _1; …; room for _0; …]
         calls-open 𝓤 H A W mem run κ q s ! fm known-open accepted (and-then ! (load ! (from ! (stop !)) (look ! 8 refl)) (no-more !)) (λ u typed.
         -- [what the struct owns; the token; what bytes owns; room for _4; …; _3; …; _2; …; _1; …; room for _0; …]
-        land ! (from ! (stop !)) (init ! 3 refl typed) $ use2 W (raw (Fetch 𝓤 H A mem run .pre (goes u))) (passes 𝓤 H A W κ q (Struct κ) (openedOf s) (u ∷ []) (at ∷ x ∷ []) fits _ within) $
+        land ! (from ! (stop !)) (init ! 3 refl typed) $ use2 W (raw (Fetch 𝓤 H A mem run .pre (goes u))) (passes 𝓤 H A W κ q (Struct (κ, tt)) (openedOf s) (u ∷ []) (at ∷ x ∷ []) fits _ within) $
         calls-for ! fm fetch.ended (fetch.clauses 𝓤 H A mem run) known-fetch (goes u) found (λ r e. id⊢ 𝓤 _) (and-then ! (load ! (from ! (stop !)) (look ! 2 refl)) (and-then ! (load ! (from ! (stop !)) (look ! 6 refl)) (and-then ! (load ! (from ! (stop !)) (look ! 4 refl)) (no-more !)))) (λ u′ is.
         -- [the result; the token; what bytes owns; _4; …; _3; …; _2; …; _1; …; room for _0; …]
         land ! (from ! (stop !)) (init ! 11 refl (LL.lawful R.the-type R′.the-laws 𝓤 H A W .typed found _ is .0)) $

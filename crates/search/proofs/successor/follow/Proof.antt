@@ -1,10 +1,10 @@
 -- Assumes nothing.
-use Prim.Native.Nat.{_+_}
-use mathlib.Core.Path.{ap}
+use Prim.Native.Nat.{ℕ, _+_, _<_}
+use mathlib.Core.Path.{sym, ap, subst}
 use native.Mathlib.Omega.{arith}
 use Rattle.zones.specs.Ranges.{counts}
 use Rattle.zones.proofs.Bounding.{sized-more}
-use Rattle.search.specs.Automata.{clocks, guardOf}
+use Rattle.search.specs.Automata.{clocks, locations, guardOf}
 use Rattle.search.specs.declared.automaton.Edge.{Edge}
 use Rattle.search.proofs.Places.{edge-within}
 use Rattle.search.proofs.Stepping.{one-more, meets, asks-limits, met-is, met-ready, reset-sized, followed-none, followed, guard-scale, resets-are, enters-at}
@@ -68,7 +68,7 @@ enter-requires c κs =
     let a = start .pre .0 .0 in
     let hi = start .pre .0 .1 in
     let n = c .before .before .before .before .before .before .before .before .clocks .ensures in (
-      (a, rw (ap (λ (e : Edge). e .to) (c .before .before .edge-of .ensures)) (a .to< _ hi)),
+      (a, subst (λ (l : ℕ). l < locations (start .args .automaton .now)) (sym (ap (λ (e : Edge). e .to) (c .before .before .edge-of .ensures))) (a .to< _ hi)),
       reset-sized _ (a .complete .clocks≤) _ (one-more n) counts (omega arith) (omega arith) _ (guard-scale _ a _ hi) (start .pre .1) (met-is _ (a .complete .clocks≤) _ (one-more n) _ (meets _ _ (ap (λ x. x + 3) (c .before .before .before .before .before .before .before .edge-at .ensures)) n (c .before .before .before .before .before .before .meet .ensures)) (c .before .before .before .before .before .reduce .ensures)) (c .before .before .before .before .if1 .left) _ (c .reset .ensures),
     )
 
