@@ -1,4 +1,5 @@
 -- What is proved of the definitions: of the reader, of the search over any zones, of an automaton's zones, slots and store, and of the answer.
+-- Last, what the walks by hand share.
 pub mod Some
 pub mod Places
 pub mod Resets
@@ -26,3 +27,5 @@ pub mod Demands
 pub mod Answers
 pub mod Examples
 pub mod Given
+pub mod Calling
+pub mod Opening

@@ -4,7 +4,10 @@ use mathlib.Core.Path.{_≡_}
 use mathlib.Core.List.{List}
 use denote.Ref.{RefT, now}
 use Rattle.search.specs.Accepted.{Accepted}
-use Rattle.search.specs.Automata.{clocks, locations, edges}
+use Rattle.search.specs.Automata.{clocks, locations, edges, from, to, resetByte, resetSet, loAt, hiAt}
+use Rattle.search.specs.declared.automaton.Counts.{Counts}
+use Rattle.search.specs.declared.automaton.Edge.{Edge}
+use Rattle.search.specs.declared.automaton.Limits.{Limits}
 use Rattle.search.specs.declared.opened.Automaton.{Automaton}
 
 -- lent bytes, opened: their own counts beside them
@@ -15,3 +18,15 @@ openedOf s = record { bytes = s; n = clocks (now s); m = locations (now s); edge
 pub record Opened (a : Automaton) : Type 0 where
   pub accepted : Accepted (now (a .bytes))
   pub counts : a ≡ openedOf (a .bytes)
+
+-- ---- what is fetched of bytes
+abbrev pub countsOf : List ℕ → Counts
+countsOf s = record { clocks = clocks s; locations = locations s; edges = edges s }
+
+-- edge i: its ends and its resets
+abbrev pub edgeOf : List ℕ → ℕ → Edge
+edgeOf s i = record { from = from s i; to = to s i; resets = resetSet (resetByte s i) }
+
+-- of clock x, from 1, among the limits at `at`
+abbrev pub limitsOf : List ℕ → ℕ → ℕ → Limits
+limitsOf s at x = record { lo = loAt s at x; hi = hiAt s at x }

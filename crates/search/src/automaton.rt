@@ -5,6 +5,7 @@ ghost use lib.ListN.{length};
 ghost use Rattle.search.specs.Accepted.{Complete};
 ghost use Rattle.search.specs.Automata.{be16At, be32At, clocks, locations, edges, start, target, invariantAt, edgeAt, from, to, resetByte, resetSet, loAt, hiAt};
 ghost use Rattle.search.specs.Automata.{oversize, misplaced, noSuchPlace, noSuchClock, outOfRange, offScaleAt, invariantOffScale, guardOffScale, refusalOf};
+ghost use Rattle.search.specs.Opened.{edgeOf, limitsOf};
 
 const VERSION: u8 = 1;
 
@@ -13,6 +14,25 @@ const SCALE: u32 = 1000000;
 
 // The hi of a guard without an upper limit.
 pub const NO_UPPER: u32 = 4294967295;
+
+pub struct Counts {
+    pub clocks: usize,
+    pub locations: usize,
+    pub edges: usize,
+}
+
+// The ends of an edge and, for each clock by its number, whether it is reset.
+pub struct Edge {
+    pub from: usize,
+    pub to: usize,
+    pub resets: [bool; 9],
+}
+
+// The limits of one clock.
+pub struct Limits {
+    pub lo: u32,
+    pub hi: u32,
+}
 
 fn wide(x: u8) -> u32
     ensures { λ r. ⌜ (r ≡ x) × (r < 256) ⌝ }
@@ -92,7 +112,7 @@ pub fn edge_at(automaton: &[u8], i: usize) -> usize
     11 + 8 * n * locations(automaton) + i * (3 + 8 * n)
 }
 
-pub fn edge_from(automaton: &[u8], i: usize) -> usize
+fn edge_from(automaton: &[u8], i: usize) -> usize
     requires { ⌜ Complete (now automaton) ⌝ }
     requires { ⌜ i < edges (now automaton) ⌝ }
     ensures { λ r. ⌜ r ≡ from (now (automaton .entry)) i ⌝ }
@@ -101,7 +121,7 @@ pub fn edge_from(automaton: &[u8], i: usize) -> usize
     wide(automaton[at]) as usize
 }
 
-pub fn edge_to(automaton: &[u8], i: usize) -> usize
+fn edge_to(automaton: &[u8], i: usize) -> usize
     requires { ⌜ Complete (now automaton) ⌝ }
     requires { ⌜ i < edges (now automaton) ⌝ }
     ensures { λ r. ⌜ r ≡ to (now (automaton .entry)) i ⌝ }
@@ -136,8 +156,7 @@ fn reset_set(b: u8) -> [bool; 9]
     ]
 }
 
-// For each clock by its number, whether edge i resets it.
-pub fn edge_resets(automaton: &[u8], i: usize) -> [bool; 9]
+fn edge_resets(automaton: &[u8], i: usize) -> [bool; 9]
     requires { ⌜ Complete (now automaton) ⌝ }
     requires { ⌜ i < edges (now automaton) ⌝ }
     ensures { λ r. ⌜ r ≡ resetSet (resetByte (now (automaton .entry)) i) ⌝ }
@@ -145,8 +164,22 @@ pub fn edge_resets(automaton: &[u8], i: usize) -> [bool; 9]
     reset_set(reset_byte(automaton, i))
 }
 
+impl Edge {
+    // Edge i.
+    pub fn read(automaton: &[u8], i: usize) -> Edge
+        requires { ⌜ Complete (now automaton) × (i < edges (now automaton)) ⌝ }
+        ensures { λ r. ⌜ r ≡ edgeOf (now (automaton .entry)) i ⌝ }
+    {
+        Edge {
+            from: edge_from(automaton, i),
+            to: edge_to(automaton, i),
+            resets: edge_resets(automaton, i),
+        }
+    }
+}
+
 // The lo of clock x, counted from 1, among the limits at `at`.
-pub fn lo_at(automaton: &[u8], at: usize, x: usize) -> u32
+fn lo_at(automaton: &[u8], at: usize, x: usize) -> u32
     requires { ⌜ 0 < x ⌝ }
     requires { ⌜ at + 8 * x ≤ length (now automaton) ⌝ }
     ensures { λ r. ⌜ r ≡ loAt (now (automaton .entry)) at x ⌝ }
@@ -155,12 +188,25 @@ pub fn lo_at(automaton: &[u8], at: usize, x: usize) -> u32
 }
 
 // The hi of clock x, counted from 1, among the limits at `at`.
-pub fn hi_at(automaton: &[u8], at: usize, x: usize) -> u32
+fn hi_at(automaton: &[u8], at: usize, x: usize) -> u32
     requires { ⌜ 0 < x ⌝ }
     requires { ⌜ at + 8 * x ≤ length (now automaton) ⌝ }
     ensures { λ r. ⌜ r ≡ hiAt (now (automaton .entry)) at x ⌝ }
 {
     be32(automaton, at + 8 * (x - 1) + 4)
+}
+
+impl Limits {
+    // Of clock x, counted from 1, among the limits at `at`.
+    pub fn read(automaton: &[u8], at: usize, x: usize) -> Limits
+        requires { ⌜ (0 < x) × (at + 8 * x ≤ length (now automaton)) ⌝ }
+        ensures { λ r. ⌜ r ≡ limitsOf (now (automaton .entry)) at x ⌝ }
+    {
+        Limits {
+            lo: lo_at(automaton, at, x),
+            hi: hi_at(automaton, at, x),
+        }
+    }
 }
 
 // ---- the refusals

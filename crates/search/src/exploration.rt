@@ -2,9 +2,8 @@
 use crate::automaton::clocks;
 use crate::automaton::start;
 use crate::automaton::target;
-use crate::opened::destination_of;
-use crate::opened::edge_count_of;
-use crate::opened::source_of;
+use crate::opened::counts_of;
+use crate::opened::edge_of;
 use crate::slot::decode;
 use crate::slot::encode;
 use crate::slot::is_within;
@@ -159,20 +158,14 @@ fn expand(
     ensures { λ r. ⌜ ((p : List ℕ) → Continues (now (automaton .entry)) slots (now (store .entry)) turn (expand (systemOf (now (automaton .entry))) (zonesOf (now (automaton .entry))) slots (record { at = l; zone = z; path = p }) (edges (now (automaton .entry))) 0) (now (store .exit)) r) ⌝ }
 {
     let mut t = turn;
-    let last = edge_count_of(automaton);
+    let last = counts_of(automaton).edges;
     let mut i = 0;
     while i < last {
-        if source_of(automaton, i) == l {
+        let edge = edge_of(automaton, i);
+        if edge.from == l {
             let fraction = t.fraction;
             let r = follow(automaton, i, Work { zone: z, fraction });
-            t = offer(
-                automaton,
-                store,
-                t.count,
-                slots,
-                destination_of(automaton, i),
-                r,
-            );
+            t = offer(automaton, store, t.count, slots, edge.to, r);
             if t.code != 0 {
                 return t;
             }

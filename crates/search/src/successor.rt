@@ -2,11 +2,9 @@
 use crate::automaton::NO_UPPER;
 use crate::automaton::clocks;
 use crate::automaton::edge_at;
-use crate::automaton::hi_at;
 use crate::automaton::invariant_at;
-use crate::automaton::lo_at;
-use crate::opened::destination_of;
-use crate::opened::resets_of;
+use crate::opened::edge_of;
+use crate::opened::limits_of;
 use zones::pair::Pair;
 use zones::reduction::Reduced;
 use zones::zone::Bounds;
@@ -22,6 +20,7 @@ ghost use Rattle.search.specs.Automata.{clocks, edges, locations, to, li
 
 // The limits at `at` of n clocks are met, clock by clock.
 fn meet(automaton: &[u8], at: usize, n: usize, w: Work) -> Work
+    requires { ⌜ Accepted (now automaton) ⌝ }
     requires { ⌜ (n ≤ 8) × (at + 8 * n ≤ length (now automaton)) ⌝ }
     requires { ⌜ OnScale scale n (limitsAt (now automaton) at) × Sized stepCounts (suc n) w ⌝ }
     ensures { λ r. ⌜ r ≡ meetLimits (limitsAt (now (automaton .entry)) at) n w ⌝ }
@@ -30,14 +29,14 @@ fn meet(automaton: &[u8], at: usize, n: usize, w: Work) -> Work
     let mut f = w.fraction;
     let mut x = 1;
     while x <= n {
-        let lo = lo_at(automaton, at, x);
-        let hi = hi_at(automaton, at, x);
+        let limits = limits_of(automaton, at, x);
+        let hi = limits.hi;
         let there = Bounds {
             upper: z[x * 9],
             lower: z[x],
             fraction: f,
         };
-        let met = there.meet(lo, hi, hi == NO_UPPER);
+        let met = there.meet(limits.lo, hi, hi == NO_UPPER);
         let upper = met.upper;
         let lower = met.lower;
         z[x * 9] = upper;
@@ -53,6 +52,7 @@ fn meet(automaton: &[u8], at: usize, n: usize, w: Work) -> Work
 
 // Each entry (clock, 0) is put to (hi, 1), hi among the limits at `at`.
 fn raise(automaton: &[u8], at: usize, n: usize, w: Work) -> Work
+    requires { ⌜ Accepted (now automaton) ⌝ }
     requires { ⌜ (n ≤ 8) × (at + 8 * n ≤ length (now automaton)) ⌝ }
     ensures { λ r. ⌜ r ≡ raiseLimits (limitsAt (now (automaton .entry)) at) n w ⌝ }
 {
@@ -60,7 +60,7 @@ fn raise(automaton: &[u8], at: usize, n: usize, w: Work) -> Work
     let mut z = w.zone;
     let mut x = 1;
     while x <= n {
-        z[x * 9] = Pair::at_most(hi_at(automaton, at, x));
+        z[x * 9] = Pair::at_most(limits_of(automaton, at, x).hi);
         x += 1;
     }
     Work { zone: z, fraction }
@@ -95,10 +95,7 @@ pub fn follow(automaton: &[u8], i: usize, w: Work) -> Reduced
         return met;
     }
     let work = met.work;
-    let resets = resets_of(automaton, i);
-    enter(
-        automaton,
-        destination_of(automaton, i),
-        work.reset(n + 1, resets),
-    )
+    let edge = edge_of(automaton, i);
+    let resets = edge.resets;
+    enter(automaton, edge.to, work.reset(n + 1, resets))
 }

@@ -1,11 +1,13 @@
 -- Assumes nothing.
 use Prim.Native.Nat.{ℕ, suc, _-_, _≤_, _<_}
-use mathlib.Core.Path.{_≡_, refl, sym, _∙_}
+use mathlib.Core.Path.{_≡_, refl, sym, ap, _∙_}
 use mathlib.Core.List.{List, []}
 use mathlib.Core.Logic.{⊎-elim}
 use lib.IntN.{ℤ}
 use native.Mathlib.Omega.{arith}
 use Rattle.search.specs.Automata.{clocks, edges}
+use Rattle.search.specs.declared.automaton.Counts.{Counts}
+use Rattle.search.specs.declared.automaton.Edge.{Edge}
 use Rattle.search.specs.Exploring.{ZoneState, SoundState, Shown}
 use Rattle.search.proofs.Expanding.{shown-length, Between, begins, passes, taken-sized, result-sound, goes-on, offered-length, stops, between-progress, ends}
 use Rattle.search.proofs.exploration.expand.Statement.{statement}
@@ -18,32 +20,26 @@ Inv-loop automaton store₀ slots l z t₀ last i₀ store t i =
 abbrev μ-loop : tie.MeasureT-loop
 μ-loop automaton store₀ slots l z t₀ last i₀ store t i = last - i
 
-edge-count-of-requires : tie.Need-edge-count-of-requires Inv-loop μ-loop
-edge-count-of-requires c κs = c .before .pre .0
+counts-of-requires : tie.Need-counts-of-requires Inv-loop μ-loop
+counts-of-requires c κs = c .before .pre .0
 
 loop-holds : tie.Need-loop-holds Inv-loop μ-loop
-loop-holds c = (c .edge-count-of .ensures, omega arith, λ p s₀ q₀ h o g. begins _ _ _ _ _ s₀ q₀ _ _ h o g)
+loop-holds c = (ap (λ (n : Counts). n .edges) (c .counts-of .ensures), omega arith, λ p s₀ q₀ h o g. begins _ _ _ _ _ s₀ q₀ _ _ h o g)
 
-source-of-requires : tie.Need-source-of-requires Inv-loop μ-loop
-source-of-requires c κs =
+edge-of-requires : tie.Need-edge-of-requires Inv-loop μ-loop
+edge-of-requires c κs =
     let start = c .before .before .before .before in
     let loop = c .before in
     (start .pre .0, omega (arith, loop .loop .inv .0, c .loop-test .taken))
 
 follow-requires : tie.Need-follow-requires Inv-loop μ-loop
 follow-requires c κs =
-    let start = c .before .before .before .before .before .before .before in
-    let loop = c .before .before .before .before in
+    let start = c .before .before .before .before .before .before .before .before in
+    let loop = c .before .before .before .before .before in
     let going = start .pre .1 in
     let between = loop .loop .inv .2 [] (going .base) (going .state) (going .shown) (going .sound) (going .going) in
-    let at : loop .loop .i < edges (start .args .automaton .now) = omega (arith, loop .loop .inv .0, c .before .before .before .loop-test .taken) in
+    let at : loop .loop .i < edges (start .args .automaton .now) = omega (arith, loop .loop .inv .0, c .before .before .before .before .loop-test .taken) in
     ((start .pre .0, at), taken-sized _ _ _ _ _ _ _ _ at _ _ between (start .pre .0) (start .pre .2) _ refl)
-
-destination-of-requires : tie.Need-destination-of-requires Inv-loop μ-loop
-destination-of-requires c κs =
-    let start = c .before .before .before .before .before .before .before .before .before in
-    let loop = c .before .before .before .before .before .before in
-    (start .pre .0, omega (arith, loop .loop .inv .0, c .before .before .before .before .before .loop-test .taken))
 
 offer-requires : tie.Need-offer-requires Inv-loop μ-loop
 offer-requires c κs =
@@ -52,25 +48,27 @@ offer-requires c κs =
     let going = start .pre .1 in
     let between = loop .loop .inv .2 [] (going .base) (going .state) (going .shown) (going .sound) (going .going) in
     let at : loop .loop .i < edges (start .args .automaton .now) = omega (arith, loop .loop .inv .0, c .before .before .before .before .before .before .loop-test .taken) in
-    ((start .pre .0, rw (c .destination-of .ensures) (start .pre .0 .to< _ at)), (between-progress _ _ _ _ _ _ _ _ _ _ (going .room) between, result-sound _ _ _ _ _ _ _ _ at _ _ between (start .pre .0) (start .pre .2) _ refl (c .before .before .follow .ensures)))
+    ((start .pre .0, rw (ap (λ (e : Edge). e .to) (c .before .before .before .before .before .edge-of .ensures)) (start .pre .0 .to< _ at)), (between-progress _ _ _ _ _ _ _ _ _ _ (going .room) between, result-sound _ _ _ _ _ _ _ _ at _ _ between (start .pre .0) (start .pre .2) _ refl (c .before .follow .ensures)))
 
 same-length : tie.Need-same-length Inv-loop μ-loop
 same-length c =
     let start = c .before .before .before .before .before .before .before .before .before .before .before .before .before .before in
     let loop = c .before .before .before .before .before .before .before .before .before .before .before in
+    let edge = c .before .before .before .before .before .before .before .before .before .edge-of .ensures in
     let at : loop .loop .i < edges (start .args .automaton .now) = omega (arith, loop .loop .inv .0, c .before .before .before .before .before .before .before .before .before .before .loop-test .taken) in
     let going = start .pre .1 in
     let between = loop .loop .inv .2 [] (going .base) (going .state) (going .shown) (going .sound) (going .going) in
-    offered-length _ _ _ _ [] _ _ _ at _ _ between (start .pre .0) (start .pre .2) (sym (c .before .before .before .before .before .before .before .before .before .source-of .ensures) ∙ c .before .before .before .before .before .before .before .before .if1 .taken) _ _ refl (c .before .before .before .before .before .before .follow .ensures) _ _ (rw (c .before .before .before .before .destination-of .ensures) at (c .before .before .before .offer .ensures)) (going .room)
+    offered-length _ _ _ _ [] _ _ _ at _ _ between (start .pre .0) (start .pre .2) (sym (ap (λ (e : Edge). e .from) edge) ∙ c .before .before .before .before .before .before .before .if1 .taken) _ _ refl (c .before .before .before .before .before .follow .ensures) _ _ (rw (ap (λ (e : Edge). e .to) edge) at (c .before .before .before .offer .ensures)) (going .room)
     ∙ sym (shown-length _ (start .pre .0) _ _ _ _ (going .room) (going .shown) (going .sound))
 
 returns : tie.Need-returns Inv-loop μ-loop
 returns c =
     let start = c .before .before .before .before .before .before .before .before .before .before .before .before .before .before in
     let loop = c .before .before .before .before .before .before .before .before .before .before .before in
+    let edge = c .before .before .before .before .before .before .before .before .before .edge-of .ensures in
     let at : loop .loop .i < edges (start .args .automaton .now) = omega (arith, loop .loop .inv .0, c .before .before .before .before .before .before .before .before .before .before .loop-test .taken) in
     λ p. record {
-      shows = λ s₀ q₀ h o g. stops _ _ _ _ p s₀ q₀ _ at _ _ (loop .loop .inv .2 p s₀ q₀ h o g) (start .pre .0) (start .pre .2) (sym (c .before .before .before .before .before .before .before .before .before .source-of .ensures) ∙ c .before .before .before .before .before .before .before .before .if1 .taken) _ _ refl (c .before .before .before .before .before .before .follow .ensures) _ _ (rw (c .before .before .before .before .destination-of .ensures) at (c .before .before .before .offer .ensures)) (c .if2 .taken);
+      shows = λ s₀ q₀ h o g. stops _ _ _ _ p s₀ q₀ _ at _ _ (loop .loop .inv .2 p s₀ q₀ h o g) (start .pre .0) (start .pre .2) (sym (ap (λ (e : Edge). e .from) edge) ∙ c .before .before .before .before .before .before .before .if1 .taken) _ _ refl (c .before .before .before .before .before .follow .ensures) _ _ (rw (ap (λ (e : Edge). e .to) edge) at (c .before .before .before .offer .ensures)) (c .if2 .taken);
     }
 
 add-i : tie.Need-add-i Inv-loop μ-loop
@@ -81,16 +79,17 @@ loop-less c = omega arith
 
 loop-again : tie.Need-loop-again Inv-loop μ-loop
 loop-again c =
-    let start = c .before .before .before .before .before .before in
-    let loop = c .before .before .before in
-    let at : loop .loop .i < edges (start .args .automaton .now) = omega (arith, loop .loop .inv .0, c .before .before .loop-test .taken) in (
+    let start = c .before .before .before .before .before .before .before in
+    let loop = c .before .before .before .before in
+    let edge = c .before .before .edge-of .ensures in
+    let at : loop .loop .i < edges (start .args .automaton .now) = omega (arith, loop .loop .inv .0, c .before .before .before .loop-test .taken) in (
       loop .loop .inv .0,
       omega arith,
       λ p s₀ q₀ h o g.
           let between = loop .loop .inv .2 p s₀ q₀ h o g in
           ⊎-elim
-          (λ w. rw (w .9, w .10) (goes-on _ _ _ _ p s₀ q₀ _ at _ _ between (start .pre .0) (start .pre .2) (sym (c .before .source-of .ensures) ∙ w .0 .taken) _ _ refl (w .2 .ensures) _ _ (rw (w .4 .ensures) at (w .5 .ensures)) (w .8 .left)))
-          (λ w. rw (w .1, w .2) (passes _ _ _ _ p s₀ q₀ _ at _ _ between (λ e. w .0 .left (c .before .source-of .ensures ∙ e)))) (c .if1 .came),
+          (λ w. rw (w .8, w .9) (goes-on _ _ _ _ p s₀ q₀ _ at _ _ between (start .pre .0) (start .pre .2) (sym (ap (λ (e : Edge). e .from) edge) ∙ w .0 .taken) _ _ refl (w .2 .ensures) _ _ (rw (ap (λ (e : Edge). e .to) edge) at (w .4 .ensures)) (w .7 .left)))
+          (λ w. rw (w .1, w .2) (passes _ _ _ _ p s₀ q₀ _ at _ _ between (λ e. w .0 .left (ap (λ (k : Edge). k .from) edge ∙ e)))) (c .if1 .came),
     )
 
 same-length-2 : tie.Need-same-length-2 Inv-loop μ-loop
@@ -113,11 +112,10 @@ expand-spec =
     (tie.spec
     Inv-loop
     μ-loop
-    edge-count-of-requires
+    counts-of-requires
     loop-holds
-    source-of-requires
+    edge-of-requires
     follow-requires
-    destination-of-requires
     offer-requires
     same-length
     returns

@@ -22,7 +22,7 @@ meet-requires c κs =
     let start = c .before .before .before in
     let a = start .pre .0 .0 in
     let hl = start .pre .0 .1 in
-    asks-limits _ _ (c .invariant-at .ensures) (c .before .clocks .ensures) (a .complete .clocks≤) (invariant-within _ (a .complete) _ hl) (invariant-scale _ a _ hl) (omega arith) (start .pre .1)
+    (a, asks-limits _ _ (c .invariant-at .ensures) (c .before .clocks .ensures) (a .complete .clocks≤) (invariant-within _ (a .complete) _ hl) (invariant-scale _ a _ hl) (omega arith) (start .pre .1))
 
 add-reduce : tie.Need-add-reduce
 add-reduce c = search needs
@@ -49,7 +49,7 @@ raise-requires c κs =
     let start = c .before .before .before .before .before .before .before in
     let a = start .pre .0 .0 in
     let q = asks-limits _ _ (c .before .before .before .before .invariant-at .ensures) (c .before .before .before .before .before .clocks .ensures) (a .complete .clocks≤) (invariant-within _ (a .complete) _ (start .pre .0 .1)) (invariant-scale _ a _ (start .pre .0 .1)) (omega arith) (start .pre .1) in
-    q .0
+    (a, q .0)
 
 add-reduce-2 : tie.Need-add-reduce-2
 add-reduce-2 c = search needs

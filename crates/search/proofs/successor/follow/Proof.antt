@@ -1,10 +1,11 @@
 -- Assumes nothing.
-use Prim.Native.Nat.{_+_}
-use mathlib.Core.Path.{ap}
+use Prim.Native.Nat.{ℕ, _+_, _<_}
+use mathlib.Core.Path.{sym, ap, subst}
 use native.Mathlib.Omega.{arith}
 use Rattle.zones.specs.Ranges.{counts}
 use Rattle.zones.proofs.Bounding.{sized-more}
-use Rattle.search.specs.Automata.{clocks, guardOf}
+use Rattle.search.specs.Automata.{clocks, locations, guardOf}
+use Rattle.search.specs.declared.automaton.Edge.{Edge}
 use Rattle.search.proofs.Places.{edge-within}
 use Rattle.search.proofs.Stepping.{one-more, meets, asks-limits, met-is, met-ready, reset-sized, followed-none, followed, guard-scale, resets-are, enters-at}
 use borrow.Author.Needs.{needs}
@@ -30,7 +31,7 @@ meet-requires c κs =
     let start = c .before .before .before in
     let a = start .pre .0 .0 in
     let hi = start .pre .0 .1 in
-    asks-limits _ _ (ap (λ x. x + 3) (c .edge-at .ensures)) (c .before .clocks .ensures) (a .complete .clocks≤) (omega (arith, edge-within _ (a .complete) _ hi)) (guard-scale _ a _ hi) (omega arith) (start .pre .1)
+    (a, asks-limits _ _ (ap (λ x. x + 3) (c .edge-at .ensures)) (c .before .clocks .ensures) (a .complete .clocks≤) (omega (arith, edge-within _ (a .complete) _ hi)) (guard-scale _ a _ hi) (omega arith) (start .pre .1))
 
 add-reduce : tie.Need-add-reduce
 add-reduce c = search needs
@@ -51,11 +52,8 @@ returns c =
     let n = c .before .before .before .before .clocks .ensures in
     followed-none _ (a .complete .clocks≤) _ (one-more n) _ _ _ (met-is _ (a .complete .clocks≤) _ (one-more n) _ (meets _ _ (ap (λ x. x + 3) (c .before .before .before .edge-at .ensures)) n (c .before .before .meet .ensures)) (c .before .reduce .ensures)) (c .if1 .taken)
 
-resets-of-requires : tie.Need-resets-of-requires
-resets-of-requires c κs = search needs
-
-destination-of-requires : tie.Need-destination-of-requires
-destination-of-requires c κs = search needs
+edge-of-requires : tie.Need-edge-of-requires
+edge-of-requires c κs = search needs
 
 add-reset : tie.Need-add-reset
 add-reset c = search needs
@@ -70,7 +68,7 @@ enter-requires c κs =
     let a = start .pre .0 .0 in
     let hi = start .pre .0 .1 in
     let n = c .before .before .before .before .before .before .before .before .clocks .ensures in (
-      (a, rw (c .before .destination-of .ensures) (a .to< _ hi)),
+      (a, subst (λ (l : ℕ). l < locations (start .args .automaton .now)) (sym (ap (λ (e : Edge). e .to) (c .before .before .edge-of .ensures))) (a .to< _ hi)),
       reset-sized _ (a .complete .clocks≤) _ (one-more n) counts (omega arith) (omega arith) _ (guard-scale _ a _ hi) (start .pre .1) (met-is _ (a .complete .clocks≤) _ (one-more n) _ (meets _ _ (ap (λ x. x + 3) (c .before .before .before .before .before .before .before .edge-at .ensures)) n (c .before .before .before .before .before .before .meet .ensures)) (c .before .before .before .before .before .reduce .ensures)) (c .before .before .before .before .if1 .left) _ (c .reset .ensures),
     )
 
@@ -80,8 +78,8 @@ returns-2 c =
     let start = c .before .before .before .before .before .before .before .before .before .before .before in
     let a = start .pre .0 .0 in
     let n = c .before .before .before .before .before .before .before .before .before .clocks .ensures in
-    followed _ (a .complete .clocks≤) _ (one-more n) _ _ _ (met-is _ (a .complete .clocks≤) _ (one-more n) _ (meets _ _ (ap (λ x. x + 3) (c .before .before .before .before .before .before .before .before .edge-at .ensures)) n (c .before .before .before .before .before .before .before .meet .ensures)) (c .before .before .before .before .before .before .reduce .ensures)) (c .before .before .before .before .before .if1 .left) (resets-are _ a _ (start .pre .0 .1) (c .before .before .before .resets-of .ensures)) (c .before .reset .ensures)
-    (enters-at (start .args .automaton .now) (c .before .reset .result) (c .before .before .destination-of .ensures) (c .enter .ensures))
+    followed _ (a .complete .clocks≤) _ (one-more n) _ _ _ (met-is _ (a .complete .clocks≤) _ (one-more n) _ (meets _ _ (ap (λ x. x + 3) (c .before .before .before .before .before .before .before .before .edge-at .ensures)) n (c .before .before .before .before .before .before .before .meet .ensures)) (c .before .before .before .before .before .before .reduce .ensures)) (c .before .before .before .before .before .if1 .left) (resets-are _ a _ (start .pre .0 .1) (ap (λ (e : Edge). e .resets) (c .before .before .before .edge-of .ensures))) (c .before .reset .ensures)
+    (enters-at (start .args .automaton .now) (c .before .reset .result) (ap (λ (e : Edge). e .to) (c .before .before .before .edge-of .ensures)) (c .enter .ensures))
 
 pub follow-spec : {M : Type 1} → statement M
 follow-spec =
@@ -94,8 +92,7 @@ follow-spec =
     add-reduce
     reduce-requires
     returns
-    resets-of-requires
-    destination-of-requires
+    edge-of-requires
     add-reset
     reset-requires
     enter-requires

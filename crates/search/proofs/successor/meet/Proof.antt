@@ -6,6 +6,7 @@ use lib.Dec.{eqb}
 use Rattle.zones.specs.Zones.{meetLimits}
 use Rattle.zones.proofs.Limits.{limits-all}
 use Rattle.search.specs.Automata.{limitsAt, noUpper}
+use Rattle.search.specs.declared.automaton.Limits.{Limits}
 use Rattle.search.proofs.Stepping.{turn-ready, turn-met}
 use Rattle.search.proofs.successor.meet.Statement.{statement}
 use Rattle.search.proofs.successor.meet.Tie as tie
@@ -20,11 +21,8 @@ loop-holds : tie.Need-loop-holds Inv-loop μ-loop
 unfolding meetLimits
 loop-holds c = (omega arith, omega arith, refl)
 
-lo-at-requires : tie.Need-lo-at-requires Inv-loop μ-loop
-lo-at-requires c κs = (omega arith, omega arith)
-
-hi-at-requires : tie.Need-hi-at-requires Inv-loop μ-loop
-hi-at-requires c κs = (omega arith, omega arith)
+limits-of-requires : tie.Need-limits-of-requires Inv-loop μ-loop
+limits-of-requires c κs = (c .before .before .before .before .before .pre .0, omega arith, omega arith)
 
 mul-t15 : tie.Need-mul-t15 Inv-loop μ-loop
 mul-t15 c = omega arith
@@ -44,10 +42,11 @@ array-copy-out-t23 c = omega arith
 meet-requires : tie.Need-meet-requires Inv-loop μ-loop
 unfolding limitsAt
 meet-requires c κs =
-    let now = c .before .before .before .before .before in
+    let now = c .before .before .before .before in
     let start = now .before .before .before .before in
-    turn-ready _ _ (start .args .w) (record { zone = now .loop .z; fraction = now .loop .f }) (start .pre .0 .0) (start .pre .1 .0) (start .pre .1 .1) (now .loop .x) (now .loop .inv .0) (omega arith) (now .loop .inv .2)
-    (c .before .before .before .lo-at .ensures) (c .before .before .hi-at .ensures) (ap (λ h. eqb h noUpper) (c .before .before .hi-at .ensures))
+    let limits = c .before .before .limits-of .ensures in
+    turn-ready _ _ (start .args .w) (record { zone = now .loop .z; fraction = now .loop .f }) (start .pre .1 .0 .0) (start .pre .1 .1 .0) (start .pre .1 .1 .1) (now .loop .x) (now .loop .inv .0) (omega arith) (now .loop .inv .2)
+    (ap (λ (l : Limits). l .lo) limits) (ap (λ (l : Limits). l .hi) limits) (ap (λ (l : Limits). eqb (l .hi) noUpper) limits)
 
 mul-z : tie.Need-mul-z Inv-loop μ-loop
 mul-z c = omega arith
@@ -73,12 +72,13 @@ loop-less c = omega arith
 loop-again : tie.Need-loop-again Inv-loop μ-loop
 unfolding limitsAt
 loop-again c =
-    let now = c .before .before .before .before .before .before .before .before .before in
-    let start = now .before .before .before .before in (
+    let now = c .before .before .before .before .before .before .before .before in
+    let start = now .before .before .before .before in
+    let limits = c .before .before .before .before .before .before .limits-of .ensures in (
       omega arith,
       omega arith,
-      turn-met _ _ (start .args .w) (record { zone = now .loop .z; fraction = now .loop .f }) (start .pre .0 .0) (start .pre .1 .0) (start .pre .1 .1) (now .loop .x) (now .loop .inv .0) (omega arith) (now .loop .inv .2)
-          (c .before .before .before .before .before .before .before .lo-at .ensures) (c .before .before .before .before .before .before .hi-at .ensures) (ap (λ h. eqb h noUpper) (c .before .before .before .before .before .before .hi-at .ensures)) (c .before .before .before .meet .ensures),
+      turn-met _ _ (start .args .w) (record { zone = now .loop .z; fraction = now .loop .f }) (start .pre .1 .0 .0) (start .pre .1 .1 .0) (start .pre .1 .1 .1) (now .loop .x) (now .loop .inv .0) (omega arith) (now .loop .inv .2)
+          (ap (λ (l : Limits). l .lo) limits) (ap (λ (l : Limits). l .hi) limits) (ap (λ (l : Limits). eqb (l .hi) noUpper) limits) (c .before .before .before .meet .ensures),
     )
 
 returns : tie.Need-returns Inv-loop μ-loop
@@ -91,8 +91,7 @@ meet-spec =
     Inv-loop
     μ-loop
     loop-holds
-    lo-at-requires
-    hi-at-requires
+    limits-of-requires
     mul-t15
     mul-t16
     array-copy-out-t19

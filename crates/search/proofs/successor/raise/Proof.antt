@@ -6,6 +6,7 @@ use Rattle.zones.specs.Pairs.{atMost}
 use Rattle.zones.specs.Zones.{raiseLimits}
 use Rattle.zones.proofs.Limits.{raise-more, raise-all}
 use Rattle.search.specs.Automata.{limitsAt}
+use Rattle.search.specs.declared.automaton.Limits.{Limits}
 use Rattle.search.proofs.successor.raise.Statement.{statement}
 use Rattle.search.proofs.successor.raise.Tie as tie
 
@@ -19,8 +20,8 @@ loop-holds : tie.Need-loop-holds Inv-loop μ-loop
 unfolding raiseLimits
 loop-holds c = (omega arith, omega arith, refl)
 
-hi-at-requires : tie.Need-hi-at-requires Inv-loop μ-loop
-hi-at-requires c κs = (omega arith, omega arith)
+limits-of-requires : tie.Need-limits-of-requires Inv-loop μ-loop
+limits-of-requires c κs = (c .before .before .before .before .before .pre .0, omega arith, omega arith)
 
 at-most-requires : tie.Need-at-most-requires Inv-loop μ-loop
 at-most-requires c κs = omega arith
@@ -44,7 +45,7 @@ loop-again : tie.Need-loop-again Inv-loop μ-loop
 unfolding limitsAt
 loop-again c =
     let now = c .before .before .before in
-    (omega arith, omega arith, raise-more _ _ _ (now .loop .inv .0) (now .loop .inv .2) (c .at-most .ensures ∙ ap atMost (c .before .hi-at .ensures)))
+    (omega arith, omega arith, raise-more _ _ _ (now .loop .inv .0) (now .loop .inv .2) (c .at-most .ensures ∙ ap (λ (l : Limits). atMost (l .hi)) (c .before .limits-of .ensures)))
 
 returns : tie.Need-returns Inv-loop μ-loop
 returns c = raise-all _ _ _ (omega arith) (c .before .loop .inv .2)
@@ -56,7 +57,7 @@ raise-spec =
     Inv-loop
     μ-loop
     loop-holds
-    hi-at-requires
+    limits-of-requires
     at-most-requires
     mul-z
     mul-z-2
