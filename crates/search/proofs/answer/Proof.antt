@@ -5,12 +5,6 @@ use borrow.Author.Needs.{needs}
 use Rattle.search.proofs.answer.Statement.{statement}
 use Rattle.search.proofs.answer.Tie as tie
 
-cast-zones : tie.Need-cast-zones
-cast-zones c = search needs
-
-holding-requires : tie.Need-holding-requires
-holding-requires c κs = search needs
-
 returns : tie.Need-returns
 returns c = answer-holds _ _ _ (c .before .if1 .taken) (c .holding .ensures)
 
@@ -21,4 +15,4 @@ returns-3 : tie.Need-returns-3
 returns-3 c = answer-refused _ _ _ (c .before .if1 .left) (c .if2 .left)
 
 pub answer-spec : {M : Type 1} → statement M
-answer-spec = tie.close (tie.spec cast-zones holding-requires returns returns-2 returns-3)
+answer-spec = tie.close (tie.spec (λ c. search needs) (λ c κs. search needs) returns returns-2 returns-3)

@@ -5,9 +5,6 @@ use borrow.Author.Needs.{needs}
 use Rattle.search.proofs.holding.Statement.{statement}
 use Rattle.search.proofs.holding.Tie as tie
 
-lowest-terms-requires : tie.Need-lowest-terms-requires
-lowest-terms-requires c κs = search needs
-
 returns : tie.Need-returns
 returns c = rw (← c .before .before .lowest-terms .ensures) (holding-any _ (c .if1 .taken))
 
@@ -15,4 +12,4 @@ returns-2 : tie.Need-returns-2
 returns-2 c = rw (← c .before .before .lowest-terms .ensures) (holding-below _ (c .if1 .left))
 
 pub holding-spec : {M : Type 1} → statement M
-holding-spec = tie.close (tie.spec lowest-terms-requires returns returns-2)
+holding-spec = tie.close (tie.spec (λ c κs. search needs) returns returns-2)

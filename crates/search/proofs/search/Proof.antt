@@ -10,9 +10,6 @@ use borrow.Author.Needs.{needs}
 use Rattle.search.proofs.search.Statement.{statement}
 use Rattle.search.proofs.search.Tie as tie
 
-refusal-requires : tie.Need-refusal-requires
-refusal-requires c κs = search needs
-
 returns : tie.Need-returns
 returns c =
     let answer = refused-answer _ (c .before .refusal .ensures) (c .if1 .taken) _ in
@@ -27,9 +24,6 @@ explore-requires c κs = accepted _ (ok (c .before))
 answer-requires : tie.Need-answer-requires
 answer-requires c κs = count-small _ (ok (c .before .before .before)) _ _ _ (c .before .explore .ensures)
 
-same-length : tie.Need-same-length
-same-length c = search needs
-
 returns-2 : tie.Need-returns-2
 returns-2 c =
     let answer = searched-answer _ (ok (c .before .before .before .before)) _ _ _ (c .before .before .explore .ensures) (c .answer .ensures) in
@@ -38,4 +32,4 @@ returns-2 c =
 pub search-spec : {M : Type 1} → statement M
 search-spec =
     tie.close
-    (tie.spec refusal-requires returns explore-requires answer-requires same-length returns-2)
+    (tie.spec (λ c κs. search needs) returns explore-requires answer-requires (λ c. search needs) returns-2)

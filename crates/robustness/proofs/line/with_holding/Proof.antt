@@ -1,3 +1,5 @@
+-- `with_holding` meets its contract: the texts of each case, one behind another.
+-- Assumes nothing.
 use borrow.Author.Needs.{needs}
 use Rattle.robustness.specs.Lines.{holdingText}
 use mathlib.Core.Path.{sym, ap}
@@ -5,30 +7,6 @@ use native.Mathlib.Omega.{arith}
 use Rattle.robustness.proofs.Writing.{one, two}
 use Rattle.robustness.proofs.line.with_holding.Statement.{statement}
 use Rattle.robustness.proofs.line.with_holding.Tie as tie
-
-enum-told : tie.Need-enum-told
-enum-told c = search needs
-
-slice-aggregate-with-text : tie.Need-slice-aggregate-with-text
-slice-aggregate-with-text c = search needs
-
-with-text-requires : tie.Need-with-text-requires
-with-text-requires c κs = search needs
-
-enum-known-h : tie.Need-enum-known-h
-enum-known-h c = search needs
-
-with-number-requires : tie.Need-with-number-requires
-with-number-requires c κs = search needs
-
-slice-aggregate-with-text-2 : tie.Need-slice-aggregate-with-text-2
-slice-aggregate-with-text-2 c = search needs
-
-with-text-requires-2 : tie.Need-with-text-requires-2
-with-text-requires-2 c κs = search needs
-
-with-number-requires-2 : tie.Need-with-number-requires-2
-with-number-requires-2 c κs = search needs
 
 returns : tie.Need-returns
 unfolding holdingText
@@ -42,13 +20,13 @@ pub with-holding-spec : {M : Type 1} → statement M
 with-holding-spec =
     tie.close
     (tie.spec
-    enum-told
-    slice-aggregate-with-text
-    with-text-requires
-    enum-known-h
-    with-number-requires
-    slice-aggregate-with-text-2
-    with-text-requires-2
-    with-number-requires-2
+    (λ c. search needs)
+    (λ c. search needs)
+    (λ c κs. search needs)
+    (λ c. search needs)
+    (λ c κs. search needs)
+    (λ c. search needs)
+    (λ c κs. search needs)
+    (λ c κs. search needs)
     returns
     returns-2)

@@ -1,3 +1,5 @@
+-- `with_number` meets its contract: `io`'s digits are the number in decimal, 20 at the most.
+-- Assumes nothing.
 use borrow.Author.Needs.{needs}
 use Prim.Native.Nat.{_^_, _<_}
 use mathlib.Core.Path.{_∙_}
@@ -6,15 +8,6 @@ use Rattle.robustness.proofs.Writing.{one}
 use Rattle.robustness.proofs.Decimals.{written-decimal, at-most-20}
 use Rattle.robustness.proofs.line.with_number.Statement.{statement}
 use Rattle.robustness.proofs.line.with_number.Tie as tie
-
-decimal-requires : tie.Need-decimal-requires
-decimal-requires c κs = search needs
-
-array-share-prefix-digits : tie.Need-array-share-prefix-digits
-array-share-prefix-digits c = search needs
-
-slice-aggregate-with-text : tie.Need-slice-aggregate-with-text
-slice-aggregate-with-text c = search needs
 
 with-text-requires : tie.Need-with-text-requires
 with-text-requires c κs =
@@ -32,8 +25,8 @@ pub with-number-spec : {M : Type 1} → statement M
 with-number-spec =
     tie.close
     (tie.spec
-    decimal-requires
-    array-share-prefix-digits
-    slice-aggregate-with-text
+    (λ c κs. search needs)
+    (λ c. search needs)
+    (λ c. search needs)
     with-text-requires
     returns)

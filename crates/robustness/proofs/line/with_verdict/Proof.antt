@@ -1,3 +1,5 @@
+-- `with_verdict` meets its contract: the texts of each case, one behind another.
+-- Assumes nothing.
 use borrow.Author.Needs.{needs}
 use Rattle.robustness.specs.Lines.{verdictText}
 use mathlib.Core.Path.{sym, ap}
@@ -5,27 +7,6 @@ use native.Mathlib.Omega.{arith}
 use Rattle.robustness.proofs.Writing.{one, two}
 use Rattle.robustness.proofs.line.with_verdict.Statement.{statement}
 use Rattle.robustness.proofs.line.with_verdict.Tie as tie
-
-enum-told : tie.Need-enum-told
-enum-told c = search needs
-
-slice-aggregate-with-text : tie.Need-slice-aggregate-with-text
-slice-aggregate-with-text c = search needs
-
-with-text-requires : tie.Need-with-text-requires
-with-text-requires c κs = search needs
-
-enum-known-v : tie.Need-enum-known-v
-enum-known-v c = search needs
-
-slice-aggregate-with-text-2 : tie.Need-slice-aggregate-with-text-2
-slice-aggregate-with-text-2 c = search needs
-
-with-text-requires-2 : tie.Need-with-text-requires-2
-with-text-requires-2 c κs = search needs
-
-with-holding-requires : tie.Need-with-holding-requires
-with-holding-requires c κs = search needs
 
 returns : tie.Need-returns
 unfolding verdictText
@@ -39,12 +20,12 @@ pub with-verdict-spec : {M : Type 1} → statement M
 with-verdict-spec =
     tie.close
     (tie.spec
-    enum-told
-    slice-aggregate-with-text
-    with-text-requires
-    enum-known-v
-    slice-aggregate-with-text-2
-    with-text-requires-2
-    with-holding-requires
+    (λ c. search needs)
+    (λ c. search needs)
+    (λ c κs. search needs)
+    (λ c. search needs)
+    (λ c. search needs)
+    (λ c κs. search needs)
+    (λ c κs. search needs)
     returns
     returns-2)

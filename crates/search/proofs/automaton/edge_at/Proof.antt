@@ -7,14 +7,8 @@ use Rattle.search.proofs.Places.{table-size, rows-size}
 use Rattle.search.proofs.automaton.edge_at.Statement.{statement}
 use Rattle.search.proofs.automaton.edge_at.Tie as tie
 
-clocks-requires : tie.Need-clocks-requires
-clocks-requires c κs = search needs
-
 mul-result : tie.Need-mul-result
 mul-result c = omega (arith, c .before .shared-slice-known .given 5)
-
-locations-requires : tie.Need-locations-requires
-locations-requires c κs = search needs
 
 module _ (c : tie.After-locations) where
   few : c .before .clocks .result < 256
@@ -52,9 +46,9 @@ pub edge-at-spec : {M : Type 1} → statement M
 edge-at-spec =
     tie.close
     (tie.spec
-    clocks-requires
+    (λ c κs. search needs)
     mul-result
-    locations-requires
+    (λ c κs. search needs)
     mul-result-2
     add-result
     mul-result-3

@@ -6,21 +6,12 @@ use Rattle.search.proofs.Places.{edge-within}
 use Rattle.search.proofs.automaton.edge_from.Statement.{statement}
 use Rattle.search.proofs.automaton.edge_from.Tie as tie
 
-edge-at-requires : tie.Need-edge-at-requires
-edge-at-requires c κs = search needs
-
 shared-slice-read-wide : tie.Need-shared-slice-read-wide
 shared-slice-read-wide c = omega (arith, edge-within _ (c .before .before .before .pre .0) _ (c .before .before .before .pre .1))
-
-wide-requires : tie.Need-wide-requires
-wide-requires c κs = search needs
-
-cast-result : tie.Need-cast-result
-cast-result c = search needs
 
 returns : tie.Need-returns
 returns c = c .wide .ensures .0 ∙ rw (c .before .before .edge-at .ensures)
 
 pub edge-from-spec : {M : Type 1} → statement M
 edge-from-spec =
-    tie.close (tie.spec edge-at-requires shared-slice-read-wide wide-requires cast-result returns)
+    tie.close (tie.spec (λ c κs. search needs) shared-slice-read-wide (λ c κs. search needs) (λ c. search needs) returns)

@@ -4,14 +4,8 @@ use borrow.Author.Needs.{needs}
 use Rattle.search.proofs.automaton.edge_resets.Statement.{statement}
 use Rattle.search.proofs.automaton.edge_resets.Tie as tie
 
-reset-byte-requires : tie.Need-reset-byte-requires
-reset-byte-requires c κs = search needs
-
-reset-set-requires : tie.Need-reset-set-requires
-reset-set-requires c κs = search needs
-
 returns : tie.Need-returns
 returns c = c .reset-set .ensures ∙ rw (c .before .reset-byte .ensures)
 
 pub edge-resets-spec : {M : Type 1} → statement M
-edge-resets-spec = tie.close (tie.spec reset-byte-requires reset-set-requires returns)
+edge-resets-spec = tie.close (tie.spec (λ c κs. search needs) (λ c κs. search needs) returns)

@@ -20,17 +20,8 @@ Inv-loop automaton i₀ i = Down (edges automaton) (guardOffScale automaton) (ou
 abbrev μ-loop : tie.MeasureT-loop
 μ-loop automaton i₀ i = i
 
-edges-requires : tie.Need-edges-requires Inv-loop μ-loop
-edges-requires c κs = omega arith
-
 loop-holds : tie.Need-loop-holds Inv-loop μ-loop
 loop-holds c = rw (c .edges .ensures) (begins refl)
-
-sub-i : tie.Need-sub-i Inv-loop μ-loop
-sub-i c = omega arith
-
-edge-at-requires : tie.Need-edge-at-requires Inv-loop μ-loop
-edge-at-requires c κs = omega arith
 
 -- the limits of edge i - 1 are there
 within : (c : tie.After-edge-at Inv-loop μ-loop) → let s = c .before .before .before .before .before .args .automaton .now in edgeAt s (c .before .before .loop .i - 1) + (3 + 8 * clocks s) ≤ length s
@@ -48,9 +39,6 @@ tested c = rw (c .before .edge-at .ensures) at (c .off-scale-at .ensures)
 returns : tie.Need-returns Inv-loop μ-loop
 returns c = found (c .before .before .before .before .loop .inv) (omega arith) (sym (tested (c .before)) ∙ c .if1 .taken)
 
-loop-less : tie.Need-loop-less Inv-loop μ-loop
-loop-less c = omega arith
-
 loop-again : tie.Need-loop-again Inv-loop μ-loop
 loop-again c = passed (c .before .before .before .before .loop .inv) (omega arith) (sym (tested (c .before)) ∙ c .if1 .left)
 
@@ -63,13 +51,13 @@ guard-off-scale-spec =
     (tie.spec
     Inv-loop
     μ-loop
-    edges-requires
+    (λ c κs. omega arith)
     loop-holds
-    sub-i
-    edge-at-requires
+    (λ c. omega arith)
+    (λ c κs. omega arith)
     add-off-scale-at
     off-scale-at-requires
     returns
-    loop-less
+    (λ c. omega arith)
     loop-again
     returns-2)

@@ -6,9 +6,6 @@ use Rattle.search.proofs.Places.{table-size}
 use Rattle.search.proofs.automaton.invariant_at.Statement.{statement}
 use Rattle.search.proofs.automaton.invariant_at.Tie as tie
 
-clocks-requires : tie.Need-clocks-requires
-clocks-requires c κs = search needs
-
 mul-result : tie.Need-mul-result
 mul-result c = omega (arith, c .before .shared-slice-known .given 5)
 
@@ -23,4 +20,4 @@ unfolding invariantAt
 returns c = rw (c .clocks .ensures)
 
 pub invariant-at-spec : {M : Type 1} → statement M
-invariant-at-spec = tie.close (tie.spec clocks-requires mul-result mul-result-2 add-result returns)
+invariant-at-spec = tie.close (tie.spec (λ c κs. search needs) mul-result mul-result-2 add-result returns)

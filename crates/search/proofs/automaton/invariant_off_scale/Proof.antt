@@ -19,17 +19,8 @@ Inv-loop automaton l₀ l = Down (locations automaton) (invariantOffScale automa
 abbrev μ-loop : tie.MeasureT-loop
 μ-loop automaton l₀ l = l
 
-locations-requires : tie.Need-locations-requires Inv-loop μ-loop
-locations-requires c κs = omega arith
-
 loop-holds : tie.Need-loop-holds Inv-loop μ-loop
 loop-holds c = rw (c .locations .ensures) (begins refl)
-
-sub-l : tie.Need-sub-l Inv-loop μ-loop
-sub-l c = omega arith
-
-invariant-at-requires : tie.Need-invariant-at-requires Inv-loop μ-loop
-invariant-at-requires c κs = omega arith
 
 off-scale-at-requires : tie.Need-off-scale-at-requires Inv-loop μ-loop
 off-scale-at-requires c κs = omega (arith, invariant-within (c .before .before .before .before .before .args .automaton .now) (c .before .before .before .before .before .pre) (c .before .before .loop .l - 1) (omega arith))
@@ -39,9 +30,6 @@ tested c = rw (c .before .invariant-at .ensures) at (c .off-scale-at .ensures)
 
 returns : tie.Need-returns Inv-loop μ-loop
 returns c = found (c .before .before .before .before .loop .inv) (omega arith) (sym (tested (c .before)) ∙ c .if1 .taken)
-
-loop-less : tie.Need-loop-less Inv-loop μ-loop
-loop-less c = omega arith
 
 loop-again : tie.Need-loop-again Inv-loop μ-loop
 loop-again c = passed (c .before .before .before .before .loop .inv) (omega arith) (sym (tested (c .before)) ∙ c .if1 .left)
@@ -55,12 +43,12 @@ invariant-off-scale-spec =
     (tie.spec
     Inv-loop
     μ-loop
-    locations-requires
+    (λ c κs. omega arith)
     loop-holds
-    sub-l
-    invariant-at-requires
+    (λ c. omega arith)
+    (λ c κs. omega arith)
     off-scale-at-requires
     returns
-    loop-less
+    (λ c. omega arith)
     loop-again
     returns-2)

@@ -20,35 +20,17 @@ Inv-loop automaton bound i₀ i = Down (edges automaton) (noSuchClock automaton)
 abbrev μ-loop : tie.MeasureT-loop
 μ-loop automaton bound i₀ i = i
 
-clocks-requires : tie.Need-clocks-requires Inv-loop μ-loop
-clocks-requires c κs = omega arith
-
-reset-bound-requires : tie.Need-reset-bound-requires Inv-loop μ-loop
-reset-bound-requires c κs = omega arith
-
-edges-requires : tie.Need-edges-requires Inv-loop μ-loop
-edges-requires c κs = omega arith
-
 loop-holds : tie.Need-loop-holds Inv-loop μ-loop
 loop-holds c = (rw (c .edges .ensures) (begins refl), c .before .reset-bound .ensures ∙ rw (c .before .before .clocks .ensures))
 
-sub-i : tie.Need-sub-i Inv-loop μ-loop
-sub-i c = omega arith
-
 reset-byte-requires : tie.Need-reset-byte-requires Inv-loop μ-loop
 reset-byte-requires c κs = (c .before .before .before .before .before .before .pre, omega arith)
-
-wide-requires : tie.Need-wide-requires Inv-loop μ-loop
-wide-requires c κs = tt
 
 returns : tie.Need-returns Inv-loop μ-loop
 returns c =
     let s = c .before .before .before .before .before .before .before .before .before .args .automaton .now in
     let l = c .before .before .before .before .loop in
     found (l .inv .0) (omega arith) (le-leb (2 ^ clocks s) (resetByte s (l .i - 1)) (omega arith))
-
-loop-less : tie.Need-loop-less Inv-loop μ-loop
-loop-less c = omega arith
 
 loop-again : tie.Need-loop-again Inv-loop μ-loop
 loop-again c =
@@ -65,14 +47,14 @@ no-such-clock-spec =
     (tie.spec
     Inv-loop
     μ-loop
-    clocks-requires
-    reset-bound-requires
-    edges-requires
+    (λ c κs. omega arith)
+    (λ c κs. omega arith)
+    (λ c κs. omega arith)
     loop-holds
-    sub-i
+    (λ c. omega arith)
     reset-byte-requires
-    wide-requires
+    (λ c κs. tt)
     returns
-    loop-less
+    (λ c. omega arith)
     loop-again
     returns-2)

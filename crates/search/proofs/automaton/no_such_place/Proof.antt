@@ -18,32 +18,14 @@ Inv-loop automaton m i₀ i = Down (edges automaton) (noSuchPlace automaton) (as
 abbrev μ-loop : tie.MeasureT-loop
 μ-loop automaton m i₀ i = i
 
-locations-requires : tie.Need-locations-requires Inv-loop μ-loop
-locations-requires c κs = omega arith
-
-start-requires : tie.Need-start-requires Inv-loop μ-loop
-start-requires c κs = omega arith
-
-target-requires : tie.Need-target-requires Inv-loop μ-loop
-target-requires c κs = omega arith
-
-misplaced-requires : tie.Need-misplaced-requires Inv-loop μ-loop
-misplaced-requires c κs = tt
-
 ends-tested : (c : tie.After-misplaced Inv-loop μ-loop) → let s = c .before .before .before .before .before .args .automaton .now in c .misplaced .result ≡ misplaced (locations s) (start s) (target s)
 ends-tested c = rw (c .before .before .before .locations .ensures, c .before .before .start .ensures, c .before .target .ensures) at (c .misplaced .ensures)
 
 returns : tie.Need-returns Inv-loop μ-loop
 returns c = rw (sym (ends-tested (c .before)) ∙ c .if1 .taken)
 
-edges-requires : tie.Need-edges-requires Inv-loop μ-loop
-edges-requires c κs = omega arith
-
 loop-holds : tie.Need-loop-holds Inv-loop μ-loop
 loop-holds c = rw (c .edges .ensures) (begins (rw (sym (ends-tested (c .before .before)) ∙ c .before .if1 .left)))
-
-sub-i : tie.Need-sub-i Inv-loop μ-loop
-sub-i c = omega arith
 
 edge-from-requires : tie.Need-edge-from-requires Inv-loop μ-loop
 edge-from-requires c κs = (c .before .before .before .before .before .before .before .before .before .pre, omega arith)
@@ -51,17 +33,11 @@ edge-from-requires c κs = (c .before .before .before .before .before .before .b
 edge-to-requires : tie.Need-edge-to-requires Inv-loop μ-loop
 edge-to-requires c κs = (c .before .before .before .before .before .before .before .before .before .before .pre, omega arith)
 
-misplaced-requires-2 : tie.Need-misplaced-requires-2 Inv-loop μ-loop
-misplaced-requires-2 c κs = tt
-
 edge-tested : (c : tie.After-misplaced2 Inv-loop μ-loop) → c .misplaced2 .result ≡ astray (c .before .before .before .before .before .before .before .before .before .before .before .before .args .automaton .now) (c .before .before .before .before .loop .i - 1)
 edge-tested c = rw (c .before .before .before .before .before .before .before .before .before .before .locations .ensures, c .before .before .edge-from .ensures, c .before .edge-to .ensures) at (c .misplaced2 .ensures)
 
 returns-2 : tie.Need-returns-2 Inv-loop μ-loop
 returns-2 c = found (c .before .before .before .before .before .loop .inv) (omega arith) (sym (edge-tested (c .before)) ∙ c .if2 .taken)
-
-loop-less : tie.Need-loop-less Inv-loop μ-loop
-loop-less c = omega arith
 
 loop-again : tie.Need-loop-again Inv-loop μ-loop
 loop-again c = passed (c .before .before .before .before .before .loop .inv) (omega arith) (sym (edge-tested (c .before)) ∙ c .if2 .left)
@@ -75,18 +51,18 @@ no-such-place-spec =
     (tie.spec
     Inv-loop
     μ-loop
-    locations-requires
-    start-requires
-    target-requires
-    misplaced-requires
+    (λ c κs. omega arith)
+    (λ c κs. omega arith)
+    (λ c κs. omega arith)
+    (λ c κs. tt)
     returns
-    edges-requires
+    (λ c κs. omega arith)
     loop-holds
-    sub-i
+    (λ c. omega arith)
     edge-from-requires
     edge-to-requires
-    misplaced-requires-2
+    (λ c κs. tt)
     returns-2
-    loop-less
+    (λ c. omega arith)
     loop-again
     returns-3)

@@ -18,21 +18,9 @@ Inv-loop automaton may-lack at x₀ x = Down (clocks automaton) (offScaleAt auto
 abbrev μ-loop : tie.MeasureT-loop
 μ-loop automaton may-lack at x₀ x = x
 
-clocks-requires : tie.Need-clocks-requires Inv-loop μ-loop
-clocks-requires c κs = omega arith
-
 loop-holds : tie.Need-loop-holds Inv-loop μ-loop
 unfolding offScaleAt
 loop-holds c = rw (c .clocks .ensures) (begins refl)
-
-lo-at-requires : tie.Need-lo-at-requires Inv-loop μ-loop
-lo-at-requires c κs = omega arith
-
-hi-at-requires : tie.Need-hi-at-requires Inv-loop μ-loop
-hi-at-requires c κs = omega arith
-
-out-of-range-requires : tie.Need-out-of-range-requires Inv-loop μ-loop
-out-of-range-requires c κs = tt
 
 -- what the code asks of clock x is what the definition asks of suc (x - 1)
 tested : (c : tie.After-out-of-range Inv-loop μ-loop) → let a = c .before .before .before .before .before .before .before .args in c .out-of-range .result ≡ out (a .automaton .now) (a .may-lack) (a .at) (c .before .before .before .before .loop .x - 1)
@@ -42,12 +30,6 @@ tested c =
 
 returns : tie.Need-returns Inv-loop μ-loop
 returns c = found (c .before .before .before .before .before .loop .inv) (omega arith) (sym (tested (c .before)) ∙ c .if1 .taken)
-
-sub-x : tie.Need-sub-x Inv-loop μ-loop
-sub-x c = omega arith
-
-loop-less : tie.Need-loop-less Inv-loop μ-loop
-loop-less c = omega arith
 
 loop-again : tie.Need-loop-again Inv-loop μ-loop
 loop-again c = passed (c .before .before .before .before .before .loop .inv) (omega arith) (sym (tested (c .before)) ∙ c .if1 .left)
@@ -61,13 +43,13 @@ off-scale-at-spec =
     (tie.spec
     Inv-loop
     μ-loop
-    clocks-requires
+    (λ c κs. omega arith)
     loop-holds
-    lo-at-requires
-    hi-at-requires
-    out-of-range-requires
+    (λ c κs. omega arith)
+    (λ c κs. omega arith)
+    (λ c κs. tt)
     returns
-    sub-x
-    loop-less
+    (λ c. omega arith)
+    (λ c. omega arith)
     loop-again
     returns-2)

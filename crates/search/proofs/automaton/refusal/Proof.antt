@@ -15,23 +15,11 @@ use Rattle.search.proofs.automaton.refusal.Tie as tie
 returns : tie.Need-returns
 returns c = sym (refusal-1 _ (omega arith))
 
-be32-requires : tie.Need-be32-requires
-be32-requires c κs = search needs
-
-cast-if2 : tie.Need-cast-if2
-cast-if2 c = search needs
-
 returns-2 : tie.Need-returns-2
 returns-2 c = sym (refusal-2 _ (omega arith) (omega arith))
 
-shared-slice-read-if3 : tie.Need-shared-slice-read-if3
-shared-slice-read-if3 c = search needs
-
 returns-3 : tie.Need-returns-3
 returns-3 c = sym (refusal-3 _ (omega arith) (omega arith) (omega arith))
-
-oversize-requires : tie.Need-oversize-requires
-oversize-requires c κs = search needs
 
 returns-4 : tie.Need-returns-4
 returns-4 c = sym (refusal-4 _ (omega arith) (omega arith) (omega arith) (sym (c .before .oversize .ensures) ∙ c .if4 .taken))
@@ -41,9 +29,6 @@ s4 c = c .before .before .before .before .before .before .before .before .args .
 
 sized : (c : tie.Else4) → oversize (s4 c) ≡ false
 sized c = sym (c .before .oversize .ensures) ∙ c .if4 .left
-
-edges-requires : tie.Need-edges-requires
-edges-requires c κs = search needs
 
 edge-at-requires : tie.Need-edge-at-requires
 unfolding be16At
@@ -115,14 +100,14 @@ refusal-spec =
     tie.close
     (tie.spec
     returns
-    be32-requires
-    cast-if2
+    (λ c κs. search needs)
+    (λ c. search needs)
     returns-2
-    shared-slice-read-if3
+    (λ c. search needs)
     returns-3
-    oversize-requires
+    (λ c κs. search needs)
     returns-4
-    edges-requires
+    (λ c κs. search needs)
     edge-at-requires
     returns-5
     no-such-place-requires

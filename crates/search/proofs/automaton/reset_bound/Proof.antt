@@ -6,14 +6,8 @@ use borrow.Author.Needs.{needs}
 use Rattle.search.proofs.automaton.reset_bound.Statement.{statement}
 use Rattle.search.proofs.automaton.reset_bound.Tie as tie
 
-cast-result : tie.Need-cast-result
-cast-result c = search needs
-
-shl-result : tie.Need-shl-result
-shl-result c = search needs
-
 returns : tie.Need-returns
 returns c = let h : 2 ^ (c .args .n) ≤ 256 = pow-le-pow-right {n = 2} (omega arith) (c .pre) in rw one-mul (mod-eq-of-lt (omega arith))
 
 pub reset-bound-spec : {M : Type 1} → statement M
-reset-bound-spec = tie.close (tie.spec cast-result shl-result returns)
+reset-bound-spec = tie.close (tie.spec (λ c. search needs) (λ c. search needs) returns)

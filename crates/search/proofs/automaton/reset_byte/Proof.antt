@@ -5,9 +5,6 @@ use Rattle.search.proofs.Places.{edge-within}
 use Rattle.search.proofs.automaton.reset_byte.Statement.{statement}
 use Rattle.search.proofs.automaton.reset_byte.Tie as tie
 
-edge-at-requires : tie.Need-edge-at-requires
-edge-at-requires c κs = search needs
-
 add-result : tie.Need-add-result
 add-result c = omega (arith, edge-within _ (c .before .before .pre .0) _ (c .before .before .pre .1))
 
@@ -18,4 +15,4 @@ returns : tie.Need-returns
 returns c = rw (c .before .edge-at .ensures)
 
 pub reset-byte-spec : {M : Type 1} → statement M
-reset-byte-spec = tie.close (tie.spec edge-at-requires add-result shared-slice-read-result returns)
+reset-byte-spec = tie.close (tie.spec (λ c κs. search needs) add-result shared-slice-read-result returns)

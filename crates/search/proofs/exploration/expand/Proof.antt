@@ -1,3 +1,4 @@
+-- `expand` meets its contract: what is done is the definition's expansion along the edges passed, or it has stopped at one.
 -- Assumes nothing.
 use Prim.Native.Nat.{ℕ, suc, _-_, _≤_, _<_}
 use mathlib.Core.Path.{_≡_, refl, sym, ap, _∙_}
@@ -71,12 +72,6 @@ returns c =
       shows = λ s₀ q₀ h o g. stops _ _ _ _ p s₀ q₀ _ at _ _ (loop .loop .inv .2 p s₀ q₀ h o g) (start .pre .0) (start .pre .2) (sym (ap (λ (e : Edge). e .from) edge) ∙ c .before .before .before .before .before .before .before .if1 .taken) _ _ refl (c .before .before .before .before .before .follow .ensures) _ _ (rw (ap (λ (e : Edge). e .to) edge) at (c .before .before .before .offer .ensures)) (c .if2 .taken);
     }
 
-add-i : tie.Need-add-i Inv-loop μ-loop
-add-i c = omega arith
-
-loop-less : tie.Need-loop-less Inv-loop μ-loop
-loop-less c = omega arith
-
 loop-again : tie.Need-loop-again Inv-loop μ-loop
 loop-again c =
     let start = c .before .before .before .before .before .before .before in
@@ -119,8 +114,8 @@ expand-spec =
     offer-requires
     same-length
     returns
-    add-i
-    loop-less
+    (λ c. omega arith)
+    (λ c. omega arith)
     loop-again
     same-length-2
     returns-2)

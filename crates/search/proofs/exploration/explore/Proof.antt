@@ -19,21 +19,6 @@ use borrow.Author.Needs.{needs}
 use Rattle.search.proofs.exploration.explore.Statement.{statement}
 use Rattle.search.proofs.exploration.explore.Tie as tie
 
-clocks-requires : tie.Need-clocks-requires
-clocks-requires c κs = search needs
-
-add-slots-of : tie.Need-add-slots-of
-add-slots-of c = search needs
-
-slots-of-requires : tie.Need-slots-of-requires
-slots-of-requires c κs = search needs
-
-start-requires : tie.Need-start-requires
-start-requires c κs = search needs
-
-first-requires : tie.Need-first-requires
-first-requires c κs = search needs
-
 enter-requires : tie.Need-enter-requires
 enter-requires c κs =
     let accepted = c .before .before .before .before .before .pre in
@@ -62,17 +47,11 @@ offer-requires c κs =
 offered : (c : tie.After-offer) → let e = entry (c .before .before) in Begun (automaton (c .before .before)) (c .before .before .before .before .before .slots-of .result) (e .args .store .now) (c .offer .last .1 .0) (c .offer .result)
 offered c = begun (entry (c .before .before) .pre) _ (slots≡ (c .before .before)) (first≡ (c .before .before)) (rw (c .before .before .before .before .start .ensures) at (c .offer .ensures))
 
-same-length : tie.Need-same-length
-same-length c = search needs
-
 returns : tie.Need-returns
 returns c = offered (c .before .before .before) .stops (c .if1 .taken)
 
 take-requires : tie.Need-take-requires
 take-requires c κs = (entry (c .before .before .before .before .before .before) .pre, offered (c .before .before .before .before) .goes-on (c .before .if1 .left))
-
-same-length-2 : tie.Need-same-length-2
-same-length-2 c = search needs
 
 returns-2 : tie.Need-returns-2
 returns-2 c = offered (c .before .before .before .before .before .before) .rest (c .before .before .before .if1 .left) (c .before .take .ensures)
@@ -81,15 +60,15 @@ pub explore-spec : {M : Type 1} → statement M
 explore-spec =
     tie.close
     (tie.spec
-    clocks-requires
-    add-slots-of
-    slots-of-requires
-    start-requires
-    first-requires
+    (λ c κs. search needs)
+    (λ c. search needs)
+    (λ c κs. search needs)
+    (λ c κs. search needs)
+    (λ c κs. search needs)
     enter-requires
     offer-requires
-    same-length
+    (λ c. search needs)
     returns
     take-requires
-    same-length-2
+    (λ c. search needs)
     returns-2)

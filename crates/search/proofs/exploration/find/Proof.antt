@@ -21,9 +21,6 @@ Inv-loop store new count size amount j₀ at₀ j at = (amount ≡ slotLength si
 abbrev μ-loop : tie.MeasureT-loop
 μ-loop store new count size amount j₀ at₀ j at = count - j
 
-slot-length-requires : tie.Need-slot-length-requires Inv-loop μ-loop
-slot-length-requires c κs = omega arith
-
 loop-holds : tie.Need-loop-holds Inv-loop μ-loop
 loop-holds c = (c .slot-length .ensures, omega arith, omega arith, λ i h. absurd (not-suc-le-zero h))
 
@@ -37,9 +34,6 @@ mul-if1 c = omega (arith, fits c)
 shared-slice-copy-out-if1 : tie.Need-shared-slice-copy-out-if1 Inv-loop μ-loop
 shared-slice-copy-out-if1 c = omega (arith, fits c)
 
-shared-slice-copy-out-if1-2 : tie.Need-shared-slice-copy-out-if1-2 Inv-loop μ-loop
-shared-slice-copy-out-if1-2 c = omega arith
-
 mul-is-within : tie.Need-mul-is-within Inv-loop μ-loop
 mul-is-within c = omega (arith, fits (c .before .before .before))
 
@@ -48,12 +42,6 @@ sub-is-within c = omega (arith, fits (c .before .before .before))
 
 part-is-within-start : tie.Need-part-is-within-start Inv-loop μ-loop
 part-is-within-start c = omega (arith, fits (c .before .before .before))
-
-part-is-within-end : tie.Need-part-is-within-end Inv-loop μ-loop
-part-is-within-end c = omega arith
-
-mul-is-within-2 : tie.Need-mul-is-within-2 Inv-loop μ-loop
-mul-is-within-2 c = omega arith
 
 is-within-requires : tie.Need-is-within-requires Inv-loop μ-loop
 is-within-requires c κs =
@@ -69,14 +57,8 @@ returns c =
       found = λ h. hit _ _ _ _ (loop .loop .inv .2) (same-bits (record { sfits = c .before .before .before .before .before .if12 .given }) (record { sfits = c .before .before .before .before .if13 .given }) (c .before .before .before .if1 .taken)) (sym (c .before .is-within .ensures) ∙ c .if2 .taken);
     }
 
-add-j : tie.Need-add-j Inv-loop μ-loop
-add-j c = omega arith
-
 add-at : tie.Need-add-at Inv-loop μ-loop
 add-at c = omega (arith, c .before .before .before .before .loop .inv .0, fits (c .before .before .before))
-
-loop-less : tie.Need-loop-less Inv-loop μ-loop
-loop-less c = omega arith
 
 loop-again : tie.Need-loop-again Inv-loop μ-loop
 loop-again c =
@@ -99,20 +81,20 @@ find-spec =
     (tie.spec
     Inv-loop
     μ-loop
-    slot-length-requires
+    (λ c κs. omega arith)
     loop-holds
     mul-if1
     shared-slice-copy-out-if1
-    shared-slice-copy-out-if1-2
+    (λ c. omega arith)
     mul-is-within
     sub-is-within
     part-is-within-start
-    part-is-within-end
-    mul-is-within-2
+    (λ c. omega arith)
+    (λ c. omega arith)
     is-within-requires
     returns
-    add-j
+    (λ c. omega arith)
     add-at
-    loop-less
+    (λ c. omega arith)
     loop-again
     returns-2)

@@ -37,20 +37,8 @@ module _ (c : tie.After-find) where
   abbrev counted : tie.After-clocks
   counted = c .before .before .before .before .before .before .before
 
-clocks-requires : tie.Need-clocks-requires
-clocks-requires c κs = search needs
-
-add-size : tie.Need-add-size
-add-size c = search needs
-
 encode-requires : tie.Need-encode-requires
 encode-requires c κs = asks-encode (entered (c .before .before))
-
-slot-length-requires : tie.Need-slot-length-requires
-slot-length-requires c κs = search needs
-
-slice-aggregate-find : tie.Need-slice-aggregate-find
-slice-aggregate-find c = search needs
 
 find-requires : tie.Need-find-requires
 find-requires c κs = asks-find (entered (c .before .before .before .before .before .before)) (c .before .before .before .encode .ensures)
@@ -75,9 +63,6 @@ sub-decode c = omega (arith, slot-inside c)
 part-decode-start : tie.Need-part-decode-start
 part-decode-start c = omega (arith, slot-inside (c .before))
 
-part-decode-end : tie.Need-part-decode-end
-part-decode-end c = search needs
-
 decode-requires : tie.Need-decode-requires
 decode-requires c κs =
     let hit = c .before .before in
@@ -88,9 +73,6 @@ contain-requires c κs =
     let hit = c .before .before .before in
     asks-contain (entered (counted (hit .before))) (hit .if1 .taken) (place≡ hit) (c .decode .ensures)
 
-same-length : tie.Need-same-length
-same-length c = search needs
-
 returns : tie.Need-returns
 returns c =
     let hit = c .before .before .before .before .before in
@@ -98,12 +80,6 @@ returns c =
     λ p. gives-inside (entered (counted find)) p (numbers find .encode .ensures) (find .find .ensures) (hit .if1 .taken) (place≡ hit) (c .before .before .decode .ensures) (c .before .contain .ensures)
 
 -- ---- none does
-largest-count-requires : tie.Need-largest-count-requires
-largest-count-requires c κs = search needs
-
-same-length-2 : tie.Need-same-length-2
-same-length-2 c = search needs
-
 returns-2 : tie.Need-returns-2
 returns-2 c =
     let find = c .before .before .before in
@@ -119,29 +95,17 @@ module _ (c : tie.Then3) where
 mul-keep : tie.Need-mul-keep
 mul-keep c = omega (arith, next-inside (c .before))
 
-slice-aggregate-keep : tie.Need-slice-aggregate-keep
-slice-aggregate-keep c = search needs
-
 keep-requires : tie.Need-keep-requires
 keep-requires c κs =
     let last = find (c .before .before) in
     let e = amount last .slot-length .ensures in
     (omega (arith, e, next-inside (c .before .before)), omega (arith, e, asks-find (entered (counted last)) (numbers last .encode .ensures) .2))
 
-add-t33 : tie.Need-add-t33
-add-t33 c = search needs
-
-same-length-3 : tie.Need-same-length-3
-same-length-3 c = search needs
-
 returns-3 : tie.Need-returns-3
 returns-3 c =
     let room = c .before .before .before .before in
     let last = find room in
     λ p. gives-kept (entered (counted last)) p (numbers last .encode .ensures) (last .find .ensures) (room .before .before .before .if1 .left) (room .before .before .largest-count .ensures) (room .before .if2 .left) (room .if3 .taken) (amount last .slot-length .ensures) (c .before .keep .ensures)
-
-same-length-4 : tie.Need-same-length-4
-same-length-4 c = search needs
 
 returns-4 : tie.Need-returns-4
 returns-4 c =
@@ -152,29 +116,29 @@ pub judge-spec : {M : Type 1} → statement M
 judge-spec =
     tie.close
     (tie.spec
-    clocks-requires
-    add-size
+    (λ c κs. search needs)
+    (λ c. search needs)
     encode-requires
-    slot-length-requires
-    slice-aggregate-find
+    (λ c κs. search needs)
+    (λ c. search needs)
     find-requires
     mul-at
     mul-decode
     sub-decode
     part-decode-start
-    part-decode-end
+    (λ c. search needs)
     decode-requires
     contain-requires
-    same-length
+    (λ c. search needs)
     returns
-    largest-count-requires
-    same-length-2
+    (λ c κs. search needs)
+    (λ c. search needs)
     returns-2
     mul-keep
-    slice-aggregate-keep
+    (λ c. search needs)
     keep-requires
-    add-t33
-    same-length-3
+    (λ c. search needs)
+    (λ c. search needs)
     returns-3
-    same-length-4
+    (λ c. search needs)
     returns-4)

@@ -9,9 +9,6 @@ use Rattle.search.proofs.exploration.offer.Tie as tie
 returns : tie.Need-returns
 returns c = λ p. gives-empty _ _ _ _ _ (c .before .before .before .before .args .r) p (c .if1 .taken)
 
-target-requires : tie.Need-target-requires
-target-requires c κs = search needs
-
 returns-2 : tie.Need-returns-2
 returns-2 c = λ p. gives-target _ _ _ _ _ (c .before .before .before .before .before .before .args .r) p (c .before .before .if1 .left) (c .if2 .taken ∙ c .before .target .ensures)
 
@@ -23,12 +20,9 @@ judge-requires c κs =
       (start .pre .1 .0, (start .pre .1 .1 .sized live, start .pre .1 .1 .framed live)),
     )
 
-same-length : tie.Need-same-length
-same-length c = search needs
-
 returns-3 : tie.Need-returns-3
 returns-3 c = λ p. gives-judged _ _ _ _ _ (c .before .before .before .before .before .before .before .before .before .args .r) p (c .before .before .before .before .before .if1 .left) (c .before .judge .ensures)
 
 pub offer-spec : {M : Type 1} → statement M
 offer-spec =
-    tie.close (tie.spec returns target-requires returns-2 judge-requires same-length returns-3)
+    tie.close (tie.spec returns (λ c κs. search needs) returns-2 judge-requires (λ c. search needs) returns-3)

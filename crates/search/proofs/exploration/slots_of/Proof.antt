@@ -5,12 +5,6 @@ use Rattle.search.proofs.Stores.{capacity-most, capacity-all}
 use Rattle.search.proofs.exploration.slots_of.Statement.{statement}
 use Rattle.search.proofs.exploration.slots_of.Tie as tie
 
-slot-length-requires : tie.Need-slot-length-requires
-slot-length-requires c κs = search needs
-
-div-all : tie.Need-div-all
-div-all c = search needs
-
 returns : tie.Need-returns
 returns c = capacity-most _ _ (c .before .slot-length .ensures) (c .if1 .taken)
 
@@ -18,4 +12,4 @@ returns-2 : tie.Need-returns-2
 returns-2 c = capacity-all _ _ (c .before .slot-length .ensures) (c .if1 .left)
 
 pub slots-of-spec : {M : Type 1} → statement M
-slots-of-spec = tie.close (tie.spec slot-length-requires div-all returns returns-2)
+slots-of-spec = tie.close (tie.spec (λ c κs. search needs) (λ c. search needs) returns returns-2)

@@ -22,9 +22,6 @@ Inv-loop automaton store₀ slots size amount t₀ next₀ store t next =
 abbrev μ-loop : tie.MeasureT-loop
 μ-loop automaton store₀ slots size amount t₀ next₀ store t next = slots - next
 
-clocks-requires : tie.Need-clocks-requires Inv-loop μ-loop
-clocks-requires c κs = search needs
-
 add-size : tie.Need-add-size Inv-loop μ-loop
 add-size c = omega (arith, c .clocks .ensures, c .before .before .pre .0 .complete .clocks≤)
 
@@ -96,9 +93,6 @@ sub-decode c = omega (arith, inside (c .before))
 part-decode-start : tie.Need-part-decode-start Inv-loop μ-loop
 part-decode-start c = omega (arith, inside (c .before .before))
 
-part-decode-end : tie.Need-part-decode-end Inv-loop μ-loop
-part-decode-end c = search needs
-
 decode-requires : tie.Need-decode-requires Inv-loop μ-loop
 decode-requires c κs =
     let turn = c .before .before .before in
@@ -154,7 +148,7 @@ take-spec =
     (tie.spec
     Inv-loop
     μ-loop
-    clocks-requires
+    (λ c κs. search needs)
     add-size
     slot-length-requires
     loop-holds
@@ -165,7 +159,7 @@ take-spec =
     mul-decode
     sub-decode
     part-decode-start
-    part-decode-end
+    (λ c. search needs)
     decode-requires
     expand-requires
     same-length

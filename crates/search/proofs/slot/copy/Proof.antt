@@ -18,24 +18,6 @@ abbrev μ-loop : tie.MeasureT-loop
 loop-holds : tie.Need-loop-holds Inv-loop μ-loop
 loop-holds c = (omega arith, refl, refl)
 
-mul-slot : tie.Need-mul-slot Inv-loop μ-loop
-mul-slot c = omega arith
-
-shared-slice-copy-out-slot : tie.Need-shared-slice-copy-out-slot Inv-loop μ-loop
-shared-slice-copy-out-slot c = omega arith
-
-mul-t9 : tie.Need-mul-t9 Inv-loop μ-loop
-mul-t9 c = omega arith
-
-slice-set-from-slot : tie.Need-slice-set-from-slot Inv-loop μ-loop
-slice-set-from-slot c = omega arith
-
-add-i : tie.Need-add-i Inv-loop μ-loop
-add-i c = omega arith
-
-loop-less : tie.Need-loop-less Inv-loop μ-loop
-loop-less c = omega arith
-
 loop-again : tie.Need-loop-again Inv-loop μ-loop
 loop-again c =
     let l = c .before .before .loop in
@@ -56,12 +38,12 @@ copy-spec =
     Inv-loop
     μ-loop
     loop-holds
-    mul-slot
-    shared-slice-copy-out-slot
-    mul-t9
-    slice-set-from-slot
-    add-i
-    loop-less
+    (λ c. omega arith)
+    (λ c. omega arith)
+    (λ c. omega arith)
+    (λ c. omega arith)
+    (λ c. omega arith)
+    (λ c. omega arith)
     loop-again
     same-length
     returns)

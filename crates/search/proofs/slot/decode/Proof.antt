@@ -15,9 +15,6 @@ Inv-loop slot size z₀ last t₀ at₀ z t at = (last ≡ size * 9) × (at ≤ 
 abbrev μ-loop : tie.MeasureT-loop
 μ-loop slot size z₀ last t₀ at₀ z t at = last - at
 
-mul-last : tie.Need-mul-last Inv-loop μ-loop
-mul-last c = omega arith
-
 loop-holds : tie.Need-loop-holds Inv-loop μ-loop
 unfolding counted squareTo
 loop-holds c = (omega arith, omega arith, refl, refl)
@@ -29,22 +26,10 @@ get-pair-requires c κs =
     let f = few _ _ (l .inv .2) (omega arith) (omega arith) (c .if1 .taken) in
     (omega arith, start .pre .1 (l .t) (f .0))
 
-mul-z : tie.Need-mul-z Inv-loop μ-loop
-mul-z c = omega arith
-
-array-set-from-z : tie.Need-array-set-from-z Inv-loop μ-loop
-array-set-from-z c = omega arith
-
 add-t : tie.Need-add-t Inv-loop μ-loop
 add-t c =
     let l = c .before .before .before .loop in
     omega (arith, few _ _ (l .inv .2) (omega arith) (omega arith) (c .before .if1 .taken) .1)
-
-add-at : tie.Need-add-at Inv-loop μ-loop
-add-at c = omega arith
-
-loop-less : tie.Need-loop-less Inv-loop μ-loop
-loop-less c = omega arith
 
 loop-again : tie.Need-loop-again Inv-loop μ-loop
 loop-again c =
@@ -64,13 +49,13 @@ decode-spec =
     (tie.spec
     Inv-loop
     μ-loop
-    mul-last
+    (λ c. omega arith)
     loop-holds
     get-pair-requires
-    mul-z
-    array-set-from-z
+    (λ c. omega arith)
+    (λ c. omega arith)
     add-t
-    add-at
-    loop-less
+    (λ c. omega arith)
+    (λ c. omega arith)
     loop-again
     returns)

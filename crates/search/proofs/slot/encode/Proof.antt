@@ -15,24 +15,9 @@ Inv-loop location size z slot₀ last t₀ at₀ slot t at = (last ≡ size * 9)
 abbrev μ-loop : tie.MeasureT-loop
 μ-loop location size z slot₀ last t₀ at₀ slot t at = last - at
 
-cast-slot : tie.Need-cast-slot Inv-loop μ-loop
-cast-slot c = omega arith
-
-array-set-from-slot : tie.Need-array-set-from-slot Inv-loop μ-loop
-array-set-from-slot c = omega arith
-
-mul-last : tie.Need-mul-last Inv-loop μ-loop
-mul-last c = omega arith
-
 loop-holds : tie.Need-loop-holds Inv-loop μ-loop
 unfolding counted
 loop-holds c = (omega arith, omega arith, refl, encode-start (c .args .size) (c .args .location) (c .args .t2) (omega arith))
-
-mul-put-pair : tie.Need-mul-put-pair Inv-loop μ-loop
-mul-put-pair c = omega arith
-
-array-copy-out-put-pair : tie.Need-array-copy-out-put-pair Inv-loop μ-loop
-array-copy-out-put-pair c = omega arith
 
 put-pair-requires : tie.Need-put-pair-requires Inv-loop μ-loop
 put-pair-requires c κs =
@@ -45,12 +30,6 @@ add-t : tie.Need-add-t Inv-loop μ-loop
 add-t c =
     let l = c .before .before .before .before .before .loop in
     omega (arith, few _ _ (l .inv .2) (omega arith) (omega arith) (c .before .before .before .if1 .taken) .1)
-
-add-at : tie.Need-add-at Inv-loop μ-loop
-add-at c = omega arith
-
-loop-less : tie.Need-loop-less Inv-loop μ-loop
-loop-less c = omega arith
 
 loop-again : tie.Need-loop-again Inv-loop μ-loop
 loop-again c =
@@ -71,15 +50,15 @@ encode-spec =
     (tie.spec
     Inv-loop
     μ-loop
-    cast-slot
-    array-set-from-slot
-    mul-last
+    (λ c. omega arith)
+    (λ c. omega arith)
+    (λ c. omega arith)
     loop-holds
-    mul-put-pair
-    array-copy-out-put-pair
+    (λ c. omega arith)
+    (λ c. omega arith)
     put-pair-requires
     add-t
-    add-at
-    loop-less
+    (λ c. omega arith)
+    (λ c. omega arith)
     loop-again
     returns)

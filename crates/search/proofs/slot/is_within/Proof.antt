@@ -20,70 +20,16 @@ loop-holds : tie.Need-loop-holds Inv-loop μ-loop
 unfolding withinSlots
 loop-holds c = (omega arith, refl)
 
-mul-m : tie.Need-mul-m Inv-loop μ-loop
-mul-m c = omega arith
-
-add-m : tie.Need-add-m Inv-loop μ-loop
-add-m c = omega arith
-
-mul-p : tie.Need-mul-p Inv-loop μ-loop
-mul-p c = omega arith
-
-add-p : tie.Need-add-p Inv-loop μ-loop
-add-p c = omega arith
-
-mul-if1 : tie.Need-mul-if1 Inv-loop μ-loop
-mul-if1 c = omega arith
-
-shared-slice-copy-out-if1 : tie.Need-shared-slice-copy-out-if1 Inv-loop μ-loop
-shared-slice-copy-out-if1 c = omega arith
-
-mul-if1-2 : tie.Need-mul-if1-2 Inv-loop μ-loop
-mul-if1-2 c = omega arith
-
-shared-slice-copy-out-if1-2 : tie.Need-shared-slice-copy-out-if1-2 Inv-loop μ-loop
-shared-slice-copy-out-if1-2 c = omega arith
-
 returns : tie.Need-returns Inv-loop μ-loop
 returns c =
     let loop = c .before .before .before .before in
     stops-m _ _ (loop .loop .t) (record { sfits = c .before .before .if12 .given }) (record { sfits = c .before .if13 .given }) _ (omega arith) (c .if1 .taken)
-
-mul-if2 : tie.Need-mul-if2 Inv-loop μ-loop
-mul-if2 c = omega arith
-
-shared-slice-copy-out-if2 : tie.Need-shared-slice-copy-out-if2 Inv-loop μ-loop
-shared-slice-copy-out-if2 c = omega arith
-
-mul-if2-2 : tie.Need-mul-if2-2 Inv-loop μ-loop
-mul-if2-2 c = omega arith
-
-shared-slice-copy-out-if2-2 : tie.Need-shared-slice-copy-out-if2-2 Inv-loop μ-loop
-shared-slice-copy-out-if2-2 c = omega arith
-
-mul-if3 : tie.Need-mul-if3 Inv-loop μ-loop
-mul-if3 c = omega arith
-
-shared-slice-copy-out-if3 : tie.Need-shared-slice-copy-out-if3 Inv-loop μ-loop
-shared-slice-copy-out-if3 c = omega arith
-
-mul-if3-2 : tie.Need-mul-if3-2 Inv-loop μ-loop
-mul-if3-2 c = omega arith
-
-shared-slice-copy-out-if3-2 : tie.Need-shared-slice-copy-out-if3-2 Inv-loop μ-loop
-shared-slice-copy-out-if3-2 c = omega arith
 
 returns-2 : tie.Need-returns-2 Inv-loop μ-loop
 returns-2 c =
     let two = c .before .before .before in
     let loop = two .before .before .before .before .before .before .before in
     stops-p _ _ (loop .loop .t) (record { sfits = two .before .before .if22 .given }) (record { sfits = two .before .if23 .given }) _ (omega arith) (two .if2 .taken) (record { sfits = c .before .before .if32 .given }) (record { sfits = c .before .if33 .given }) (c .if3 .taken)
-
-add-t : tie.Need-add-t Inv-loop μ-loop
-add-t c = omega arith
-
-loop-less : tie.Need-loop-less Inv-loop μ-loop
-loop-less c = omega arith
 
 loop-again : tie.Need-loop-again Inv-loop μ-loop
 loop-again c =
@@ -106,25 +52,25 @@ is-within-spec =
     Inv-loop
     μ-loop
     loop-holds
-    mul-m
-    add-m
-    mul-p
-    add-p
-    mul-if1
-    shared-slice-copy-out-if1
-    mul-if1-2
-    shared-slice-copy-out-if1-2
+    (λ c. omega arith)
+    (λ c. omega arith)
+    (λ c. omega arith)
+    (λ c. omega arith)
+    (λ c. omega arith)
+    (λ c. omega arith)
+    (λ c. omega arith)
+    (λ c. omega arith)
     returns
-    mul-if2
-    shared-slice-copy-out-if2
-    mul-if2-2
-    shared-slice-copy-out-if2-2
-    mul-if3
-    shared-slice-copy-out-if3
-    mul-if3-2
-    shared-slice-copy-out-if3-2
+    (λ c. omega arith)
+    (λ c. omega arith)
+    (λ c. omega arith)
+    (λ c. omega arith)
+    (λ c. omega arith)
+    (λ c. omega arith)
+    (λ c. omega arith)
+    (λ c. omega arith)
     returns-2
-    add-t
-    loop-less
+    (λ c. omega arith)
+    (λ c. omega arith)
     loop-again
     returns-3)

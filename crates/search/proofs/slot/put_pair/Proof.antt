@@ -10,33 +10,6 @@ use Rattle.search.proofs.slot.put_pair.Tie as tie
 cast-slot : tie.Need-cast-slot
 cast-slot c = puts-m _ (c .before .before .pre .1)
 
-mul-slot : tie.Need-mul-slot
-mul-slot c = search needs
-
-add-slot : tie.Need-add-slot
-add-slot c = search needs
-
-mul-slot-2 : tie.Need-mul-slot-2
-mul-slot-2 c = search needs
-
-element-set-from-slot : tie.Need-element-set-from-slot
-element-set-from-slot c = search needs
-
-cast-slot-2 : tie.Need-cast-slot-2
-cast-slot-2 c = search needs
-
-mul-t7 : tie.Need-mul-t7
-mul-t7 c = search needs
-
-add-t6 : tie.Need-add-t6
-add-t6 c = search needs
-
-mul-t5 : tie.Need-mul-t5
-mul-t5 c = search needs
-
-element-set-from-slot-2 : tie.Need-element-set-from-slot-2
-element-set-from-slot-2 c = search needs
-
 returns : tie.Need-returns
 returns c =
     let start = c .before .before .before in
@@ -48,13 +21,13 @@ put-pair-spec =
     tie.close
     (tie.spec
     cast-slot
-    mul-slot
-    add-slot
-    mul-slot-2
-    element-set-from-slot
-    cast-slot-2
-    mul-t7
-    add-t6
-    mul-t5
-    element-set-from-slot-2
+    (λ c. search needs)
+    (λ c. search needs)
+    (λ c. search needs)
+    (λ c. search needs)
+    (λ c. search needs)
+    (λ c. search needs)
+    (λ c. search needs)
+    (λ c. search needs)
+    (λ c. search needs)
     returns)

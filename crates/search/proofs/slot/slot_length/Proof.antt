@@ -15,8 +15,5 @@ mul-result-2 c = omega (arith, mul-le-mul (c .pre) (c .pre))
 add-result : tie.Need-add-result
 add-result c = omega (arith, mul-le-mul (c .pre) (c .pre))
 
-returns : tie.Need-returns
-returns c = search needs
-
 pub slot-length-spec : {M : Type 1} → statement M
-slot-length-spec = tie.close (tie.spec mul-result mul-result-2 add-result returns)
+slot-length-spec = tie.close (tie.spec mul-result mul-result-2 add-result (λ c. search needs))

@@ -1,3 +1,4 @@
+-- `enter` meets its contract: the invariant met at arrival, the wait, and the invariant met again, each on a zone in range.
 -- Assumes nothing.
 use Prim.Native.Nat.{_*_}
 use native.Mathlib.Omega.{arith}
@@ -10,12 +11,6 @@ use borrow.Author.Needs.{needs}
 use Rattle.search.proofs.successor.enter.Statement.{statement}
 use Rattle.search.proofs.successor.enter.Tie as tie
 
-clocks-requires : tie.Need-clocks-requires
-clocks-requires c κs = search needs
-
-invariant-at-requires : tie.Need-invariant-at-requires
-invariant-at-requires c κs = search needs
-
 meet-requires : tie.Need-meet-requires
 unfolding invariantOf
 meet-requires c κs =
@@ -23,9 +18,6 @@ meet-requires c κs =
     let a = start .pre .0 .0 in
     let hl = start .pre .0 .1 in
     (a, asks-limits _ _ (c .invariant-at .ensures) (c .before .clocks .ensures) (a .complete .clocks≤) (invariant-within _ (a .complete) _ hl) (invariant-scale _ a _ hl) (omega arith) (start .pre .1))
-
-add-reduce : tie.Need-add-reduce
-add-reduce c = search needs
 
 reduce-requires : tie.Need-reduce-requires
 unfolding invariantOf
@@ -51,9 +43,6 @@ raise-requires c κs =
     let q = asks-limits _ _ (c .before .before .before .before .invariant-at .ensures) (c .before .before .before .before .before .clocks .ensures) (a .complete .clocks≤) (invariant-within _ (a .complete) _ (start .pre .0 .1)) (invariant-scale _ a _ (start .pre .0 .1)) (omega arith) (start .pre .1) in
     (a, q .0)
 
-add-reduce-2 : tie.Need-add-reduce-2
-add-reduce-2 c = search needs
-
 reduce-requires-2 : tie.Need-reduce-requires-2
 unfolding invariantOf
 reduce-requires-2 c κs =
@@ -75,13 +64,13 @@ pub enter-spec : {M : Type 1} → statement M
 enter-spec =
     tie.close
     (tie.spec
-    clocks-requires
-    invariant-at-requires
+    (λ c κs. search needs)
+    (λ c κs. search needs)
     meet-requires
-    add-reduce
+    (λ c. search needs)
     reduce-requires
     returns
     raise-requires
-    add-reduce-2
+    (λ c. search needs)
     reduce-requires-2
     returns-2)

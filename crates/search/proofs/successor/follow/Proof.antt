@@ -1,3 +1,4 @@
+-- `follow` meets its contract: the guard met, the reset, and the location entered, on an edge that there is.
 -- Assumes nothing.
 use Prim.Native.Nat.{ℕ, _+_, _<_}
 use mathlib.Core.Path.{sym, ap, subst}
@@ -11,12 +12,6 @@ use Rattle.search.proofs.Stepping.{one-more, meets, asks-limits, met-is
 use borrow.Author.Needs.{needs}
 use Rattle.search.proofs.successor.follow.Statement.{statement}
 use Rattle.search.proofs.successor.follow.Tie as tie
-
-clocks-requires : tie.Need-clocks-requires
-clocks-requires c κs = search needs
-
-edge-at-requires : tie.Need-edge-at-requires
-edge-at-requires c κs = search needs
 
 add-at : tie.Need-add-at
 add-at c =
@@ -33,9 +28,6 @@ meet-requires c κs =
     let hi = start .pre .0 .1 in
     (a, asks-limits _ _ (ap (λ x. x + 3) (c .edge-at .ensures)) (c .before .clocks .ensures) (a .complete .clocks≤) (omega (arith, edge-within _ (a .complete) _ hi)) (guard-scale _ a _ hi) (omega arith) (start .pre .1))
 
-add-reduce : tie.Need-add-reduce
-add-reduce c = search needs
-
 reduce-requires : tie.Need-reduce-requires
 unfolding guardOf
 reduce-requires c κs =
@@ -51,15 +43,6 @@ returns c =
     let a = start .pre .0 .0 in
     let n = c .before .before .before .before .clocks .ensures in
     followed-none _ (a .complete .clocks≤) _ (one-more n) _ _ _ (met-is _ (a .complete .clocks≤) _ (one-more n) _ (meets _ _ (ap (λ x. x + 3) (c .before .before .before .edge-at .ensures)) n (c .before .before .meet .ensures)) (c .before .reduce .ensures)) (c .if1 .taken)
-
-edge-of-requires : tie.Need-edge-of-requires
-edge-of-requires c κs = search needs
-
-add-reset : tie.Need-add-reset
-add-reset c = search needs
-
-reset-requires : tie.Need-reset-requires
-reset-requires c κs = search needs
 
 enter-requires : tie.Need-enter-requires
 unfolding guardOf
@@ -85,15 +68,15 @@ pub follow-spec : {M : Type 1} → statement M
 follow-spec =
     tie.close
     (tie.spec
-    clocks-requires
-    edge-at-requires
+    (λ c κs. search needs)
+    (λ c κs. search needs)
     add-at
     meet-requires
-    add-reduce
+    (λ c. search needs)
     reduce-requires
     returns
-    edge-of-requires
-    add-reset
-    reset-requires
+    (λ c κs. search needs)
+    (λ c. search needs)
+    (λ c κs. search needs)
     enter-requires
     returns-2)

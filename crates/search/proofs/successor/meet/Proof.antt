@@ -1,3 +1,4 @@
+-- `meet` meets its contract: what is done is the limits of the clocks passed, met one by one.
 -- Assumes nothing.
 use Prim.Native.Nat.{_+_, _-_, _≤_, _<_}
 use mathlib.Core.Path.{_≡_, refl, ap}
@@ -24,21 +25,6 @@ loop-holds c = (omega arith, omega arith, refl)
 limits-of-requires : tie.Need-limits-of-requires Inv-loop μ-loop
 limits-of-requires c κs = (c .before .before .before .before .before .pre .0, omega arith, omega arith)
 
-mul-t15 : tie.Need-mul-t15 Inv-loop μ-loop
-mul-t15 c = omega arith
-
-mul-t16 : tie.Need-mul-t16 Inv-loop μ-loop
-mul-t16 c = omega arith
-
-array-copy-out-t19 : tie.Need-array-copy-out-t19 Inv-loop μ-loop
-array-copy-out-t19 c = omega arith
-
-mul-t20 : tie.Need-mul-t20 Inv-loop μ-loop
-mul-t20 c = omega arith
-
-array-copy-out-t23 : tie.Need-array-copy-out-t23 Inv-loop μ-loop
-array-copy-out-t23 c = omega arith
-
 meet-requires : tie.Need-meet-requires Inv-loop μ-loop
 unfolding limitsAt
 meet-requires c κs =
@@ -47,27 +33,6 @@ meet-requires c κs =
     let limits = c .before .before .limits-of .ensures in
     turn-ready _ _ (start .args .w) (record { zone = now .loop .z; fraction = now .loop .f }) (start .pre .1 .0 .0) (start .pre .1 .1 .0) (start .pre .1 .1 .1) (now .loop .x) (now .loop .inv .0) (omega arith) (now .loop .inv .2)
     (ap (λ (l : Limits). l .lo) limits) (ap (λ (l : Limits). l .hi) limits) (ap (λ (l : Limits). eqb (l .hi) noUpper) limits)
-
-mul-z : tie.Need-mul-z Inv-loop μ-loop
-mul-z c = omega arith
-
-mul-z-2 : tie.Need-mul-z-2 Inv-loop μ-loop
-mul-z-2 c = omega arith
-
-array-set-from-z : tie.Need-array-set-from-z Inv-loop μ-loop
-array-set-from-z c = omega arith
-
-mul-z-3 : tie.Need-mul-z-3 Inv-loop μ-loop
-mul-z-3 c = omega arith
-
-array-set-from-z-2 : tie.Need-array-set-from-z-2 Inv-loop μ-loop
-array-set-from-z-2 c = omega arith
-
-add-x : tie.Need-add-x Inv-loop μ-loop
-add-x c = omega arith
-
-loop-less : tie.Need-loop-less Inv-loop μ-loop
-loop-less c = omega arith
 
 loop-again : tie.Need-loop-again Inv-loop μ-loop
 unfolding limitsAt
@@ -92,18 +57,18 @@ meet-spec =
     μ-loop
     loop-holds
     limits-of-requires
-    mul-t15
-    mul-t16
-    array-copy-out-t19
-    mul-t20
-    array-copy-out-t23
+    (λ c. omega arith)
+    (λ c. omega arith)
+    (λ c. omega arith)
+    (λ c. omega arith)
+    (λ c. omega arith)
     meet-requires
-    mul-z
-    mul-z-2
-    array-set-from-z
-    mul-z-3
-    array-set-from-z-2
-    add-x
-    loop-less
+    (λ c. omega arith)
+    (λ c. omega arith)
+    (λ c. omega arith)
+    (λ c. omega arith)
+    (λ c. omega arith)
+    (λ c. omega arith)
+    (λ c. omega arith)
     loop-again
     returns)

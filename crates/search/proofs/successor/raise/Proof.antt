@@ -1,3 +1,4 @@
+-- `raise` meets its contract: what is done is the upper bounds of the clocks passed.
 -- Assumes nothing.
 use Prim.Native.Nat.{_+_, _-_, _≤_, _<_}
 use mathlib.Core.Path.{_≡_, refl, ap, _∙_}
@@ -23,24 +24,6 @@ loop-holds c = (omega arith, omega arith, refl)
 limits-of-requires : tie.Need-limits-of-requires Inv-loop μ-loop
 limits-of-requires c κs = (c .before .before .before .before .before .pre .0, omega arith, omega arith)
 
-at-most-requires : tie.Need-at-most-requires Inv-loop μ-loop
-at-most-requires c κs = omega arith
-
-mul-z : tie.Need-mul-z Inv-loop μ-loop
-mul-z c = omega arith
-
-mul-z-2 : tie.Need-mul-z-2 Inv-loop μ-loop
-mul-z-2 c = omega arith
-
-array-set-from-z : tie.Need-array-set-from-z Inv-loop μ-loop
-array-set-from-z c = omega arith
-
-add-x : tie.Need-add-x Inv-loop μ-loop
-add-x c = omega arith
-
-loop-less : tie.Need-loop-less Inv-loop μ-loop
-loop-less c = omega arith
-
 loop-again : tie.Need-loop-again Inv-loop μ-loop
 unfolding limitsAt
 loop-again c =
@@ -58,11 +41,11 @@ raise-spec =
     μ-loop
     loop-holds
     limits-of-requires
-    at-most-requires
-    mul-z
-    mul-z-2
-    array-set-from-z
-    add-x
-    loop-less
+    (λ c κs. omega arith)
+    (λ c. omega arith)
+    (λ c. omega arith)
+    (λ c. omega arith)
+    (λ c. omega arith)
+    (λ c. omega arith)
     loop-again
     returns)
