@@ -45,7 +45,7 @@ fn misplaced(a: &[u8], n: usize, m: usize) -> u32 {
         6
     } else if each.clone().any(|e| e[2] as u32 >> n != 0) {
         7
-    } else if off_scale(invariants, SCALE) || each.any(|e| off_scale(&e[3..], NO_UPPER)) {
+    } else if out_of_range(invariants, SCALE) || each.any(|e| out_of_range(&e[3..], NO_UPPER)) {
         8
     } else {
         0
@@ -53,7 +53,7 @@ fn misplaced(a: &[u8], n: usize, m: usize) -> u32 {
 }
 
 // The other value is one that a hi may have beside those on the scale.
-fn off_scale(limits: &[u8], other: u32) -> bool {
+fn out_of_range(limits: &[u8], other: u32) -> bool {
     let off = |l: &[u8]| SCALE < number(l, 0) || (SCALE < number(l, 4) && number(l, 4) != other);
     limits.chunks_exact(8).any(off)
 }

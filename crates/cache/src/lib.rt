@@ -17,7 +17,6 @@ use records::records_sound;
 use search::refusal;
 use search::search;
 use search::verdict::Answer;
-use search::verdict::Verdict;
 ghost use mathlib.Core.Path.{_≡_};
 ghost use mathlib.Core.List.{_++_};
 ghost use Prim.Native.Nat.{_+_, _≤_};

@@ -1,3 +1,4 @@
+-- Numbers in decimal, texts behind a line, and document 01's lines.
 pub mod Decimals
-pub mod Examples
 pub mod Writing
+pub mod Examples

@@ -7,7 +7,7 @@ use lib.ListN.{length, take, set, getD}
 use lib.Seq.{paste, paste-suc, length-paste, take-paste, take-all}
 use native.Mathlib.Omega.{arith}
 use Rattle.robustness.specs.declared.line.Line.{Line}
-use Rattle.robustness.specs.Lines.{Writing, Behind, textOf}
+use Rattle.robustness.specs.Lines.{Behind, textOf}
 
 -- ---- a turn of the loop that writes it
 pub turn : (l : Line) (t : List ℕ) (i : ℕ) (bytes : List ℕ) → length (l .bytes) ≡ 80 → l .length + length t ≤ 80 → i < length t → bytes ≡ paste (l .bytes) (l .length) t i

@@ -1,2 +1,3 @@
+-- The program's line.
 pub mod Lines
 pub mod Examples

@@ -3,7 +3,6 @@ use search::verdict::Answer;
 use search::verdict::Holding;
 use search::verdict::Verdict;
 ghost use mathlib.Core.Path.{_≡_};
-ghost use mathlib.Core.List.{[], _∷_, _++_};
 ghost use Prim.Native.Nat.{_+_, _≤_};
 ghost use lib.ListN.{length};
 ghost use Rattle.robustness.specs.Lines.{Writing, Behind, textOf, decimal, holdingText, verdictText, answerText, lineOf};

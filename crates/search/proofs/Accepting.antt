@@ -11,7 +11,7 @@ use native.Mathlib.Nat.{not-suc-le-zero}
 use native.Mathlib.Omega.{arith}
 use Rattle.zones.specs.Ranges.{scale}
 use Rattle.search.specs.Accepted.{Accepted}
-use Rattle.search.specs.Automata.{lengthField, version, clocks, locations, edges, start, target, from, to, resetByte, formula, loAt, hiAt, noUpper, limitsAt, invariantAt, edgeAt, invariantOf, guardOf, resetsOf, some, oversize, misplaced, noSuchPlace, noSuchClock, outOfRange, offScaleAt, invariantOffScale, guardOffScale, offScale, refusalOf}
+use Rattle.search.specs.Automata.{lengthField, version, clocks, locations, edges, start, target, from, to, resetByte, formula, loAt, hiAt, noUpper, limitsAt, invariantAt, edgeAt, invariantOf, guardOf, resetsOf, some, countsOutOfRange, misplaced, noSuchLocation, noSuchClock, outOfRange, outOfRangeAt, invariantOutOfRange, guardOutOfRange, limitOutOfRange, refusalOf}
 use Rattle.search.proofs.Resets.{no-bit}
 use Rattle.search.proofs.Some.{fails}
 use Rattle.search.proofs.Refusals.{neither, complete}
@@ -27,11 +27,11 @@ refusal-small s =
     small (ltb (length s) 11) 1 _ (omega arith)
     (small (not (eqb (lengthField s) (length s))) 2 _ (omega arith)
     (small (not (eqb (version s) 1)) 3 _ (omega arith)
-    (small (oversize s) 4 _ (omega arith)
+    (small (countsOutOfRange s) 4 _ (omega arith)
     (small (not (eqb (lengthField s) (formula s))) 5 _ (omega arith)
-    (small (noSuchPlace s) 6 _ (omega arith)
+    (small (noSuchLocation s) 6 _ (omega arith)
     (small (noSuchClock s) 7 _ (omega arith)
-    (small (offScale s) 8 0 (omega arith) (omega arith))))))))
+    (small (limitOutOfRange s) 8 0 (omega arith) (omega arith))))))))
 
 passed : (t : Bool) (k r : ℕ) → cond t (suc k) r ≡ 0 → (t ≡ false) × (r ≡ 0)
 passed true k r e = absurd (omega arith)
@@ -40,10 +40,10 @@ passed false k r e = (refl, e)
 record Passed (s : List ℕ) : Type 0 where
   pub head : 11 ≤ length s
   pub size : length s ≡ formula s
-  pub counts : oversize s ≡ false
-  pub places : noSuchPlace s ≡ false
+  pub counts : countsOutOfRange s ≡ false
+  pub places : noSuchLocation s ≡ false
   pub resets : noSuchClock s ≡ false
-  pub limits : offScale s ≡ false
+  pub limits : limitOutOfRange s ≡ false
 
 passes : (s : List ℕ) → refusalOf s ≡ 0 → Passed s
 unfolding refusalOf
@@ -51,11 +51,11 @@ passes s e =
     let p1 = passed (ltb (length s) 11) 0 _ e in
     let p2 = passed (not (eqb (lengthField s) (length s))) 1 _ (p1 .1) in
     let p3 = passed (not (eqb (version s) 1)) 2 _ (p2 .1) in
-    let p4 = passed (oversize s) 3 _ (p3 .1) in
+    let p4 = passed (countsOutOfRange s) 3 _ (p3 .1) in
     let p5 = passed (not (eqb (lengthField s) (formula s))) 4 _ (p4 .1) in
-    let p6 = passed (noSuchPlace s) 5 _ (p5 .1) in
+    let p6 = passed (noSuchLocation s) 5 _ (p5 .1) in
     let p7 = passed (noSuchClock s) 6 _ (p6 .1) in
-    let p8 = passed (offScale s) 7 _ (p7 .1) in
+    let p8 = passed (limitOutOfRange s) 7 _ (p7 .1) in
     record {
       head = ltb-false _ _ (p1 .0);
       size = sym (eqb-true _ _ (not-false _ (p2 .0))) ∙ eqb-true (lengthField s) (formula s) (not-false _ (p5 .0));
@@ -79,8 +79,8 @@ in-range mayLack lo hi e =
     let n = neither (ltb scale lo) _ e in
     record { lo≤ = ltb-false scale lo (n .0); hi≤ = λ f. ltb-false scale hi (excused (ltb scale hi) (mayLack && eqb hi noUpper) (n .1) f) }
 
-all-in-range : (s : List ℕ) (mayLack : Bool) (at : ℕ) → offScaleAt s mayLack at ≡ false → (x : ℕ) → 0 < x → x ≤ clocks s → InRange mayLack (loAt s at x) (hiAt s at x)
-unfolding offScaleAt
+all-in-range : (s : List ℕ) (mayLack : Bool) (at : ℕ) → outOfRangeAt s mayLack at ≡ false → (x : ℕ) → 0 < x → x ≤ clocks s → InRange mayLack (loAt s at x) (hiAt s at x)
+unfolding outOfRangeAt
 all-in-range s mayLack at e zero h g = absurd (not-suc-le-zero h)
 all-in-range s mayLack at e (suc x) h g = in-range mayLack _ _ (fails (λ x. outOfRange mayLack (loAt s at (suc x)) (hiAt s at (suc x))) (clocks s) e x g)
 
@@ -101,8 +101,8 @@ module _ (s : List ℕ) (p : Passed s) where
   few-resets : (i : ℕ) → i < edges s → resetByte s i < 2 ^ clocks s
   few-resets i h = leb-false _ _ (fails (λ i. leb (2 ^ clocks s) (resetByte s i)) (edges s) (p .resets) i h)
 
-  limits : (invariantOffScale s ≡ false) × (guardOffScale s ≡ false)
-  limits = neither (invariantOffScale s) _ (p .limits)
+  limits : (invariantOutOfRange s ≡ false) × (guardOutOfRange s ≡ false)
+  limits = neither (invariantOutOfRange s) _ (p .limits)
 
   invariant-fits : (l x : ℕ) → l < locations s → 0 < x → x ≤ clocks s → InRange false (loAt s (invariantAt s l) x) (hiAt s (invariantAt s l) x)
   invariant-fits l x h = all-in-range s false (invariantAt s l) (fails _ (locations s) (limits .0) l h) x

@@ -13,8 +13,8 @@ use Rattle.zones.specs.Zones.{firstWork}
 use Rattle.search.specs.declared.exploration.Turn.{Turn}
 use Rattle.search.specs.Accepted.{Accepted}
 use Rattle.search.specs.Automata.{clocks, start, invariantOf}
-use Rattle.search.specs.Exploring.{ZoneState, SoundState, SoundResult, Stored, Shown, Gives, Continues, InProgress, Going}
-use Rattle.search.specs.Instance.{zonesOf, resultOf, entering, searchOf}
+use Rattle.search.specs.Exploring.{SoundState, SoundResult, Stored, Shown, Gives, Continues, InProgress, Going}
+use Rattle.search.specs.Instance.{ZoneState, zonesOf, resultOf, entering, searchOf}
 use Rattle.search.specs.Search.{offer, begin, take-from, search}
 use Rattle.search.specs.Semantics.{systemOf}
 use Rattle.search.specs.Slots.{slotLength}

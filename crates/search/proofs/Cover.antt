@@ -8,7 +8,8 @@ use native.Mathlib.Omega.{arith}
 use native.Mathlib.Decide.{ℕ-discrete, decLt}
 use Rattle.search.specs.Runs.{System, Step, wait, jump, Stand, first, after, Steps, StandsIn, Run}
 use Rattle.search.specs.Search.{empty, zone, Zones, Nth, offer, follow, expand, take-from, begin, search}
-use Rattle.search.specs.Meaning.{Meaning, Falls, Clocks, OneSided}
+use Rattle.search.specs.Meaning.{Meaning}
+use Rattle.search.specs.Laws.{Falls, Clocks, OneSided}
 use Rattle.search.proofs.Lists.{nth-back, nth-last, nth-one, nth-lt, drop-none}
 use Rattle.search.proofs.Judged.{Nd, St, Res, Judged, was-empty, was-target, was-inside, was-big, was-kept, was-full, judged, find-inside, Later, later-going, later-nth, follow-on, follow-later, expand-later, take-cases, take-later, offer-room, expand-room, expand-falls, take-falls, All, earlier-all, search-all}
 

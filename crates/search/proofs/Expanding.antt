@@ -16,8 +16,8 @@ use Rattle.zones.specs.Successors.{followOf}
 use Rattle.search.specs.declared.exploration.Turn.{Turn}
 use Rattle.search.specs.Accepted.{Accepted}
 use Rattle.search.specs.Automata.{clocks, edges, from, to, invariantOf, guardOf, resetsOf}
-use Rattle.search.specs.Exploring.{ZoneState, ZoneNode, SoundState, SoundResult, SoundZone, Shown, Gives, InProgress, Going}
-use Rattle.search.specs.Instance.{workOf, resultOf, following, zonesOf}
+use Rattle.search.specs.Exploring.{SoundState, SoundResult, SoundZone, Shown, Gives, InProgress, Going}
+use Rattle.search.specs.Instance.{ZoneState, ZoneNode, workOf, resultOf, following, zonesOf}
 use Rattle.search.specs.Search.{offer, follow, expand}
 use Rattle.search.specs.Semantics.{systemOf}
 use Rattle.search.specs.Slots.{slotLength}

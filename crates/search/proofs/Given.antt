@@ -16,10 +16,10 @@ use Rattle.zones.proofs.Lowest.{lowest-positive, lowest-coprime, lowest-n-le, l
 use Rattle.search.specs.declared.verdict.Answer.the-variants.{Refused}
 use Rattle.search.specs.Accepted.{Accepted}
 use Rattle.search.specs.Automata.{clocks, start, refusalOf}
-use Rattle.search.specs.Exploring.{ZoneState, SoundState}
+use Rattle.search.specs.Exploring.{SoundState}
+use Rattle.search.specs.Instance.{ZoneState, zonesOf, searchOf, entering}
 use Rattle.search.specs.Given.{Terms, Given, Lasting}
 use Rattle.search.specs.Promised.{Promised}
-use Rattle.search.specs.Instance.{zonesOf, searchOf, entering}
 use Rattle.search.specs.Search.{Result, begin, search}
 use Rattle.search.specs.Semantics.{systemOf}
 use Rattle.search.specs.Store.{mostSlots, capacityOf}

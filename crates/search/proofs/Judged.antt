@@ -10,7 +10,7 @@ use native.Mathlib.Omega.{arith}
 use borrow.Author.Tests.{ltb-true, ltb-false, lt-ltb, le-ltb, eqb-true, eqb-false, eq-eqb}
 use Rattle.search.specs.Runs.{System}
 use Rattle.search.specs.Search.{Result, empty, zone, fracOf, Zones, Node, State, Found, none, found, Nth, find, offer, follow, expand, take-from, begin, search}
-use Rattle.search.specs.Meaning.{Falls}
+use Rattle.search.specs.Laws.{Falls}
 use Rattle.search.proofs.Lists.{nth-left, nth-drop, nth-snoc}
 
 module _ (A : System) (O : Zones) where

@@ -21,11 +21,12 @@ use Rattle.zones.proofs.Inside.{contain-yes}
 use Rattle.search.specs.declared.exploration.Turn.{Turn}
 use Rattle.search.specs.Accepted.{Accepted}
 use Rattle.search.specs.Automata.{clocks, locations, target}
-use Rattle.search.specs.Exploring.{ZoneState, ZoneNode, FirstHit, SoundNode, SoundState, Stored, Shown, Gives, InProgress}
-use Rattle.search.specs.Instance.{resultOf, overcounted, zonesOf}
+use Rattle.search.specs.Exploring.{FirstHit, SoundNode, SoundState, Stored, Shown, Gives, InProgress}
+use Rattle.search.specs.Instance.{ZoneState, ZoneNode, resultOf, overcounted, zonesOf}
 use Rattle.search.specs.Search.{empty, zone, Nth, none, find, offer}
 use Rattle.search.specs.Semantics.{systemOf}
-use Rattle.search.specs.Slots.{slotLength, slotOf, zoneOf}
+use Rattle.search.specs.Slots.{slotLength, slotOf}
+use Rattle.search.specs.Decoding.{zoneOf}
 use Rattle.search.specs.Store.{storeOf}
 use Rattle.search.proofs.Judged.{Judged, was-empty, was-target, was-inside, was-big, was-kept, was-full, computes, find-inside}
 use Rattle.search.proofs.Slotted.{slot-size, slot-taken, slot-counts, zone-of-slot}

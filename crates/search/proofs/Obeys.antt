@@ -26,7 +26,7 @@ use Rattle.zones.proofs.Thresholds.{proper-below}
 use Rattle.search.specs.Accepted.{Accepted}
 use Rattle.search.specs.Automata.{clocks, locations, edges, start, to, invariantOf, guardOf, resetsOf}
 use Rattle.search.specs.Instance.{workOf, resultOf, entering, following, zonesOf, Inside, meaningOf}
-use Rattle.search.specs.Meaning.{Falls, Stays, OneSided, ExactLaws, FromStart, FromZone, Laws}
+use Rattle.search.specs.Laws.{Falls, Stays, OneSided, ExactLaws, FromStart, FromZone, Laws}
 use Rattle.search.specs.Search.{Result, empty, zone, fracOf}
 use Rattle.search.specs.Semantics.{Valuation, ticks, later, zeroed, systemOf}
 use Rattle.search.proofs.Resets.{reset-zero}

@@ -3,7 +3,7 @@ use Prim.Native.Nat.{ℕ, _+_}
 use mathlib.Core.List.{List, [], _∷_, _++_, tail}
 use mathlib.Core.Path.{_≡_, refl, sym, ap, _∙_, subst}
 use Rattle.search.specs.Runs.{System, Step, wait, jump, jumps, Stand, after, last, Can, Steps, StandsIn}
-use Rattle.search.specs.Meaning.{Clocks}
+use Rattle.search.specs.Laws.{Clocks}
 
 Some : List ℕ → Type 0
 Some [] = ⊥

@@ -10,14 +10,14 @@ use lib.ListN.{length}
 use native.Mathlib.Omega.{arith}
 use Rattle.zones.proofs.Choices.{true-false}
 use Rattle.search.specs.Accepted.{Complete}
-use Rattle.search.specs.Automata.{lengthField, version, clocks, locations, formula, oversize, noSuchPlace, noSuchClock, offScale, refusalOf}
+use Rattle.search.specs.Automata.{lengthField, version, clocks, locations, formula, countsOutOfRange, noSuchLocation, noSuchClock, limitOutOfRange, refusalOf}
 
 -- ---- a test that fails
 pub neither : (a b : Bool) → (a || b) ≡ false → (a ≡ false) × (b ≡ false)
 neither true b e = true-false e
 neither false b e = (refl, e)
 
-pub complete : (s : List ℕ) → 11 ≤ length s → oversize s ≡ false → length s ≡ formula s → Complete s
+pub complete : (s : List ℕ) → 11 ≤ length s → countsOutOfRange s ≡ false → length s ≡ formula s → Complete s
 complete s h e g =
     let a = neither (eqb (clocks s) 0) _ e in
     let b = neither (ltb 8 (clocks s)) _ (a .1) in
@@ -50,16 +50,16 @@ module _ (s : List ℕ) where
       refusal-3 h = rw (le-ltb _ _ h1, eq-eqb _ _ h2, ne-eqb _ _ h)
 
       module _ (h3 : version s ≡ 1) where
-        pub refusal-4 : oversize s ≡ true → refusalOf s ≡ 4
+        pub refusal-4 : countsOutOfRange s ≡ true → refusalOf s ≡ 4
         unfolding refusalOf
         refusal-4 h = rw (le-ltb _ _ h1, eq-eqb _ _ h2, eq-eqb _ _ h3, h)
 
-        module _ (h4 : oversize s ≡ false) where
+        module _ (h4 : countsOutOfRange s ≡ false) where
           pub refusal-5 : (length s ≡ formula s → ⊥) → refusalOf s ≡ 5
           unfolding refusalOf
           refusal-5 h = rw (le-ltb _ _ h1, eq-eqb _ _ h2, eq-eqb _ _ h3, h4, ne-eqb (lengthField s) (formula s) (λ e. h (sym h2 ∙ e)))
 
           module _ (h5 : length s ≡ formula s) where
-            pub refusal-rest : refusalOf s ≡ cond (noSuchPlace s) 6 (cond (noSuchClock s) 7 (cond (offScale s) 8 0))
+            pub refusal-rest : refusalOf s ≡ cond (noSuchLocation s) 6 (cond (noSuchClock s) 7 (cond (limitOutOfRange s) 8 0))
             unfolding refusalOf
             refusal-rest = rw (le-ltb _ _ h1, eq-eqb _ _ h2, eq-eqb _ _ h3, h4, eq-eqb (lengthField s) (formula s) (h2 ∙ h5))

@@ -6,7 +6,8 @@ use borrow.Author.Tests.{eqb-true}
 use native.Mathlib.Omega.{arith}
 use Rattle.search.specs.Runs.{System, Stand, first}
 use Rattle.search.specs.Search.{zone, fracOf, Zones, Nth, offer, begin, search}
-use Rattle.search.specs.Meaning.{Meaning, Laws, SameSet, Hit}
+use Rattle.search.specs.Meaning.{Meaning, SameSet, Hit}
+use Rattle.search.specs.Laws.{Laws}
 use Rattle.search.proofs.Paths.{last-stands}
 use Rattle.search.proofs.Judged.{Nd, St, Res, find-inside, Judged, was-empty, was-target, was-inside, was-big, was-kept, was-full, judged, All, begin-all, step-all, take-keeps}
 use Rattle.search.proofs.Cover.{holds}

@@ -4,7 +4,8 @@ use mathlib.Core.List.{List, [], _∷_, _++_}
 use mathlib.Core.Path.{_≡_, refl, sym, ap, _∙_, subst}
 use Rattle.search.specs.Runs.{System, Step, wait, jump, Stand, first, after, last, Steps, Ends}
 use Rattle.search.specs.Search.{zone, Zones, search}
-use Rattle.search.specs.Meaning.{Meaning, Falls, Clocks, OneSided, ExactLaws}
+use Rattle.search.specs.Meaning.{Meaning}
+use Rattle.search.specs.Laws.{Falls, Clocks, OneSided, ExactLaws}
 use Rattle.search.proofs.Paths.{jumps-append, last-append, steps-append, cut, waited}
 use Rattle.search.proofs.Judged.{Nd, All, search-all}
 

@@ -23,7 +23,8 @@ use Rattle.zones.specs.declared.zone.Work.{Work}
 use Rattle.zones.proofs.Meeting.{met-ind}
 use Rattle.zones.proofs.Places.{home-stays, home-below}
 use Rattle.zones.proofs.Steps.{reduce-ind}
-use Rattle.search.specs.Slots.{slotLength, pairsTo, pairsOf, flat, slotOf, slotPair, counted, squareTo, zoneOf, lessAt, withinSlots, Framed}
+use Rattle.search.specs.Slots.{slotLength, pairsTo, pairsOf, flat, slotOf}
+use Rattle.search.specs.Decoding.{slotPair, counted, squareTo, zoneOf, lessAt, withinSlots, Framed}
 
 -- ---- how many places count
 module _ (n : ℕ) where

@@ -24,11 +24,11 @@ use Rattle.zones.proofs.Inside.{largest-most, lowered-fits}
 use Rattle.zones.proofs.Moving.{then-empty, then-live}
 use Rattle.search.specs.Accepted.{Accepted}
 use Rattle.search.specs.Automata.{clocks, locations, edges, start, to, invariantOf, guardOf, resetsOf}
-use Rattle.search.specs.Exploring.{ZoneState, ZoneNode, SoundNode, SoundState, SoundResult}
-use Rattle.search.specs.Instance.{workOf, resultOf, overcounted, zonesOf}
+use Rattle.search.specs.Exploring.{SoundNode, SoundState, SoundResult}
+use Rattle.search.specs.Instance.{ZoneState, ZoneNode, workOf, resultOf, overcounted, zonesOf}
 use Rattle.search.specs.Search.{Result, empty, zone, fracOf, offer}
 use Rattle.search.specs.Semantics.{systemOf}
-use Rattle.search.specs.Slots.{Framed}
+use Rattle.search.specs.Decoding.{Framed}
 use Rattle.search.proofs.Judged.{Judged, was-empty, was-target, was-inside, was-big, was-kept, was-full, judged, find-inside}
 use Rattle.search.proofs.Judging.{comparable}
 use Rattle.search.proofs.Lists.{nth-snoc}

@@ -17,11 +17,12 @@ use Rattle.zones.specs.Containment.{within}
 use Rattle.zones.proofs.Choices.{true-false}
 use Rattle.zones.proofs.Squares.{up-to}
 use Rattle.search.specs.Automata.{clocks}
-use Rattle.search.specs.Exploring.{ZoneNode, Hits, FirstHit}
-use Rattle.search.specs.Instance.{zonesOf}
+use Rattle.search.specs.Exploring.{Hits, FirstHit}
+use Rattle.search.specs.Instance.{ZoneNode, zonesOf}
 use Rattle.search.specs.Search.{Found, none, found, Nth, find}
 use Rattle.search.specs.Semantics.{systemOf}
-use Rattle.search.specs.Slots.{slotLength, slotOf, withinSlots}
+use Rattle.search.specs.Slots.{slotLength, slotOf}
+use Rattle.search.specs.Decoding.{withinSlots}
 use Rattle.search.specs.Store.{slotsOf, storeOf, mostSlots, capacityOf}
 use Rattle.search.proofs.Lists.{nth-lt}
 use Rattle.search.proofs.Slotted.{slot-size, slot-location, within-slots}

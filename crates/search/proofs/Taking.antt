@@ -15,11 +15,12 @@ use Rattle.zones.specs.declared.pair.Pair.{Pair}
 use Rattle.search.specs.declared.exploration.Turn.{Turn}
 use Rattle.search.specs.Accepted.{Accepted}
 use Rattle.search.specs.Automata.{clocks, edges}
-use Rattle.search.specs.Exploring.{ZoneState, ZoneNode, SoundState, SoundNode, SoundZone, Shown, Continues, Going}
-use Rattle.search.specs.Instance.{zonesOf, following}
+use Rattle.search.specs.Exploring.{SoundState, SoundNode, SoundZone, Shown, Continues, Going}
+use Rattle.search.specs.Instance.{ZoneState, ZoneNode, zonesOf, following}
 use Rattle.search.specs.Search.{Nth, expand, offer, take-from}
 use Rattle.search.specs.Semantics.{systemOf}
-use Rattle.search.specs.Slots.{slotLength, zoneOf}
+use Rattle.search.specs.Slots.{slotLength}
+use Rattle.search.specs.Decoding.{zoneOf}
 use Rattle.search.proofs.Expanding.{progress, shown-length}
 use Rattle.search.proofs.Judged.{expand-keeps, take-later, take-none, take-one}
 use Rattle.search.proofs.Judging.{At, nth-at, n≤, progress-slots, read-counts, read-zone}

@@ -20,7 +20,8 @@ use Rattle.zones.specs.Integers.{up, int, ltZ-false, le-ltZ, abs-fits}
 use Rattle.zones.specs.Containment.{placeOf}
 use Rattle.zones.specs.Ranges.{AllBounded, Bounded, scale, lastCounts}
 use Rattle.zones.specs.Zones.{pairAt}
-use Rattle.search.specs.Slots.{pairsTo, flat, slotOf, slotPair, counted, squareTo, zoneOf, lessAt, withinSlots}
+use Rattle.search.specs.Slots.{pairsTo, flat, slotOf}
+use Rattle.search.specs.Decoding.{slotPair, counted, squareTo, zoneOf, lessAt, withinSlots}
 use Rattle.search.proofs.Slotted.{counted-in, counted-out, counted-all, counted-below, pairs-in, pairs-out, pairs-length, flat-length, flat-split, square-in, square-out}
 
 -- ---- `is_within`: the code compares the numbers' bits

@@ -100,15 +100,15 @@ unfoldable pub some : ℕ → (ℕ → Bool) → Bool
 some zero f = false
 some (suc k) f = cond (f k) true (some k f)
 
-abbrev pub oversize : List ℕ → Bool
-oversize s = eqb (clocks s) 0 || (ltb 8 (clocks s) || (eqb (locations s) 0 || (ltb 64 (locations s) || ltb 256 (edges s))))
+abbrev pub countsOutOfRange : List ℕ → Bool
+countsOutOfRange s = eqb (clocks s) 0 || (ltb 8 (clocks s) || (eqb (locations s) 0 || (ltb 64 (locations s) || ltb 256 (edges s))))
 
 -- "start, target, from or to is m or more"
 abbrev pub misplaced : ℕ → ℕ → ℕ → Bool
 misplaced m a b = leb m a || leb m b
 
-abbrev pub noSuchPlace : List ℕ → Bool
-noSuchPlace s = misplaced (locations s) (start s) (target s) || some (edges s) (λ i. misplaced (locations s) (from s i) (to s i))
+abbrev pub noSuchLocation : List ℕ → Bool
+noSuchLocation s = misplaced (locations s) (start s) (target s) || some (edges s) (λ i. misplaced (locations s) (from s i) (to s i))
 
 -- "a reset bit above clock n"
 abbrev pub noSuchClock : List ℕ → Bool
@@ -119,17 +119,17 @@ abbrev pub outOfRange : Bool → ℕ → ℕ → Bool
 outOfRange mayLack lo hi = ltb scale lo || (ltb scale hi && not (mayLack && eqb hi noUpper))
 
 -- and those of every clock, at `at`
-unfoldable pub offScaleAt : List ℕ → Bool → ℕ → Bool
-offScaleAt s mayLack at = some (clocks s) (λ x. outOfRange mayLack (loAt s at (suc x)) (hiAt s at (suc x)))
+unfoldable pub outOfRangeAt : List ℕ → Bool → ℕ → Bool
+outOfRangeAt s mayLack at = some (clocks s) (λ x. outOfRange mayLack (loAt s at (suc x)) (hiAt s at (suc x)))
 
-abbrev pub invariantOffScale : List ℕ → Bool
-invariantOffScale s = some (locations s) (λ l. offScaleAt s false (invariantAt s l))
+abbrev pub invariantOutOfRange : List ℕ → Bool
+invariantOutOfRange s = some (locations s) (λ l. outOfRangeAt s false (invariantAt s l))
 
-abbrev pub guardOffScale : List ℕ → Bool
-guardOffScale s = some (edges s) (λ i. offScaleAt s true (edgeAt s i + 3))
+abbrev pub guardOutOfRange : List ℕ → Bool
+guardOutOfRange s = some (edges s) (λ i. outOfRangeAt s true (edgeAt s i + 3))
 
-abbrev pub offScale : List ℕ → Bool
-offScale s = invariantOffScale s || guardOffScale s
+abbrev pub limitOutOfRange : List ℕ → Bool
+limitOutOfRange s = invariantOutOfRange s || guardOutOfRange s
 
 -- "the smallest of 1 to 8 that applies", and 0 where none does
 unfoldable pub refusalOf : List ℕ → ℕ
@@ -137,8 +137,8 @@ refusalOf s =
     cond (ltb (length s) 11) 1
     (cond (not (eqb (lengthField s) (length s))) 2
     (cond (not (eqb (version s) 1)) 3
-    (cond (oversize s) 4
+    (cond (countsOutOfRange s) 4
     (cond (not (eqb (lengthField s) (formula s))) 5
-    (cond (noSuchPlace s) 6
+    (cond (noSuchLocation s) 6
     (cond (noSuchClock s) 7
-    (cond (offScale s) 8 0)))))))
+    (cond (limitOutOfRange s) 8 0)))))))

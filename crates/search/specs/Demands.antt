@@ -7,8 +7,7 @@ use Rattle.search.specs.declared.verdict.Answer.{Answer}
 use Rattle.search.specs.declared.verdict.Answer.the-variants.{Found, Refused}
 use Rattle.search.specs.declared.verdict.Verdict.the-variants.{Reached, Holds}
 use Rattle.search.specs.Automata.{refusalOf}
-use Rattle.search.specs.Exploring.{ZoneNode}
-use Rattle.search.specs.Instance.{zonesOf, meaningOf}
+use Rattle.search.specs.Instance.{ZoneNode, zonesOf, meaningOf}
 use Rattle.search.specs.Meaning.{Hit, SameSet}
 use Rattle.search.specs.Runs.{Step, Run, StandsIn, first}
 use Rattle.search.specs.Search.{Nth}

@@ -5,23 +5,17 @@ use mathlib.Core.Bool.{false, true}
 use mathlib.Core.List.{List}
 use lib.IntN.{ℤ, pos}
 use lib.ListN.{length, getD, drop}
-use Rattle.zones.specs.declared.fraction.Fraction.{Fraction}
 use Rattle.zones.specs.declared.pair.Pair.{Pair}
 use Rattle.zones.specs.declared.reduction.Reduced.{Reduced}
 use Rattle.zones.specs.Fractions.{noLimit}
 use Rattle.zones.specs.Ranges.{Ranged, Sized, Fits32, scale, counts, lastCounts}
 use Rattle.search.specs.declared.exploration.Turn.{Turn}
 use Rattle.search.specs.Automata.{clocks, locations}
-use Rattle.search.specs.Instance.{workOf}
-use Rattle.search.specs.Search.{Node, State, Nth}
-use Rattle.search.specs.Slots.{slotLength, withinSlots, Framed}
+use Rattle.search.specs.Instance.{ZoneNode, ZoneState, workOf}
+use Rattle.search.specs.Search.{Nth}
+use Rattle.search.specs.Slots.{slotLength}
+use Rattle.search.specs.Decoding.{withinSlots, Framed}
 use Rattle.search.specs.Store.{storeOf}
-
-abbrev pub ZoneState : Type 0
-ZoneState = State (List Pair) Fraction
-
-abbrev pub ZoneNode : Type 0
-ZoneNode = Node (List Pair)
 
 -- ---- slot j, of the same location as the new one, contains it
 pub record Hits (n : ℕ) (new s : List ℤ) (j : ℕ) : Type 0 where

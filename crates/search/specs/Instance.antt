@@ -19,7 +19,7 @@ use Rattle.zones.specs.Values.{Below}
 use Rattle.zones.specs.Zones.{firstWork}
 use Rattle.search.specs.Automata.{clocks, start, to, invariantOf, guardOf, resetsOf}
 use Rattle.search.specs.Meaning.{Meaning}
-use Rattle.search.specs.Search.{Result, empty, zone, Zones, State, search}
+use Rattle.search.specs.Search.{Result, empty, zone, Zones, Node, State, search}
 use Rattle.search.specs.Semantics.{Valuation, ticks, systemOf}
 
 abbrev pub workOf : List Pair → Fraction → Work
@@ -53,8 +53,14 @@ zonesOf b =
       big = overcounted b;
     }
 
+abbrev pub ZoneNode : Type 0
+ZoneNode = Node (List Pair)
+
+abbrev pub ZoneState : Type 0
+ZoneState = State (List Pair) Fraction
+
 -- the search of the automaton b in a store of `capacity` slots
-abbrev pub searchOf : List ℕ → ℕ → State (List Pair) Fraction
+abbrev pub searchOf : List ℕ → ℕ → ZoneState
 searchOf b capacity = search (systemOf b) (zonesOf b) capacity
 
 -- ---- what its zones mean

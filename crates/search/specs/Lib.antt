@@ -14,5 +14,7 @@ pub mod Demands
 pub mod Given
 pub mod Promised
 pub mod Examples
+pub mod Laws
+pub mod Decoding
 pub mod Exploring
 pub mod Opened

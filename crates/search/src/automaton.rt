@@ -4,7 +4,7 @@ ghost use Prim.Native.Nat.{_+_, _*_, _^_, _≤_, _<_};
 ghost use lib.ListN.{length};
 ghost use Rattle.search.specs.Accepted.{Complete};
 ghost use Rattle.search.specs.Automata.{be16At, be32At, clocks, locations, edges, start, target, invariantAt, edgeAt, from, to, resetByte, resetSet, loAt, hiAt};
-ghost use Rattle.search.specs.Automata.{oversize, misplaced, noSuchPlace, noSuchClock, outOfRange, offScaleAt, invariantOffScale, guardOffScale, refusalOf};
+ghost use Rattle.search.specs.Automata.{countsOutOfRange, misplaced, noSuchLocation, noSuchClock, outOfRange, outOfRangeAt, invariantOutOfRange, guardOutOfRange, refusalOf};
 ghost use Rattle.search.specs.Opened.{edgeOf, limitsOf};
 
 const VERSION: u8 = 1;
@@ -210,9 +210,9 @@ impl Limits {
 }
 
 // ---- the refusals
-fn oversize(automaton: &[u8]) -> bool
+fn counts_out_of_range(automaton: &[u8]) -> bool
     requires { ⌜ 11 ≤ length (now automaton) ⌝ }
-    ensures { λ r. ⌜ r ≡ oversize (now (automaton .entry)) ⌝ }
+    ensures { λ r. ⌜ r ≡ countsOutOfRange (now (automaton .entry)) ⌝ }
 {
     let n = clocks(automaton);
     let m = locations(automaton);
@@ -241,9 +241,9 @@ fn misplaced(m: usize, a: usize, b: usize) -> bool
     m <= b
 }
 
-fn no_such_place(automaton: &[u8]) -> bool
+fn no_such_location(automaton: &[u8]) -> bool
     requires { ⌜ Complete (now automaton) ⌝ }
-    ensures { λ r. ⌜ r ≡ noSuchPlace (now (automaton .entry)) ⌝ }
+    ensures { λ r. ⌜ r ≡ noSuchLocation (now (automaton .entry)) ⌝ }
 {
     let m = locations(automaton);
     if misplaced(m, start(automaton), target(automaton)) {
@@ -299,10 +299,10 @@ fn out_of_range(may_lack: bool, lo: u32, hi: u32) -> bool
 }
 
 // Whether one of the limits at `at` is out of range.
-fn off_scale_at(automaton: &[u8], may_lack: bool, at: usize) -> bool
+fn out_of_range_at(automaton: &[u8], may_lack: bool, at: usize) -> bool
     requires { ⌜ 11 ≤ length (now automaton) ⌝ }
     requires { ⌜ at + 8 * clocks (now automaton) ≤ length (now automaton) ⌝ }
-    ensures { λ r. ⌜ r ≡ offScaleAt (now (automaton .entry)) «may_lack» at ⌝ }
+    ensures { λ r. ⌜ r ≡ outOfRangeAt (now (automaton .entry)) «may_lack» at ⌝ }
 {
     let mut x = clocks(automaton);
     while 0 < x {
@@ -314,28 +314,28 @@ fn off_scale_at(automaton: &[u8], may_lack: bool, at: usize) -> bool
     false
 }
 
-fn invariant_off_scale(automaton: &[u8]) -> bool
+fn invariant_out_of_range(automaton: &[u8]) -> bool
     requires { ⌜ Complete (now automaton) ⌝ }
-    ensures { λ r. ⌜ r ≡ invariantOffScale (now (automaton .entry)) ⌝ }
+    ensures { λ r. ⌜ r ≡ invariantOutOfRange (now (automaton .entry)) ⌝ }
 {
     let mut l = locations(automaton);
     while 0 < l {
         l -= 1;
-        if off_scale_at(automaton, false, invariant_at(automaton, l)) {
+        if out_of_range_at(automaton, false, invariant_at(automaton, l)) {
             return true;
         }
     }
     false
 }
 
-fn guard_off_scale(automaton: &[u8]) -> bool
+fn guard_out_of_range(automaton: &[u8]) -> bool
     requires { ⌜ Complete (now automaton) ⌝ }
-    ensures { λ r. ⌜ r ≡ guardOffScale (now (automaton .entry)) ⌝ }
+    ensures { λ r. ⌜ r ≡ guardOutOfRange (now (automaton .entry)) ⌝ }
 {
     let mut i = edges(automaton);
     while 0 < i {
         i -= 1;
-        if off_scale_at(automaton, true, edge_at(automaton, i) + 3) {
+        if out_of_range_at(automaton, true, edge_at(automaton, i) + 3) {
             return true;
         }
     }
@@ -356,22 +356,22 @@ pub fn refusal(automaton: &[u8]) -> u32
     if automaton[4] != VERSION {
         return 3;
     }
-    if oversize(automaton) {
+    if counts_out_of_range(automaton) {
         return 4;
     }
     if length != edge_at(automaton, edges(automaton)) {
         return 5;
     }
-    if no_such_place(automaton) {
+    if no_such_location(automaton) {
         return 6;
     }
     if no_such_clock(automaton) {
         return 7;
     }
-    if invariant_off_scale(automaton) {
+    if invariant_out_of_range(automaton) {
         return 8;
     }
-    if guard_off_scale(automaton) {
+    if guard_out_of_range(automaton) {
         return 8;
     }
     0

@@ -18,7 +18,6 @@ use zones::pair::Pair;
 use zones::reduction::Reduced;
 use zones::zone::Work;
 ghost use mathlib.Core.Path.{_≡_};
-ghost use mathlib.Core.Bool.{false};
 ghost use mathlib.Core.List.{List};
 ghost use Prim.Native.Nat.{ℕ, suc, _+_, _*_, _≤_, _<_};
 ghost use lib.ListN.{length};
@@ -27,13 +26,14 @@ ghost use Rattle.search.specs.Accepted.{Accepted};
 ghost use Rattle.search.specs.Automata.{clocks, edges, locations, start, target};
 ghost use Rattle.search.specs.Exploring.{FirstHit, Shown, SoundResult, SoundZone, Gives, Continues, InProgress, Going};
 ghost use Rattle.search.specs.Instance.{resultOf, zonesOf};
-ghost use Rattle.search.specs.Search.{State, offer, expand, take-from, zone};
+ghost use Rattle.search.specs.Search.{offer, expand, take-from, zone};
 ghost use Rattle.search.specs.Semantics.{systemOf};
-ghost use Rattle.search.specs.Slots.{slotLength, Framed};
+ghost use Rattle.search.specs.Slots.{slotLength};
+ghost use Rattle.search.specs.Decoding.{Framed};
 ghost use Rattle.search.specs.Store.{capacityOf};
 ghost use Rattle.search.specs.Verdicts.{stateOf};
 
-// A kept zone whose error count is larger is refused by 9.
+// A zone to be kept whose error count is larger is refused by 9.
 const COUNTS: u64 = 65535;
 
 // The most slots that are used.

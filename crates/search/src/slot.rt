@@ -6,7 +6,8 @@ ghost use lib.ListN.{length, getD, take, drop, set, replicate};
 ghost use lib.IntN.{pos};
 ghost use lib.Signed.{_≤ℤ_};
 ghost use Rattle.zones.specs.Ranges.{AllBounded, Bounded, scale, lastCounts};
-ghost use Rattle.search.specs.Slots.{slotLength, slotOf, slotPair, zoneOf, withinSlots};
+ghost use Rattle.search.specs.Slots.{slotLength, slotOf};
+ghost use Rattle.search.specs.Decoding.{slotPair, zoneOf, withinSlots};
 
 // The number of numbers of a slot, for a zone of `size` indices.
 pub fn slot_length(size: usize) -> usize

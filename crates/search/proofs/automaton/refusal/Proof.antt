@@ -7,7 +7,7 @@ use lib.ListN.{length}
 use native.Mathlib.Omega.{arith}
 use borrow.Author.Needs.{needs}
 use Rattle.search.specs.Accepted.{Complete}
-use Rattle.search.specs.Automata.{be16At, edgeAt, formula, oversize, noSuchPlace, noSuchClock, guardOffScale, offScale, refusalOf}
+use Rattle.search.specs.Automata.{be16At, edgeAt, formula, countsOutOfRange, noSuchLocation, noSuchClock, guardOutOfRange, limitOutOfRange, refusalOf}
 use Rattle.search.proofs.Refusals.{complete, refusal-1, refusal-2, refusal-3, refusal-4, refusal-5, refusal-rest}
 use Rattle.search.proofs.automaton.refusal.Statement.{statement}
 use Rattle.search.proofs.automaton.refusal.Tie as tie
@@ -22,13 +22,13 @@ returns-3 : tie.Need-returns-3
 returns-3 c = sym (refusal-3 _ (omega arith) (omega arith) (omega arith))
 
 returns-4 : tie.Need-returns-4
-returns-4 c = sym (refusal-4 _ (omega arith) (omega arith) (omega arith) (sym (c .before .oversize .ensures) ∙ c .if4 .taken))
+returns-4 c = sym (refusal-4 _ (omega arith) (omega arith) (omega arith) (sym (c .before .counts-out-of-range .ensures) ∙ c .if4 .taken))
 
 abbrev s4 : tie.Else4 → List ℕ
 s4 c = c .before .before .before .before .before .before .before .before .args .automaton .now
 
-sized : (c : tie.Else4) → oversize (s4 c) ≡ false
-sized c = sym (c .before .oversize .ensures) ∙ c .if4 .left
+sized : (c : tie.Else4) → countsOutOfRange (s4 c) ≡ false
+sized c = sym (c .before .counts-out-of-range .ensures) ∙ c .if4 .left
 
 edge-at-requires : tie.Need-edge-at-requires
 unfolding be16At
@@ -56,23 +56,23 @@ size c = c .if5 .left ∙ c .before .edge-at .ensures ∙ ap (edgeAt (s5 c)) (c 
 whole : (c : tie.Else5) → Complete (s5 c)
 whole c = complete _ (omega arith) (sized (c .before .before .before)) (size c)
 
-left-5 : (c : tie.Else5) → refusalOf (s5 c) ≡ cond (noSuchPlace (s5 c)) 6 (cond (noSuchClock (s5 c)) 7 (cond (offScale (s5 c)) 8 0))
+left-5 : (c : tie.Else5) → refusalOf (s5 c) ≡ cond (noSuchLocation (s5 c)) 6 (cond (noSuchClock (s5 c)) 7 (cond (limitOutOfRange (s5 c)) 8 0))
 left-5 c = refusal-rest _ (omega arith) (omega arith) (omega arith) (sized (c .before .before .before)) (size c)
 
-left-6 : (c : tie.Else6) → refusalOf (s6 c) ≡ cond (noSuchClock (s6 c)) 7 (cond (offScale (s6 c)) 8 0)
-left-6 c = left-5 (c .before .before) ∙ rw (sym (c .before .no-such-place .ensures) ∙ c .if6 .left)
+left-6 : (c : tie.Else6) → refusalOf (s6 c) ≡ cond (noSuchClock (s6 c)) 7 (cond (limitOutOfRange (s6 c)) 8 0)
+left-6 c = left-5 (c .before .before) ∙ rw (sym (c .before .no-such-location .ensures) ∙ c .if6 .left)
 
-left-7 : (c : tie.Else7) → refusalOf (s7 c) ≡ cond (offScale (s7 c)) 8 0
+left-7 : (c : tie.Else7) → refusalOf (s7 c) ≡ cond (limitOutOfRange (s7 c)) 8 0
 left-7 c = left-6 (c .before .before) ∙ rw (sym (c .before .no-such-clock .ensures) ∙ c .if7 .left)
 
-left-8 : (c : tie.Else8) → refusalOf (s8 c) ≡ cond (guardOffScale (s8 c)) 8 0
-left-8 c = left-7 (c .before .before) ∙ rw (sym (c .before .invariant-off-scale .ensures) ∙ c .if8 .left)
+left-8 : (c : tie.Else8) → refusalOf (s8 c) ≡ cond (guardOutOfRange (s8 c)) 8 0
+left-8 c = left-7 (c .before .before) ∙ rw (sym (c .before .invariant-out-of-range .ensures) ∙ c .if8 .left)
 
-no-such-place-requires : tie.Need-no-such-place-requires
-no-such-place-requires c κs = whole c
+no-such-location-requires : tie.Need-no-such-location-requires
+no-such-location-requires c κs = whole c
 
 returns-6 : tie.Need-returns-6
-returns-6 c = sym (left-5 (c .before .before) ∙ rw (sym (c .before .no-such-place .ensures) ∙ c .if6 .taken))
+returns-6 c = sym (left-5 (c .before .before) ∙ rw (sym (c .before .no-such-location .ensures) ∙ c .if6 .taken))
 
 no-such-clock-requires : tie.Need-no-such-clock-requires
 no-such-clock-requires c κs = whole (c .before .before)
@@ -80,20 +80,20 @@ no-such-clock-requires c κs = whole (c .before .before)
 returns-7 : tie.Need-returns-7
 returns-7 c = sym (left-6 (c .before .before) ∙ rw (sym (c .before .no-such-clock .ensures) ∙ c .if7 .taken))
 
-invariant-off-scale-requires : tie.Need-invariant-off-scale-requires
-invariant-off-scale-requires c κs = whole (c .before .before .before .before)
+invariant-out-of-range-requires : tie.Need-invariant-out-of-range-requires
+invariant-out-of-range-requires c κs = whole (c .before .before .before .before)
 
 returns-8 : tie.Need-returns-8
-returns-8 c = sym (left-7 (c .before .before) ∙ rw (sym (c .before .invariant-off-scale .ensures) ∙ c .if8 .taken))
+returns-8 c = sym (left-7 (c .before .before) ∙ rw (sym (c .before .invariant-out-of-range .ensures) ∙ c .if8 .taken))
 
-guard-off-scale-requires : tie.Need-guard-off-scale-requires
-guard-off-scale-requires c κs = whole (c .before .before .before .before .before .before)
+guard-out-of-range-requires : tie.Need-guard-out-of-range-requires
+guard-out-of-range-requires c κs = whole (c .before .before .before .before .before .before)
 
 returns-9 : tie.Need-returns-9
-returns-9 c = sym (left-8 (c .before .before) ∙ rw (sym (c .before .guard-off-scale .ensures) ∙ c .if9 .taken))
+returns-9 c = sym (left-8 (c .before .before) ∙ rw (sym (c .before .guard-out-of-range .ensures) ∙ c .if9 .taken))
 
 returns-10 : tie.Need-returns-10
-returns-10 c = sym (left-8 (c .before .before) ∙ rw (sym (c .before .guard-off-scale .ensures) ∙ c .if9 .left))
+returns-10 c = sym (left-8 (c .before .before) ∙ rw (sym (c .before .guard-out-of-range .ensures) ∙ c .if9 .left))
 
 pub refusal-spec : {M : Type 1} → statement M
 refusal-spec =
@@ -110,12 +110,12 @@ refusal-spec =
     (λ c κs. search needs)
     edge-at-requires
     returns-5
-    no-such-place-requires
+    no-such-location-requires
     returns-6
     no-such-clock-requires
     returns-7
-    invariant-off-scale-requires
+    invariant-out-of-range-requires
     returns-8
-    guard-off-scale-requires
+    guard-out-of-range-requires
     returns-9
     returns-10)

@@ -9,7 +9,8 @@ use native.Mathlib.Omega.{arith}
 use Rattle.search.specs.Automata.{clocks, edges}
 use Rattle.search.specs.declared.automaton.Counts.{Counts}
 use Rattle.search.specs.declared.automaton.Edge.{Edge}
-use Rattle.search.specs.Exploring.{ZoneState, SoundState, Shown}
+use Rattle.search.specs.Exploring.{SoundState, Shown}
+use Rattle.search.specs.Instance.{ZoneState}
 use Rattle.search.proofs.Expanding.{shown-length, Between, begins, passes, taken-sized, result-sound, goes-on, offered-length, stops, between-progress, ends}
 use Rattle.search.proofs.exploration.expand.Statement.{statement}
 use Rattle.search.proofs.exploration.expand.Tie as tie

@@ -7,7 +7,8 @@ use lib.IntN.{ℤ}
 use lib.ListN.{length}
 use native.Mathlib.Omega.{arith}
 use Rattle.search.specs.Automata.{clocks}
-use Rattle.search.specs.Exploring.{ZoneState, SoundState, Shown}
+use Rattle.search.specs.Exploring.{SoundState, Shown}
+use Rattle.search.specs.Instance.{ZoneState}
 use Rattle.search.specs.Slots.{slotLength}
 use Rattle.search.proofs.Expanding.{shown-length}
 use Rattle.search.proofs.Taking.{reads-location, read-location, Onward, Turned, begins, ends, onward, few, slot-inside, location, asks-decode, sound-zone, turned}

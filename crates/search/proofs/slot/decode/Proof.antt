@@ -4,7 +4,7 @@ use Prim.Native.Nat.{_*_, _-_, _≤_}
 use mathlib.Core.Path.{_≡_, refl, _∙_}
 use mathlib.Core.Logic.{⊎-elim}
 use native.Mathlib.Omega.{arith}
-use Rattle.search.specs.Slots.{counted, squareTo}
+use Rattle.search.specs.Decoding.{counted, squareTo}
 use Rattle.search.proofs.Turns.{few, counts-in, counts-out, decode-in, decode-out, decode-all}
 use Rattle.search.proofs.slot.decode.Statement.{statement}
 use Rattle.search.proofs.slot.decode.Tie as tie

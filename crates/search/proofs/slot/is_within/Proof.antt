@@ -5,7 +5,7 @@ use mathlib.Core.Path.{_≡_, refl, sym}
 use mathlib.Core.Bool.{true}
 use mathlib.Core.Logic.{⊎-elim}
 use native.Mathlib.Omega.{arith}
-use Rattle.search.specs.Slots.{withinSlots}
+use Rattle.search.specs.Decoding.{withinSlots}
 use Rattle.search.proofs.Turns.{stops-m, stops-p, goes-m, goes-p}
 use Rattle.search.proofs.slot.is_within.Statement.{statement}
 use Rattle.search.proofs.slot.is_within.Tie as tie

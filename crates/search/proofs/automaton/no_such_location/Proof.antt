@@ -4,16 +4,16 @@ use mathlib.Core.Bool.{Bool}
 use mathlib.Core.List.{List}
 use mathlib.Core.Path.{_≡_, sym, _∙_}
 use native.Mathlib.Omega.{arith}
-use Rattle.search.specs.Automata.{locations, edges, start, target, from, to, misplaced, noSuchPlace}
+use Rattle.search.specs.Automata.{locations, edges, start, target, from, to, misplaced, noSuchLocation}
 use Rattle.search.proofs.Some.{Down, begins, found, passed, ends}
-use Rattle.search.proofs.automaton.no_such_place.Statement.{statement}
-use Rattle.search.proofs.automaton.no_such_place.Tie as tie
+use Rattle.search.proofs.automaton.no_such_location.Statement.{statement}
+use Rattle.search.proofs.automaton.no_such_location.Tie as tie
 
 abbrev astray : List ℕ → ℕ → Bool
 astray s i = misplaced (locations s) (from s i) (to s i)
 
 abbrev Inv-loop : tie.InvT-loop
-Inv-loop automaton m i₀ i = Down (edges automaton) (noSuchPlace automaton) (astray automaton) i
+Inv-loop automaton m i₀ i = Down (edges automaton) (noSuchLocation automaton) (astray automaton) i
 
 abbrev μ-loop : tie.MeasureT-loop
 μ-loop automaton m i₀ i = i
@@ -45,8 +45,8 @@ loop-again c = passed (c .before .before .before .before .before .loop .inv) (om
 returns-3 : tie.Need-returns-3 Inv-loop μ-loop
 returns-3 c = ends (c .before .loop .inv) (c .loop-test .left)
 
-pub no-such-place-spec : {M : Type 1} → statement M
-no-such-place-spec =
+pub no-such-location-spec : {M : Type 1} → statement M
+no-such-location-spec =
     tie.close
     (tie.spec
     Inv-loop

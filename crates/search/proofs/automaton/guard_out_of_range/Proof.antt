@@ -5,17 +5,17 @@ use mathlib.Core.List.{List}
 use mathlib.Core.Path.{_≡_, refl, sym, _∙_}
 use lib.ListN.{length}
 use native.Mathlib.Omega.{arith}
-use Rattle.search.specs.Automata.{clocks, edges, edgeAt, offScaleAt, guardOffScale}
+use Rattle.search.specs.Automata.{clocks, edges, edgeAt, outOfRangeAt, guardOutOfRange}
 use Rattle.search.proofs.Places.{edge-within}
 use Rattle.search.proofs.Some.{Down, begins, found, passed, ends}
-use Rattle.search.proofs.automaton.guard_off_scale.Statement.{statement}
-use Rattle.search.proofs.automaton.guard_off_scale.Tie as tie
+use Rattle.search.proofs.automaton.guard_out_of_range.Statement.{statement}
+use Rattle.search.proofs.automaton.guard_out_of_range.Tie as tie
 
 abbrev out : List ℕ → ℕ → Bool
-out s i = offScaleAt s true (edgeAt s i + 3)
+out s i = outOfRangeAt s true (edgeAt s i + 3)
 
 abbrev Inv-loop : tie.InvT-loop
-Inv-loop automaton i₀ i = Down (edges automaton) (guardOffScale automaton) (out automaton) i
+Inv-loop automaton i₀ i = Down (edges automaton) (guardOutOfRange automaton) (out automaton) i
 
 abbrev μ-loop : tie.MeasureT-loop
 μ-loop automaton i₀ i = i
@@ -27,14 +27,14 @@ loop-holds c = rw (c .edges .ensures) (begins refl)
 within : (c : tie.After-edge-at Inv-loop μ-loop) → let s = c .before .before .before .before .before .args .automaton .now in edgeAt s (c .before .before .loop .i - 1) + (3 + 8 * clocks s) ≤ length s
 within c = edge-within (c .before .before .before .before .before .args .automaton .now) (c .before .before .before .before .before .pre) (c .before .before .loop .i - 1) (omega arith)
 
-add-off-scale-at : tie.Need-add-off-scale-at Inv-loop μ-loop
-add-off-scale-at c = omega (arith, within c)
+add-out-of-range-at : tie.Need-add-out-of-range-at Inv-loop μ-loop
+add-out-of-range-at c = omega (arith, within c)
 
-off-scale-at-requires : tie.Need-off-scale-at-requires Inv-loop μ-loop
-off-scale-at-requires c κs = omega (arith, within c)
+out-of-range-at-requires : tie.Need-out-of-range-at-requires Inv-loop μ-loop
+out-of-range-at-requires c κs = omega (arith, within c)
 
-tested : (c : tie.After-off-scale-at Inv-loop μ-loop) → c .off-scale-at .result ≡ out (c .before .before .before .before .before .before .args .automaton .now) (c .before .before .before .loop .i - 1)
-tested c = rw (c .before .edge-at .ensures) at (c .off-scale-at .ensures)
+tested : (c : tie.After-out-of-range-at Inv-loop μ-loop) → c .out-of-range-at .result ≡ out (c .before .before .before .before .before .before .args .automaton .now) (c .before .before .before .loop .i - 1)
+tested c = rw (c .before .edge-at .ensures) at (c .out-of-range-at .ensures)
 
 returns : tie.Need-returns Inv-loop μ-loop
 returns c = found (c .before .before .before .before .loop .inv) (omega arith) (sym (tested (c .before)) ∙ c .if1 .taken)
@@ -45,8 +45,8 @@ loop-again c = passed (c .before .before .before .before .loop .inv) (omega arit
 returns-2 : tie.Need-returns-2 Inv-loop μ-loop
 returns-2 c = ends (c .before .loop .inv) (c .loop-test .left)
 
-pub guard-off-scale-spec : {M : Type 1} → statement M
-guard-off-scale-spec =
+pub guard-out-of-range-spec : {M : Type 1} → statement M
+guard-out-of-range-spec =
     tie.close
     (tie.spec
     Inv-loop
@@ -55,8 +55,8 @@ guard-off-scale-spec =
     loop-holds
     (λ c. omega arith)
     (λ c κs. omega arith)
-    add-off-scale-at
-    off-scale-at-requires
+    add-out-of-range-at
+    out-of-range-at-requires
     returns
     (λ c. omega arith)
     loop-again

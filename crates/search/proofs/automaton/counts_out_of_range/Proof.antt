@@ -3,8 +3,8 @@ use native.Mathlib.Omega.{arith}
 use borrow.Author.Needs.{needs}
 use borrow.Author.Tests.{lt-ltb, le-ltb, eq-eqb, ne-eqb}
 use Rattle.search.specs.Automata.{clocks, locations, edges}
-use Rattle.search.proofs.automaton.oversize.Statement.{statement}
-use Rattle.search.proofs.automaton.oversize.Tie as tie
+use Rattle.search.proofs.automaton.counts_out_of_range.Statement.{statement}
+use Rattle.search.proofs.automaton.counts_out_of_range.Tie as tie
 
 returns : tie.Need-returns
 returns c = let s = c .before .before .before .before .args .automaton .now in rw (eq-eqb (clocks s) 0 (omega arith))
@@ -21,8 +21,8 @@ returns-4 c = let s = c .before .before .before .before .before .before .before 
 returns-5 : tie.Need-returns-5
 returns-5 c = let s = c .before .before .before .before .before .before .before .before .args .automaton .now in rw (ne-eqb (clocks s) 0 (omega arith), le-ltb 8 (clocks s) (omega arith), ne-eqb (locations s) 0 (omega arith), le-ltb 64 (locations s) (omega arith), c .edges .ensures)
 
-pub oversize-spec : {M : Type 1} → statement M
-oversize-spec =
+pub counts-out-of-range-spec : {M : Type 1} → statement M
+counts-out-of-range-spec =
     tie.close
     (tie.spec
     (λ c κs. search needs)

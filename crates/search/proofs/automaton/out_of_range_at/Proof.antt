@@ -4,22 +4,22 @@ use mathlib.Core.Bool.{Bool}
 use mathlib.Core.List.{List}
 use mathlib.Core.Path.{_≡_, refl, sym, _∙_}
 use native.Mathlib.Omega.{arith}
-use Rattle.search.specs.Automata.{clocks, loAt, hiAt, outOfRange, offScaleAt}
+use Rattle.search.specs.Automata.{clocks, loAt, hiAt, outOfRange, outOfRangeAt}
 use Rattle.search.proofs.Some.{Down, begins, found, passed, ends}
-use Rattle.search.proofs.automaton.off_scale_at.Statement.{statement}
-use Rattle.search.proofs.automaton.off_scale_at.Tie as tie
+use Rattle.search.proofs.automaton.out_of_range_at.Statement.{statement}
+use Rattle.search.proofs.automaton.out_of_range_at.Tie as tie
 
 abbrev out : List ℕ → Bool → ℕ → ℕ → Bool
 out s mayLack at x = outOfRange mayLack (loAt s at (suc x)) (hiAt s at (suc x))
 
 abbrev Inv-loop : tie.InvT-loop
-Inv-loop automaton may-lack at x₀ x = Down (clocks automaton) (offScaleAt automaton may-lack at) (out automaton may-lack at) x
+Inv-loop automaton may-lack at x₀ x = Down (clocks automaton) (outOfRangeAt automaton may-lack at) (out automaton may-lack at) x
 
 abbrev μ-loop : tie.MeasureT-loop
 μ-loop automaton may-lack at x₀ x = x
 
 loop-holds : tie.Need-loop-holds Inv-loop μ-loop
-unfolding offScaleAt
+unfolding outOfRangeAt
 loop-holds c = rw (c .clocks .ensures) (begins refl)
 
 -- what the code asks of clock x is what the definition asks of suc (x - 1)
@@ -37,8 +37,8 @@ loop-again c = passed (c .before .before .before .before .before .loop .inv) (om
 returns-2 : tie.Need-returns-2 Inv-loop μ-loop
 returns-2 c = ends (c .before .loop .inv) (c .loop-test .left)
 
-pub off-scale-at-spec : {M : Type 1} → statement M
-off-scale-at-spec =
+pub out-of-range-at-spec : {M : Type 1} → statement M
+out-of-range-at-spec =
     tie.close
     (tie.spec
     Inv-loop
