@@ -15,7 +15,8 @@ use native.Mathlib.Nat.{not-suc-le-zero}
 use native.Mathlib.Omega.{arith}
 use Rattle.zones.specs.declared.pair.Pair.{Pair}
 use Rattle.zones.specs.Containment.{placeOf, withinTo, within}
-use Rattle.zones.specs.Integers.{up, le-make}
+use Rattle.zones.specs.Integers.{up}
+use Rattle.zones.proofs.Integers.{le-make}
 use Rattle.zones.specs.Pairs.{zeroPair, atMost, isLess, smallerOf}
 use Rattle.zones.specs.Reductions.{reduceOf}
 use Rattle.zones.specs.Zones.{Limits, pairAt, entry, firstWork, lowerAt, meetLimits, raiseLimits, home, resetPlaces, resetOf}

@@ -8,7 +8,7 @@ use lib.Dec.{T}
 use mir.Syntax.{w32, w64}
 use mir.Val.{Fits, SFits, ofZ, toZ}
 use lib.Signed.{_≤ℤ_, nonNeg}
-use Rattle.zones.specs.Integers.{le-make}
+use Rattle.zones.proofs.Integers.{le-make}
 use lib.ListN.{length, getD, take, drop, drop-of-length-le}
 use native.Mathlib.Omega.{arith}
 use Rattle.zones.specs.declared.pair.Pair.{Pair}

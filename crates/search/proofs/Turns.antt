@@ -16,7 +16,8 @@ use native.Mathlib.Nat.{zero-add, mul-le-mul}
 use native.Mathlib.Numerals.{add-one}
 use native.Mathlib.Omega.{arith}
 use Rattle.zones.specs.declared.pair.Pair.{Pair}
-use Rattle.zones.specs.Integers.{up, int, ltZ-false, le-ltZ, abs-fits}
+use Rattle.zones.specs.Integers.{up}
+use Rattle.zones.proofs.Integers.{int, ltZ-false, le-ltZ, abs-fits}
 use Rattle.zones.specs.Containment.{placeOf}
 use Rattle.zones.specs.Ranges.{AllBounded, Bounded, scale, lastCounts}
 use Rattle.zones.specs.Zones.{pairAt}

@@ -12,7 +12,7 @@ use native.Mathlib.Decide.{decLt}
 use native.Mathlib.Nat.{mul-le-mul-right}
 use Rattle.zones.specs.declared.pair.Pair.{Pair}
 use Rattle.zones.specs.declared.zone.Work.{Work}
-use Rattle.zones.specs.Integers.{int, abs-law, neg-law}
+use Rattle.zones.proofs.Integers.{int, abs-law, neg-law}
 use Rattle.zones.specs.Pairs.{zeroPair, atMost, atLeast}
 use Rattle.zones.specs.Zones.{Limits, entry, home, firstWork, lowerAt, meetLimits, raiseLimits, resetOf}
 use Rattle.zones.specs.Reductions.{reduceOf}

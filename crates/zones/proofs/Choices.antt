@@ -11,7 +11,7 @@ use native.Mathlib.Omega.{arith}
 use Rattle.zones.specs.declared.fraction.Fraction.{Fraction}
 use Rattle.zones.specs.declared.pair.Pair.{Pair}
 use Rattle.zones.specs.declared.pair.Choice.{Choice}
-use Rattle.zones.specs.Integers.{int, ltZ-true, ltZ-false}
+use Rattle.zones.proofs.Integers.{int, ltZ-true, ltZ-false}
 use Rattle.zones.specs.Fractions.{noLimit, loweredBy}
 use Rattle.zones.specs.Pairs.{sumOf, isLess, thresholdOf, smallerOf}
 

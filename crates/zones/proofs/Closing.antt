@@ -13,7 +13,7 @@ use Rattle.zones.specs.declared.pair.Pair.{Pair}
 use Rattle.zones.specs.declared.pair.Choice.{Choice}
 use Rattle.zones.specs.declared.reduction.Reduced.{Reduced}
 use Rattle.zones.specs.declared.zone.Work.{Work}
-use Rattle.zones.specs.Integers.{int, ltZ-true}
+use Rattle.zones.proofs.Integers.{int, ltZ-true}
 use Rattle.zones.specs.Pairs.{sumOf}
 use Rattle.zones.specs.Zones.{entry}
 use Rattle.zones.specs.Reductions.{relaxed, rowSteps, roundSteps, emptyIn, afterMiddle, reduceSteps}

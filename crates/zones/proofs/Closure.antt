@@ -11,7 +11,7 @@ use native.Mathlib.Decide.{ℕ-discrete}
 use native.Mathlib.Nat.{not-suc-le-zero}
 use Rattle.zones.specs.declared.pair.Pair.{Pair}
 use Rattle.zones.specs.declared.zone.Work.{Work}
-use Rattle.zones.specs.Integers.{int, sum-law, neg-law, abs-within}
+use Rattle.zones.proofs.Integers.{int, sum-law, neg-law, abs-within}
 use Rattle.zones.specs.Pairs.{sumOf}
 use Rattle.zones.specs.Zones.{entry}
 use Rattle.zones.specs.Reductions.{roundSteps, reduceSteps}

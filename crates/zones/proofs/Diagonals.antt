@@ -13,7 +13,8 @@ use native.Mathlib.Omega.{arith}
 use Rattle.zones.specs.declared.fraction.Fraction.{Fraction}
 use Rattle.zones.specs.declared.pair.Pair.{Pair}
 use Rattle.zones.specs.declared.zone.Work.{Work}
-use Rattle.zones.specs.Integers.{up, down, int, le-read, lt-read, ltZ-true}
+use Rattle.zones.specs.Integers.{up, down}
+use Rattle.zones.proofs.Integers.{int, le-read, lt-read, ltZ-true}
 use Rattle.zones.specs.Pairs.{zeroPair, isLess, thresholdOf, smallerOf}
 use Rattle.zones.specs.Zones.{entry, lowerAt}
 use Rattle.zones.specs.Values.{valueOf, Below}

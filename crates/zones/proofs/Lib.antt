@@ -1,4 +1,5 @@
 -- The theory of zones, each file ending in what it is named for.
+pub mod Integers
 pub mod Choices
 pub mod Order
 pub mod Places

@@ -8,7 +8,7 @@ use lib.Signed.{_≤ℤ_}
 use native.Mathlib.Omega.{arith}
 use Rattle.zones.specs.declared.pair.Pair.{Pair}
 use Rattle.zones.specs.declared.zone.Work.{Work}
-use Rattle.zones.specs.Integers.{int}
+use Rattle.zones.proofs.Integers.{int}
 use Rattle.zones.specs.Pairs.{smallerOf}
 use Rattle.zones.specs.Zones.{entry, lowerAt}
 use Rattle.zones.specs.Values.{valueOf, Below}

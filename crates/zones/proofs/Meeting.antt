@@ -8,7 +8,8 @@ use lib.IntN.{pos}
 use native.Mathlib.Omega.{arith}
 use Rattle.zones.specs.declared.pair.Pair.{Pair}
 use Rattle.zones.specs.declared.zone.Work.{Work}
-use Rattle.zones.specs.Integers.{up, down, int, le-read, neg-law}
+use Rattle.zones.specs.Integers.{up, down}
+use Rattle.zones.proofs.Integers.{int, le-read, neg-law}
 use Rattle.zones.specs.Pairs.{zeroPair, atMost, atLeast}
 use Rattle.zones.specs.Zones.{Limits, entry, lowerAt, meetUpper, meetClock, meetLimits}
 use Rattle.zones.specs.Values.{valueOf, Below}

@@ -10,7 +10,7 @@ use Rattle.zones.specs.declared.fraction.Fraction.{Fraction}
 use Rattle.zones.specs.declared.pair.Pair.{Pair}
 use Rattle.zones.specs.declared.reduction.Reduced.{Reduced}
 use Rattle.zones.specs.declared.zone.Work.{Work}
-use Rattle.zones.specs.Integers.{int, le-read}
+use Rattle.zones.proofs.Integers.{int, le-read}
 use Rattle.zones.specs.Pairs.{atMost}
 use Rattle.zones.specs.Zones.{Limits, home, meetLimits}
 use Rattle.zones.specs.Reductions.{reduceSteps}

@@ -10,7 +10,8 @@ use lib.IntN.{pos}
 use lib.Signed.{_≤ℤ_, ltZ}
 use native.Mathlib.Omega.{arith}
 use native.Mathlib.Nat.{mul-le-mul-right}
-use Rattle.zones.specs.Integers.{up, down, int, le-read, lt-read, sum-law, ltZ-true, ltZ-false}
+use Rattle.zones.specs.Integers.{up, down}
+use Rattle.zones.proofs.Integers.{int, le-read, lt-read, sum-law, ltZ-true, ltZ-false}
 use Rattle.zones.specs.declared.pair.Pair.{Pair}
 use Rattle.zones.specs.Pairs.{sumOf, isLess, thresholdOf, smallerOf}
 use Rattle.zones.proofs.Choices.{true-false, smaller-cases}

@@ -12,7 +12,7 @@ use native.Mathlib.Decide.{ℕ-discrete, le-ind}
 use native.Mathlib.Nat.{not-suc-le-zero}
 use Rattle.zones.specs.declared.reduction.Reduced.{Reduced}
 use Rattle.zones.specs.declared.zone.Work.{Work}
-use Rattle.zones.specs.Integers.{ltZ-false}
+use Rattle.zones.proofs.Integers.{ltZ-false}
 use Rattle.zones.specs.Zones.{entry}
 use Rattle.zones.specs.Reductions.{roundSteps, emptyIn, afterMiddle, reduceSteps}
 use Rattle.zones.proofs.Choices.{true-false}

@@ -13,7 +13,8 @@ use Rattle.zones.specs.declared.pair.Pair.{Pair}
 use Rattle.zones.specs.declared.reduction.Reduced.{Reduced}
 use Rattle.zones.specs.declared.zone.Bounds.{Bounds}
 use Rattle.zones.specs.declared.zone.Work.{Work}
-use Rattle.zones.specs.Integers.{up, down, abs-law, abs-gap, neg-law}
+use Rattle.zones.specs.Integers.{up, down}
+use Rattle.zones.proofs.Integers.{abs-law, abs-gap, neg-law}
 use Rattle.zones.specs.Fractions.{loweredBy}
 use Rattle.zones.specs.Pairs.{atMost, atLeast, sumOf, smallerOf, thresholdOf}
 use Rattle.zones.specs.Zones.{entry, lowerAt, upperMet}

@@ -14,7 +14,8 @@ use native.Mathlib.Decide.{ℕ-discrete}
 use native.Mathlib.Nat.{not-suc-le-zero, mul-le-mul-right}
 use Rattle.zones.specs.declared.pair.Pair.{Pair}
 use Rattle.zones.specs.declared.zone.Work.{Work}
-use Rattle.zones.specs.Integers.{up, down, le-read, sum-law, one-side}
+use Rattle.zones.specs.Integers.{up, down}
+use Rattle.zones.proofs.Integers.{le-read, sum-law, one-side}
 use Rattle.zones.specs.Pairs.{sumOf, isLess}
 use Rattle.zones.specs.Ranges.{Spread}
 use Rattle.zones.specs.Zones.{entry}

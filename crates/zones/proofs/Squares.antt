@@ -9,7 +9,8 @@ use native.Mathlib.Decide.{ℕ-discrete}
 use native.Mathlib.Nat.{not-suc-le-zero}
 use lib.IntN.{ℤ, pos, _+ℤ_, _-ℤ_}
 use lib.Signed.{_≤ℤ_, _<ℤ_}
-use Rattle.zones.specs.Integers.{up, down, int, le-read, eq-read, sum-law, minus-law, one-side, lt-or-le}
+use Rattle.zones.specs.Integers.{up, down}
+use Rattle.zones.proofs.Integers.{int, le-read, eq-read, sum-law, minus-law, one-side, lt-or-le}
 use Rattle.zones.specs.Zones.{home}
 use Rattle.zones.specs.Sets.{Square, Gap, In, Put, Waits}
 use Rattle.zones.specs.Moves.{Way, Closed}

@@ -14,7 +14,7 @@ use native.Mathlib.Nat.{not-suc-le-zero}
 use Rattle.zones.specs.declared.fraction.Fraction.{Fraction}
 use Rattle.zones.specs.declared.pair.Pair.{Pair}
 use Rattle.zones.specs.declared.zone.Work.{Work}
-use Rattle.zones.specs.Integers.{int, eq-read}
+use Rattle.zones.proofs.Integers.{int, eq-read}
 use Rattle.zones.specs.Fractions.{loweredBy}
 use Rattle.zones.specs.Pairs.{thresholdOf}
 use Rattle.zones.specs.Zones.{pairAt, entry, firstWork}

@@ -7,7 +7,7 @@ use lib.ListN.{length}
 use native.Mathlib.Omega.{arith}
 use Rattle.zones.specs.declared.reduction.Reduced.{Reduced}
 use Rattle.zones.specs.declared.zone.Work.{Work}
-use Rattle.zones.specs.Integers.{eq-read, sum-law}
+use Rattle.zones.proofs.Integers.{eq-read, sum-law}
 use Rattle.zones.specs.Pairs.{sumOf}
 use Rattle.zones.specs.Zones.{entry, lowerAt}
 use Rattle.zones.specs.Reductions.{relaxed, rowSteps, roundSteps, afterMiddle, reduceSteps}

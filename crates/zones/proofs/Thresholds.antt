@@ -10,7 +10,8 @@ use native.Mathlib.Nat.{mul-le-mul-right, lt-of-mul-lt-mul-right, mul-lt-mul-of-
 use native.Mathlib.Decide.{decLt}
 use Rattle.zones.specs.declared.fraction.Fraction.{Fraction}
 use Rattle.zones.specs.declared.pair.Pair.{Pair}
-use Rattle.zones.specs.Integers.{up, down, int, le-read, lt-read, sum-law, times-law, abs-gap}
+use Rattle.zones.specs.Integers.{up, down}
+use Rattle.zones.proofs.Integers.{int, le-read, lt-read, sum-law, times-law, abs-gap}
 use Rattle.zones.specs.Fractions.{loweredBy}
 use Rattle.zones.specs.Pairs.{zeroPair, sumOf, isLess, thresholdOf, smallerOf}
 use Rattle.zones.specs.Values.{valueOf, Below}

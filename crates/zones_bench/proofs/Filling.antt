@@ -15,7 +15,7 @@ use native.Mathlib.Omega.{arith}
 use native.Mathlib.Decide.{ℕ-discrete}
 use Rattle.zones.specs.declared.pair.Pair.{Pair}
 use Rattle.zones.specs.declared.zone.Work.{Work}
-use Rattle.zones.specs.Integers.{le-make}
+use Rattle.zones.proofs.Integers.{le-make}
 use Rattle.zones.specs.Fractions.{noLimit}
 use Rattle.zones.specs.Pairs.{zeroPair}
 use Rattle.zones.specs.Zones.{pairAt, entry, firstWork}

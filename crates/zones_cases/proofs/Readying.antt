@@ -12,7 +12,7 @@ use native.Mathlib.Omega.{arith}
 use native.Mathlib.Decide.{ℕ-discrete}
 use Rattle.zones.specs.declared.pair.Pair.{Pair}
 use Rattle.zones.specs.declared.zone.Work.{Work}
-use Rattle.zones.specs.Integers.{int, abs-within, ltZ-false, ltZ-true}
+use Rattle.zones.proofs.Integers.{int, abs-within, ltZ-false, ltZ-true}
 use Rattle.zones.specs.Pairs.{zeroPair}
 use Rattle.zones.specs.Zones.{pairAt, firstWork}
 use Rattle.zones.specs.Ranges.{Bounded, Fits32, Ready, LimitsReady, Comparable, scale, counts}

@@ -7,7 +7,7 @@ use mir.Syntax.{w64}
 use mir.Val.{SFits}
 use mir.Facts.{toZ-ofZ}
 use native.Mathlib.Omega.{arith}
-use Rattle.zones.specs.Integers.{abs-fits, abs-minus, abs-of-le, ltZ-false}
+use Rattle.zones.proofs.Integers.{abs-fits, abs-minus, abs-of-le, ltZ-false}
 use Rattle.zones_cases.proofs.Readying.{below-zero, abs-mag}
 use Rattle.zones_cases.proofs.show.magnitude.Statement.{statement}
 use Rattle.zones_cases.proofs.show.magnitude.Tie as tie
