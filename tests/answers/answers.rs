@@ -10,12 +10,16 @@ mod draft;
 #[path = "../search/drawn.rs"]
 mod drawn;
 mod faults;
+#[path = "../lengths.rs"]
+mod lengths;
 #[path = "../library.rs"]
 mod library;
 #[path = "../long.rs"]
 mod long;
 #[path = "../search/oracle.rs"]
 mod oracle;
+#[path = "../rings.rs"]
+mod rings;
 mod sizes;
 mod tally;
 
@@ -46,6 +50,6 @@ fn main() -> ExitCode {
             part(&mut tally, round);
         }
     }
-    sizes::piled_up(&mut tally);
+    sizes::large_counts(&mut tally);
     tally.sum_up(labels())
 }
