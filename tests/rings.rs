@@ -36,3 +36,13 @@ pub fn wheel(locations: u8, hi: u32) -> Draft {
     let steps = [(1, vec![exact, FREE]), (2, vec![FREE, exact])];
     ring(locations, &[(0, hi); 2], &steps)
 }
+
+/// The time between two jumps of a counter.
+pub const PERIOD: u32 = 4;
+
+/// The second clock is reset at each period, and the first tells when so many jumps were made: no
+/// more are. Its limit is not at a jump's time, where it would take the errors away.
+pub fn counter(locations: u8, jumps: u32) -> Draft {
+    let step = (2, vec![(0, PERIOD * jumps + 1), (PERIOD, PERIOD)]);
+    ring(locations, &[(0, 1_000_000), (0, PERIOD)], &[step])
+}

@@ -5,6 +5,7 @@
 mod borders;
 #[path = "../checks.rs"]
 mod checks;
+mod counts;
 #[path = "../draft.rs"]
 mod draft;
 #[path = "../search/drawn.rs"]
@@ -39,17 +40,26 @@ fn labels() -> Vec<String> {
 
 fn main() -> ExitCode {
     let mut tally = Tally::default();
-    let parts: [fn(&mut Tally, u64); 4] = [
+    let parts: [fn(&mut Tally, u64); 5] = [
         faults::pairs,
         faults::subsets,
         faults::random_bytes,
         sizes::every_store,
+        counts::drawn,
     ];
     for round in long::rounds() {
         for part in parts {
             part(&mut tally, round);
         }
     }
-    sizes::large_counts(&mut tally);
+    let counts: [fn(&mut Tally); 4] = [
+        counts::border,
+        counts::at_target,
+        counts::contained,
+        counts::lower_limits,
+    ];
+    for part in counts {
+        part(&mut tally);
+    }
     tally.sum_up(labels())
 }

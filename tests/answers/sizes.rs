@@ -4,7 +4,6 @@ use crate::borders;
 use crate::draft::{Draft, Limit, NO_UPPER};
 use crate::drawn::{self, Dice, Lean, Size};
 use crate::lengths::slot;
-use crate::rings;
 use crate::tally::{Answer, Left, Tally};
 
 const AUTOMATA: usize = 8_000;
@@ -99,19 +98,5 @@ pub fn every_store(tally: &mut Tally, round: u64) {
         sort(tally, &automaton);
         let what = format!("automaton {turn} of round {round}");
         every_size(tally, &mut dice, &what, &automaton.bytes());
-    }
-}
-
-/// The zone that would be the 65,536th has a count of 65,536. It is refused by 9 also where there is
-/// no slot left for it, and one slot less is full before it.
-pub fn large_counts(tally: &mut Tally) {
-    let mut dice = Dice::new(5);
-    for (hi, slots, number) in [(1_000_000, 65_535, 9), (1, 65_534, 10)] {
-        let automaton = rings::wheel(62, hi).bytes();
-        let what = format!("a wheel with {slots} slots");
-        let left = tally.search(&mut dice, &what, &automaton, slots * slot(&automaton));
-        tally.check(left.answer == Err(number), || {
-            format!("{what}: {:?}, not {number}", left.answer)
-        });
     }
 }
