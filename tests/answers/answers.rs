@@ -1,6 +1,6 @@
 //! Holds the proved search to a second one: every answer and every number of the store, for damaged
-//! automata, limits at the ends of their range, and stores of all sizes. Its last line is
-//! 'N passed, M failed'.
+//! automata, limits at the ends of their range, stores of all sizes, and large error counts. Its
+//! last line is 'N passed, M failed'.
 
 mod borders;
 #[path = "../checks.rs"]

@@ -1,5 +1,5 @@
-//! Refusal 9: searches in which error counts come to 65,535 and above. Each keeps some 65,535
-//! zones, since a jump adds one at most.
+//! Refusal 9: searches in which error counts come to 65,535 and above. Each keeps at least 65,535
+//! zones, since after k jumps no count is above k + 1.
 
 use crate::draft::{Draft, Edge, Limit, NO_UPPER};
 use crate::drawn::Dice;
