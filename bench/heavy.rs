@@ -1,6 +1,7 @@
 // Automata whose search is long.
 use crate::draft::{Draft, Edge};
 use crate::draws::Draws;
+use crate::rings::counter;
 
 pub struct Heavy {
     clocks: u8,
@@ -58,4 +59,12 @@ impl Heavy {
             guard,
         }
     }
+}
+
+// What the ring keeps.
+pub const RING_ZONES: usize = 50_000;
+
+// Of the zones kept before it, a new one has its location with one in 60 only.
+pub fn ring() -> Vec<u8> {
+    counter(60, RING_ZONES as u32 - 1).bytes()
 }

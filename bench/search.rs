@@ -4,8 +4,6 @@
 //
 // search: the table. search SIDE AUTOMATON: one search alone, for its instructions to be counted.
 
-// NO_UPPER is not used: every guard here has a hi.
-#[allow(dead_code)]
 #[path = "../tests/draft.rs"]
 mod draft;
 mod draws;
@@ -16,16 +14,19 @@ mod literal;
 #[path = "../tests/search/oracle.rs"]
 mod oracle;
 mod plain;
+#[path = "../tests/rings.rs"]
+mod rings;
 mod times;
 
-use heavy::{EIGHT_CLOCKS, THREE_CLOCKS};
+use heavy::{EIGHT_CLOCKS, RING_ZONES, THREE_CLOCKS};
 use literal::{slot_length, Search, Verdict};
 use oracle::Outcome;
 use times::{best, nanoseconds, opaque};
 
 // The program's store.
 const STORE: usize = 16_384;
-// The zones of the wheel, of 19 numbers each, up to its refusal 9.
+// The zones of the ring, of 19 numbers each, and those of the wheel up to its refusal 9.
+const RING_STORE: usize = RING_ZONES * 19;
 const WHEEL_STORE: usize = 65_535 * 19;
 // What the store has before, to see that the rest of it stands. No location has this number.
 const UNTOUCHED: i32 = -7;
@@ -41,7 +42,7 @@ struct Case {
     repetitions: u32,
 }
 
-const CASES: [Case; 3] = [
+const CASES: [Case; 4] = [
     Case {
         name: "3 clocks",
         automaton: include_bytes!("automata/3-clocks.card"),
@@ -54,6 +55,12 @@ const CASES: [Case; 3] = [
         store: STORE,
         repetitions: 15,
     },
+    Case {
+        name: "the ring",
+        automaton: include_bytes!("automata/ring.card"),
+        store: RING_STORE,
+        repetitions: 3,
+    },
     // Document 01's card K.
     Case {
         name: "the wheel",
@@ -65,8 +72,9 @@ const CASES: [Case; 3] = [
 
 // The stored automata are those that bench/heavy.rs draws.
 fn check_stored() {
-    for (case, heavy) in CASES.iter().zip([THREE_CLOCKS, EIGHT_CLOCKS]) {
-        assert!(case.automaton == heavy.automaton(), "{}", case.name);
+    let [three, eight] = [THREE_CLOCKS, EIGHT_CLOCKS].map(|heavy| heavy.automaton());
+    for (case, automaton) in CASES.iter().zip([three, eight, heavy::ring()]) {
+        assert!(case.automaton == automaton, "{}", case.name);
     }
 }
 
@@ -144,7 +152,7 @@ fn run(case: &Case) {
     });
     let (answer, store) = first.expect("a search");
     let (answer, zones) = (told(answer), kept(case, &store));
-    print!("{:9} {answer:>10} {zones:6} {ours:10.1}", case.name);
+    print!("{:9} {answer:>13} {zones:6} {ours:10.1}", case.name);
     print!(" {literal:10.1} {:6.2}", ours / literal);
     println!(" {independent:14.1} {:6.2}", ours / independent);
 }
@@ -162,6 +170,6 @@ fn main() {
         return one(side, name);
     }
     check_stored();
-    println!("automaton     answer  zones  ms Rattle ms literal  ratio ms independent  ratio");
+    println!("automaton        answer  zones  ms Rattle ms literal  ratio ms independent  ratio");
     CASES.iter().for_each(run);
 }

@@ -1,8 +1,8 @@
 /* The search for the robustness of timed automata, and the cache of its verdicts (crate exports, `rt staticlib exports`).
  *
  * An automaton is a string of bytes, document 01's card; a cache is one, document 01's shelf (docs/FORMAT.md). Any bytes may be
- * passed, and none need checking before. A pointer must be valid for its length, what may be written must overlap nothing else that
- * is passed, and a pointer must not be null, even where its length is 0.
+ * passed, and none need checking before. A length is in bytes, but store_len counts 32-bit numbers. A pointer must be valid for its
+ * length, what may be written must overlap nothing else that is passed, and a pointer must not be null, even where its length is 0.
  *
  * Each function gives back 0, or the number of a refusal:
  *   1 to 8   the automaton is turned down at reading      9, 10   the search gave up; the store holds the zones kept so far

@@ -1,21 +1,26 @@
 //! Holds the proved search to a second one: every answer and every number of the store, for damaged
-//! automata, limits at the ends of their range, and stores of all sizes. Its last line is
-//! 'N passed, M failed'.
+//! automata, limits at the ends of their range, stores of all sizes, and large error counts. Its
+//! last line is 'N passed, M failed'.
 
 mod borders;
 #[path = "../checks.rs"]
 mod checks;
+mod counts;
 #[path = "../draft.rs"]
 mod draft;
 #[path = "../search/drawn.rs"]
 mod drawn;
 mod faults;
+#[path = "../lengths.rs"]
+mod lengths;
 #[path = "../library.rs"]
 mod library;
 #[path = "../long.rs"]
 mod long;
 #[path = "../search/oracle.rs"]
 mod oracle;
+#[path = "../rings.rs"]
+mod rings;
 mod sizes;
 mod tally;
 
@@ -35,17 +40,26 @@ fn labels() -> Vec<String> {
 
 fn main() -> ExitCode {
     let mut tally = Tally::default();
-    let parts: [fn(&mut Tally, u64); 4] = [
+    let parts: [fn(&mut Tally, u64); 5] = [
         faults::pairs,
         faults::subsets,
         faults::random_bytes,
         sizes::every_store,
+        counts::drawn,
     ];
     for round in long::rounds() {
         for part in parts {
             part(&mut tally, round);
         }
     }
-    sizes::piled_up(&mut tally);
+    let counts: [fn(&mut Tally); 4] = [
+        counts::border,
+        counts::at_target,
+        counts::contained,
+        counts::lower_limits,
+    ];
+    for part in counts {
+        part(&mut tally);
+    }
     tally.sum_up(labels())
 }

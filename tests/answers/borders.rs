@@ -44,25 +44,3 @@ pub fn drawn(dice: &mut Dice) -> Draft {
         edges: (0..dice.range(0, 10)).map(|_| edge(dice)).collect(),
     }
 }
-
-/// Round and round, each turn at an exact guard that resets one of two clocks: errors add up. Each
-/// new zone is compared only with those of its location, so that with many of them 9 comes soon.
-pub fn wheel(locations: u8, hi: u32) -> Draft {
-    let edge = |from: u8| {
-        let clock = from % 2;
-        let mut guard = vec![(0, NO_UPPER); 2];
-        guard[usize::from(clock)] = (hi, hi);
-        Edge {
-            from,
-            to: (from + 1) % locations,
-            reset: 1 << clock,
-            guard,
-        }
-    };
-    Draft {
-        start: 0,
-        target: locations,
-        invariants: vec![vec![(0, hi); 2]; usize::from(locations) + 1],
-        edges: (0..locations).map(edge).collect(),
-    }
-}

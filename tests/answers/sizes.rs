@@ -3,6 +3,7 @@
 use crate::borders;
 use crate::draft::{Draft, Limit, NO_UPPER};
 use crate::drawn::{self, Dice, Lean, Size};
+use crate::lengths::slot;
 use crate::tally::{Answer, Left, Tally};
 
 const AUTOMATA: usize = 8_000;
@@ -17,11 +18,6 @@ pub const KINDS: [(&str, fn(Limit) -> bool); 4] = [
     ("hi of 1,000,000", |(_, hi)| hi == 1_000_000),
     ("no upper limit", |(_, hi)| hi == NO_UPPER),
 ];
-
-fn slot(automaton: &[u8]) -> usize {
-    let side = usize::from(automaton[5]) + 1;
-    1 + 2 * side * side
-}
 
 fn sizes(dice: &mut Dice, slot: usize, zones: usize) -> Vec<usize> {
     let most = (zones + 1) * slot;
@@ -102,19 +98,5 @@ pub fn every_store(tally: &mut Tally, round: u64) {
         sort(tally, &automaton);
         let what = format!("automaton {turn} of round {round}");
         every_size(tally, &mut dice, &what, &automaton.bytes());
-    }
-}
-
-/// The zone that would be the 65,536th has a count of 65,536. It is refused by 9 also where there is
-/// no slot left for it, and one slot less is full before it.
-pub fn piled_up(tally: &mut Tally) {
-    let mut dice = Dice::new(5);
-    for (hi, slots, number) in [(1_000_000, 65_535, 9), (1, 65_534, 10)] {
-        let automaton = borders::wheel(62, hi).bytes();
-        let what = format!("a wheel with {slots} slots");
-        let left = tally.search(&mut dice, &what, &automaton, slots * slot(&automaton));
-        tally.check(left.answer == Err(number), || {
-            format!("{what}: {:?}, not {number}", left.answer)
-        });
     }
 }

@@ -1,6 +1,6 @@
 //! The automata that caches are filled with and asked for.
 
-use crate::draft::{Draft, Edge, Limit, NO_UPPER};
+use crate::draft::{Draft, Edge, Limit};
 use crate::drawn::{self, Dice, Lean, Size};
 use crate::oracle;
 use crate::table::{self, named, with_byte};
@@ -85,36 +85,6 @@ pub fn small(dice: &mut Dice, count: usize) -> Vec<Vec<u8>> {
         all = unique(all);
     }
     all
-}
-
-/// The number of numbers that one zone takes in the store.
-pub fn slot(automaton: &[u8]) -> usize {
-    let side = usize::from(automaton[5]) + 1;
-    1 + 2 * side * side
-}
-
-/// A wheel of many locations, for 9: each new zone is compared only with those of its location, so
-/// that it comes sooner than with document 01's K, which has two.
-pub fn wheel() -> Vec<u8> {
-    const LOCATIONS: u8 = 62;
-    let edge = |from: u8| {
-        let clock = from % 2;
-        let mut guard = vec![(0, NO_UPPER); 2];
-        guard[usize::from(clock)] = (1, 1);
-        Edge {
-            from,
-            to: (from + 1) % LOCATIONS,
-            reset: 1 << clock,
-            guard,
-        }
-    };
-    let draft = Draft {
-        start: 0,
-        target: LOCATIONS,
-        invariants: vec![vec![(0, 1); 2]; usize::from(LOCATIONS) + 1],
-        edges: (0..LOCATIONS).map(edge).collect(),
-    };
-    draft.bytes()
 }
 
 /// Edges that are all alike, and one more with limits of its own.

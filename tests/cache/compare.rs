@@ -11,6 +11,8 @@ mod draft;
 #[path = "../search/drawn.rs"]
 mod drawn;
 mod grown;
+#[path = "../lengths.rs"]
+mod lengths;
 #[path = "../library.rs"]
 mod library;
 #[path = "../long.rs"]
@@ -18,6 +20,8 @@ mod long;
 mod oracle;
 mod order;
 mod random;
+#[path = "../rings.rs"]
+mod rings;
 #[path = "../search/oracle.rs"]
 mod search;
 #[path = "../search/table.rs"]
@@ -41,7 +45,7 @@ fn main() -> ExitCode {
         unsound::every_byte,
         grown::shared_beginnings,
         grown::past_three_bytes,
-        grown::piled_up,
+        grown::large_counts,
     ];
     for part in parts {
         part(&mut tally);

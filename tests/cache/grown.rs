@@ -1,18 +1,16 @@
 //! Caches grown from empty by nothing but consulting.
 
-use crate::automata::{self, slot};
+use crate::automata;
 use crate::calls::{random_bytes, Call, Lent};
 use crate::draft::Draft;
 use crate::drawn::Dice;
+use crate::lengths::{slot, used};
 use crate::oracle::Cache;
+use crate::rings;
 use crate::table::named;
 use crate::tally::Tally;
 use crate::unsound::record;
 use std::collections::BTreeMap;
-
-fn used(cache: &[u8]) -> usize {
-    u32::from_be_bytes([0, 1, 2, 3].map(|i| cache[i])) as usize
-}
 
 struct Grown {
     cache: Vec<u8>,
@@ -194,9 +192,9 @@ pub fn shared_beginnings(tally: &mut Tally) {
 }
 
 /// 9, in a search and in a consultation: the store has all zones kept before it, the cache stands.
-pub fn piled_up(tally: &mut Tally) {
+pub fn large_counts(tally: &mut Tally) {
     let mut dice = Dice::new(31);
-    let automaton = automata::wheel();
+    let automaton = rings::wheel(62, 1).bytes();
     let mut grown = Grown::empty(tally, &mut dice, "9", 5_000);
     let filed = Lent::new(&mut dice, &grown.cache, &named("A"), 9);
     grown.consult(tally, "9, before it", &filed);

@@ -1,8 +1,9 @@
 //! Room, the making of an empty cache, and which refusal comes before which.
 
-use crate::automata::{self, slot};
+use crate::automata;
 use crate::calls::{random_bytes, Call, Lent};
 use crate::drawn::Dice;
+use crate::lengths::slot;
 use crate::oracle::{Cache, Verdict};
 use crate::table::{named, with_byte};
 use crate::tally::Tally;

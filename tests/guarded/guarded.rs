@@ -20,6 +20,8 @@ mod drawn;
 mod guards;
 mod heap;
 mod inputs;
+#[path = "../lengths.rs"]
+mod lengths;
 #[path = "../library.rs"]
 mod library;
 #[path = "../long.rs"]

@@ -4,6 +4,7 @@
 
 use crate::calls::{self, Call, Lent, Places};
 use crate::checks::Checks;
+use crate::lengths::used;
 
 /// A block as long as a slice, of which only the beginning is initialised.
 struct Block<T> {
@@ -36,10 +37,7 @@ fn known(call: Call, cache: &[u8]) -> usize {
     match cache.get(..4) {
         _ if call == Call::MakeEmpty => 0,
         None => cache.len(),
-        Some(bytes) => {
-            let used = u32::from_be_bytes([0, 1, 2, 3].map(|i| bytes[i]));
-            cache.len().min((used as usize).max(5))
-        }
+        Some(bytes) => cache.len().min(used(bytes).max(5)),
     }
 }
 

@@ -5,6 +5,7 @@ use crate::calls::{random_bytes, Lent};
 use crate::damage::{counts, noise, spoil};
 use crate::draft::recount;
 use crate::drawn::{self, Dice, Lean, Size};
+use crate::lengths::{self, used};
 use crate::library;
 use crate::spoilt::spoilt;
 
@@ -16,10 +17,6 @@ struct Grown {
     bytes: Vec<u8>,
     /// Where each record begins, and last where the used part ends, as the bytes do.
     borders: Vec<usize>,
-}
-
-fn used(cache: &[u8]) -> usize {
-    u32::from_be_bytes([0, 1, 2, 3].map(|i| cache[i])) as usize
 }
 
 impl Grown {
@@ -84,7 +81,7 @@ fn free(dice: &mut Dice, automaton: &[u8]) -> Vec<u8> {
 /// The numbers of a store: none, some slots, one number fewer, whole pages, or any number.
 fn store(dice: &mut Dice, automaton: &[u8]) -> usize {
     let slot = match automaton.get(5) {
-        Some(1..=8) => automata::slot(automaton),
+        Some(1..=8) => lengths::slot(automaton),
         _ => 9,
     };
     let slots = slot * dice.pick(&[1, 2, 3, 10, 30]);
