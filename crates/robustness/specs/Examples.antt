@@ -1,4 +1,4 @@
--- Document 01's lines: `holds 1/1 zones 1`, `holds any zones 1`, `reached zones 1`, `refused 10`.
+-- Document 01's lines, `holds 1/1 zones 1`, `holds any zones 1`, `reached zones 1`, `refused 10`, and one with longer numbers.
 use Prim.Native.Nat.{ℕ}
 use mathlib.Core.List.{List, [], _∷_}
 use mathlib.Core.Path.{_≡_}

@@ -39,6 +39,8 @@ passed false k r e = (refl, e)
 
 record Passed (s : List ℕ) : Type 0 where
   pub head : 11 ≤ length s
+  pub field : lengthField s ≡ length s
+  pub version≡ : version s ≡ 1
   pub size : length s ≡ formula s
   pub counts : countsOutOfRange s ≡ false
   pub places : noSuchLocation s ≡ false
@@ -58,6 +60,8 @@ passes s e =
     let p8 = passed (limitOutOfRange s) 7 _ (p7 .1) in
     record {
       head = ltb-false _ _ (p1 .0);
+      field = eqb-true _ _ (not-false _ (p2 .0));
+      version≡ = eqb-true _ _ (not-false _ (p3 .0));
       size = sym (eqb-true _ _ (not-false _ (p2 .0))) ∙ eqb-true (lengthField s) (formula s) (not-false _ (p5 .0));
       counts = p4 .0;
       places = p6 .0;
@@ -115,6 +119,8 @@ module _ (s : List ℕ) (p : Passed s) where
   passed-all =
       record {
         complete = complete s (p .head) (p .counts) (p .size);
+        field = p .field;
+        version≡ = p .version≡;
         start< = leb-false _ _ (ends .0);
         target< = leb-false _ _ (ends .1);
         from< = λ i h. leb-false _ _ (edge-ends i h .0);

@@ -5,9 +5,9 @@ use mathlib.Core.Bool.{false}
 use mathlib.Core.List.{List}
 use lib.ListN.{length}
 use Rattle.zones.specs.Ranges.{scale}
-use Rattle.search.specs.Automata.{clocks, locations, edges, start, target, from, to, formula, invariantOf, guardOf, resetsOf}
+use Rattle.search.specs.Automata.{lengthField, version, clocks, locations, edges, start, target, from, to, formula, invariantOf, guardOf, resetsOf}
 
--- free of 1, 2, 4 and 5: every byte that the counts speak of is there
+-- free of 1, 4 and 5, and as long as its length field says: every byte that the counts speak of is there
 pub record Complete (s : List ℕ) : Type 0 where
   pub head : 11 ≤ length s
   pub size : length s ≡ formula s
@@ -20,6 +20,8 @@ pub record Complete (s : List ℕ) : Type 0 where
 -- free of 1 to 8
 pub record Accepted (s : List ℕ) : Type 0 where
   pub complete : Complete s
+  pub field : lengthField s ≡ length s
+  pub version≡ : version s ≡ 1
   pub start< : start s < locations s
   pub target< : target s < locations s
   pub from< : (i : ℕ) → i < edges s → from s i < locations s

@@ -35,7 +35,7 @@ limits lo hi = number lo ++ number hi
 abbrev noUpper : ℕ
 noUpper = 4294967295
 
--- "Unless said otherwise: one clock, two locations, start 0 .., target 1 with 0 to 9": length, format, clocks, locations, start, target, edges
+-- "Unless said otherwise: one clock, two locations, start 0 .., target 1 with 0 to 9": length, version, clocks, locations, start, target, edges
 abbrev head : ℕ → ℕ → ℕ → ℕ → List ℕ
 head size n target edges = number size ++ (1 ∷ n ∷ 2 ∷ 0 ∷ target ∷ 0 ∷ edges ∷ [])
 

@@ -1,5 +1,5 @@
 -- Document 01: the card's bytes, the runs that they allow, the search, its verdict and its store; then the demands.
--- Last, what stands between the definitions and the code.
+-- Last, the laws that the proofs rest on, and what stands between the definitions and the code.
 pub mod Automata
 pub mod Accepted
 pub mod Runs
