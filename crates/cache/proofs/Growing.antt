@@ -1,4 +1,5 @@
--- A cache that has grown from empty is sound, and what it files is the search's: demand 3 holds of it, and it is the answer at every store size that lets the search finish.
+-- A cache that has grown from empty is sound, and what it files is the search's: demand 3 holds of it, and it is the answer at every store
+-- size that lets the search finish.
 -- Assumes nothing.
 use Prim.Native.Nat.{ℕ, _≤_}
 use mathlib.Core.Path.{_≡_, refl, sym, _∙_, subst}

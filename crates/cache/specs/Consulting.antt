@@ -1,4 +1,5 @@
--- "Consulting: 1 to 8; 11; if the card's bytes are there, the filed verdict, nothing changed; 12; then the search, 9 and 10 included; a new record is written into the free tail of the lent shelf, the used length follows, other bytes stand."
+-- "Consulting: 1 to 8; 11; if the card's bytes are there, the filed verdict, nothing changed; 12; then the search, 9 and 10 included; a new
+-- record is written into the free tail of the lent shelf, the used length follows, other bytes stand."
 use Prim.Native.Nat.{ℕ, _+_, _-_, _≤_}
 use mathlib.Core.Bool.{Bool, not, cond, _&&_, _||_}
 use mathlib.Core.List.{List, _∷_, _++_}

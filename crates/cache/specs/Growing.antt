@@ -14,7 +14,8 @@ use Rattle.cache.specs.Caches.{headerLength, usedOf, sound}
 use Rattle.cache.specs.Consulting.{makeEmptyCache, lookUpIn, consultAnswer, consultCache, consultStore}
 use Rattle.cache.specs.declared.lookup.Lookup.the-variants as lookup
 
--- "grown from empty only by consulting": of any automata, with any stores, in any number. Between two consultings the used bytes may be lent again with others behind them.
+-- "grown from empty only by consulting": of any automata, with any stores, in any number. Between two consultings the used bytes may be
+-- lent again with others behind them.
 pub data Grown : List ℕ → Type 0 where
   emptied : (c : List ℕ) → headerLength ≤ length c → Grown (makeEmptyCache c)
   consulted : (c b : List ℕ) (amount : ℕ) → Grown c → Grown (consultCache c b amount)

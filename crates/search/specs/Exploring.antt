@@ -56,7 +56,8 @@ pub record Shown (n : ℕ) (s₀ : List ℤ) (q : ZoneState) (s : List ℤ) (t :
   pub fraction : t .fraction ≡ q .frac
   pub code : t .code ≡ q .code
 
--- what an operation of the search gives from a state, from the store s and `count` kept zones to s′ and r: it shows what the definition f comes to, of every sound state that the store shows
+-- what an operation of the search gives from a state, from the store s and `count` kept zones to s′ and r: it shows what the definition f
+-- comes to, of every sound state that the store shows
 pub record Gives (b : List ℕ) (slots : ℕ) (s : List ℤ) (count : ℕ) (f : ZoneState → ZoneState) (s′ : List ℤ) (r : Turn) : Type 0 where
   pub shows : (s₀ : List ℤ) (q : ZoneState) → Stored (suc (clocks b)) s₀ q s count → SoundState b slots q → Shown (suc (clocks b)) s₀ (f q) s′ r
 

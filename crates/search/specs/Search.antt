@@ -49,7 +49,7 @@ Nth (x ∷ xs) zero k = x ≡ k
 Nth (x ∷ xs) (suc j) k = Nth xs j k
 
 module _ (A : System) (O : Zones) where
-  -- the oldest kept zone of place l that contains z
+  -- the oldest kept zone of location l that contains z
   unfoldable pub find : List (Node (O .Z)) → ℕ → O .Z → Found (O .Z)
   find [] l z = none
   find (k ∷ ks) l z = elim (eqb (k .at) l) [ true ↦ elim (O .within z (k .zone)) [ true ↦ found k | false ↦ find ks l z ] | false ↦ find ks l z ]

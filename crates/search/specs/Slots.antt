@@ -1,4 +1,5 @@
--- "a slot takes 1 + 2(n + 1)²: location, then pairs row by row, m before p." Here `n` is the number of indices, clocks + 1; a place k of a zone's square is row k / 9 and column k % 9.
+-- "a slot takes 1 + 2(n + 1)²: location, then pairs row by row, m before p." Here `n` is the number of indices, clocks + 1; a place k of a
+-- zone's square is row k / 9 and column k % 9.
 use Prim.Native.Nat.{ℕ, zero, suc, _+_, _*_, _%_}
 use mathlib.Core.Bool.{cond}
 use mathlib.Core.List.{List, [], _∷_, _++_}

@@ -1,4 +1,5 @@
--- How large the numbers get through the three reductions of one step. With |m| ≤ C and p ≤ P before, a zone that is not empty has |m| ≤ C after each reduction, and p at most ten times what it was; and each threshold is within N and D.
+-- How large the numbers get through the three reductions of one step. With |m| ≤ C and p ≤ P before, a zone that is not empty has |m| ≤ C
+-- after each reduction, and p at most ten times what it was; and each threshold is within N and D.
 -- Assumes nothing.
 use Prim.Native.Nat.{ℕ, zero, suc, _+_, _*_, _<_, _≤_}
 use mathlib.Core.Path.{_≡_, refl, ap, _∙_}

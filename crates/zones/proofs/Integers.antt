@@ -1,5 +1,6 @@
 -- Linear arithmetic over ℤ, by omega. An integer z is `up z` less `down z`, of which one is 0.
--- `omega (arith, int, sum-law x y, ..)` proves an order or an equation of integers: the set `int` turns each ≤ℤ, <ℤ and ≡ in reach, and the goal, into one of naturals. The list names each sum, negation and multiple that occurs.
+-- `omega (arith, int, sum-law x y, ..)` proves an order or an equation of integers: the set `int` turns each ≤ℤ, <ℤ and ≡ in reach, and the
+-- goal, into one of naturals. The list names each sum, negation and multiple that occurs.
 -- Assumes nothing.
 use Prim.Native.Nat.{ℕ, zero, suc, _+_, _*_, _^_, _≤_, _<_}
 use mathlib.Core.Path.{_≡_, refl, sym, ap, subst, subst⁻¹}

@@ -1,4 +1,6 @@
--- The order of pairs, as linear arithmetic. `a ≼ b`: b is not below a. At a number K above every p in play, a pair is the integer m × K + p, and the order of pairs is that of these integers: `lex-read` and `lex-make`. So an order of pairs and of their sums is proved by omega, from `lex-read` of each hypothesis and `sum-at` of each sum.
+-- The order of pairs, as linear arithmetic. `a ≼ b`: b is not below a. At a number K above every p in play, a pair is the integer m × K +
+-- p, and the order of pairs is that of these integers: `lex-read` and `lex-make`. So an order of pairs and of their sums is proved by
+-- omega, from `lex-read` of each hypothesis and `sum-at` of each sum.
 -- Assumes nothing.
 use Prim.Native.Nat.{ℕ, suc, _+_, _*_, _<_, _≤_}
 use mathlib.Core.Path.{_≡_, refl, sym, ap}

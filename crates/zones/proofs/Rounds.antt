@@ -1,4 +1,5 @@
--- In place is at once: where the middle index's diagonal entry is not below 0, a round in document 01's order leaves at each place the smaller of what stood there and the way through the middle index, as both were when the round began.
+-- In place is at once: where the middle index's diagonal entry is not below 0, a round in document 01's order leaves at each place the
+-- smaller of what stood there and the way through the middle index, as both were when the round began.
 -- Assumes nothing.
 use Prim.Native.Nat.{ℕ, zero, suc, _+_, _*_, _<_, _≤_}
 use mathlib.Core.Path.{_≡_, refl, sym, ap, _∙_, subst}

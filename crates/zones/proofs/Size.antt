@@ -1,5 +1,7 @@
--- The numbers of a reduction grow by addition and not by doubling. After k middle indices a zone that is not empty has p at most (k + 1) × P and m at least −(k + 1) × C, where P and C bound them at the start; m never rises.
--- Each entry has a set of middle indices through which it goes: `Through`. Where an entry is lowered by the middle index k, the sets of its two parts have no index in common, or else the way round by that index would be a loop below 0.
+-- The numbers of a reduction grow by addition and not by doubling. After k middle indices a zone that is not empty has p at most (k + 1) ×
+-- P and m at least −(k + 1) × C, where P and C bound them at the start; m never rises.
+-- Each entry has a set of middle indices through which it goes: `Through`. Where an entry is lowered by the middle index k, the sets of its
+-- two parts have no index in common, or else the way round by that index would be a loop below 0.
 -- Assumes nothing.
 use Prim.Native.Nat.{ℕ, zero, suc, _+_, _*_, _<_, _≤_}
 use mathlib.Core.Path.{_≡_, refl, sym, _∙_}

@@ -1,4 +1,5 @@
--- What a threshold is for: below it, the chosen pair has the smaller value. Below a lowered fraction is below both, and no numerator is ever 0, so that no error at all is always below.
+-- What a threshold is for: below it, the chosen pair has the smaller value. Below a lowered fraction is below both, and no numerator is
+-- ever 0, so that no error at all is always below.
 -- Assumes nothing.
 use Prim.Native.Nat.{ℕ, zero, suc, _+_, _-_, _*_, _<_, _≤_}
 use mathlib.Core.Path.{_≡_, ap}

@@ -1,4 +1,5 @@
--- "One running fraction is lowered where it stands by every comparison made in meeting limits and in reduction. It starts at 1/0, no limit, and is given out in lowest terms."
+-- "One running fraction is lowered where it stands by every comparison made in meeting limits and in reduction. It starts at 1/0, no limit,
+-- and is given out in lowest terms."
 use Prim.Native.Nat.{ℕ, zero, suc, _*_, _/_, _%_}
 use mathlib.Core.Path.{_≡_}
 use mathlib.Core.Bool.{cond}
