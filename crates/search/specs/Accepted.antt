@@ -7,7 +7,7 @@ use lib.ListN.{length}
 use Rattle.zones.specs.Ranges.{scale}
 use Rattle.search.specs.Automata.{lengthField, version, clocks, locations, edges, start, target, from, to, formula, invariantOf, guardOf, resetsOf}
 
--- free of 1, 4 and 5, and as long as its length field says: every byte that the counts speak of is there
+-- the head is there, the counts are in range, and the length is that of the formula: every byte that the counts speak of is there
 pub record Complete (s : List ℕ) : Type 0 where
   pub head : 11 ≤ length s
   pub size : length s ≡ formula s
