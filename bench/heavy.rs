@@ -4,14 +4,14 @@ use crate::draws::Draws;
 use crate::rings::counter;
 
 pub struct Heavy {
-    clocks: u8,
+    pub clocks: u8,
     // The invariant's hi, and the largest lo of a guard.
-    top: u32,
+    pub top: u32,
     // The most by which a guard's hi is above its lo.
-    width: u32,
+    pub width: u32,
     // How many clocks of a hundred are reset.
-    resets: u32,
-    seed: u64,
+    pub resets: u32,
+    pub seed: u64,
 }
 
 // Picked from many draws (bench/README.md).

@@ -2,7 +2,8 @@
 // the same comparisons in the same order, and the independent one that the tests hold ours to.
 // All must give the same answer and store; a ratio fails nothing.
 //
-// search: the table. search SIDE AUTOMATON: one search alone, for its instructions to be counted.
+// search: the table. search FAMILY ...: the rows of these families. search one SIDE AUTOMATON: one
+// search alone, for its instructions to be counted.
 
 #[path = "../tests/draft.rs"]
 mod draft;
@@ -16,112 +17,66 @@ mod oracle;
 mod plain;
 #[path = "../tests/rings.rs"]
 mod rings;
+mod searched;
+mod sides;
 mod times;
 
-use heavy::{EIGHT_CLOCKS, RING_ZONES, THREE_CLOCKS};
-use literal::{slot_length, Search, Verdict};
-use oracle::Outcome;
-use times::{best, nanoseconds, opaque};
+use literal::slot_length;
+use searched::{Case, Family, FAMILIES};
+use sides::{one_search, Answer, SIDES};
+use std::time::Duration;
+use times::{best_within, nanoseconds};
 
-// The program's store.
-const STORE: usize = 16_384;
-// The zones of the ring, of 19 numbers each, and those of the wheel up to its refusal 9.
-const RING_STORE: usize = RING_ZONES * 19;
-const WHEEL_STORE: usize = 65_535 * 19;
 // What the store has before, to see that the rest of it stands. No location has this number.
 const UNTOUCHED: i32 = -7;
+// Nanoseconds: a reading is of so many searches that it is not shorter.
+const SHORTEST: f64 = 200_000.0;
+// An automaton is timed for at least so long.
+const LEAST_TIME: Duration = Duration::from_millis(400);
 
-type Answer = Result<Verdict, u32>;
-
-// ---- automata
-struct Case {
-    name: &'static str,
-    automaton: &'static [u8],
-    store: usize,
-    // Each time is the best of so many.
-    repetitions: u32,
+// ---- one automaton
+struct Timed<'a> {
+    case: &'a Case,
+    store: Vec<i32>,
+    // What the first search answered and left, which the last of each reading must too.
+    first: Option<(Answer, Vec<i32>)>,
 }
 
-const CASES: [Case; 4] = [
-    Case {
-        name: "3 clocks",
-        automaton: include_bytes!("automata/3-clocks.card"),
-        store: STORE,
-        repetitions: 15,
-    },
-    Case {
-        name: "8 clocks",
-        automaton: include_bytes!("automata/8-clocks.card"),
-        store: STORE,
-        repetitions: 15,
-    },
-    Case {
-        name: "the ring",
-        automaton: include_bytes!("automata/ring.card"),
-        store: RING_STORE,
-        repetitions: 3,
-    },
-    // Document 01's card K.
-    Case {
-        name: "the wheel",
-        automaton: include_bytes!("../examples/K.card"),
-        store: WHEEL_STORE,
-        repetitions: 2,
-    },
-];
+impl Timed<'_> {
+    // Nanoseconds of so many searches by a side.
+    fn reading(&mut self, side: usize, searches: u32) -> f64 {
+        let (case, store, side) = (self.case, &mut self.store, &SIDES[side]);
+        store.fill(UNTOUCHED);
+        let mut answer = Err(0);
+        let time = nanoseconds(|| {
+            for _ in 0..searches {
+                answer = one_search(side, &case.automaton, store);
+            }
+        });
+        let (expected, left) = self.first.get_or_insert_with(|| (answer, store.clone()));
+        assert_eq!(
+            answer, *expected,
+            "{}: the answer of {}",
+            case.name, side.name
+        );
+        assert!(store == left, "{}: the store of {}", case.name, side.name);
+        time
+    }
 
-// The stored automata are those that bench/heavy.rs draws.
-fn check_stored() {
-    let [three, eight] = [THREE_CLOCKS, EIGHT_CLOCKS].map(|heavy| heavy.automaton());
-    for (case, automaton) in CASES.iter().zip([three, eight, heavy::ring()]) {
-        assert!(case.automaton == automaton, "{}", case.name);
+    // Microseconds of one search by each side.
+    fn times(&mut self) -> [f64; 3] {
+        // One at first, so that each side is also compared with nothing of its own in the store.
+        let mut searches = [1; 3];
+        best_within(self.case.repetitions, LEAST_TIME, |i| loop {
+            let reading = self.reading(i, searches[i]);
+            if SHORTEST <= reading {
+                return reading / 1e3 / searches[i] as f64;
+            }
+            searches[i] *= 2;
+        })
     }
 }
 
-// ---- the sides
-struct Side {
-    name: &'static str,
-    search: fn(&[u8], &mut [i32]) -> Answer,
-}
-
-const SIDES: [Side; 3] = [
-    Side {
-        name: "ours",
-        search: library::search,
-    },
-    Side {
-        name: "literal",
-        search: literal,
-    },
-    Side {
-        name: "independent",
-        search: independent,
-    },
-];
-
-fn literal(automaton: &[u8], store: &mut [i32]) -> Answer {
-    let search = Search::of(automaton, store.len() / slot_length(automaton));
-    search.store(store);
-    search.answer()
-}
-
-fn independent(automaton: &[u8], store: &mut [i32]) -> Answer {
-    match oracle::search(automaton, store) {
-        Outcome::Reached { zones } => Ok([0, 0, 0, zones as u64]),
-        Outcome::HoldsAny { zones } => Ok([1, 1, 0, zones as u64]),
-        Outcome::Holds { n, d, zones } => Ok([1, n as u64, d as u64, zones as u64]),
-        Outcome::Refused(number) => Err(number.into()),
-    }
-}
-
-// By this name valgrind knows what to count.
-#[no_mangle]
-#[inline(never)]
-fn one_search(side: &Side, case: &Case, store: &mut [i32]) -> Answer {
-    (side.search)(opaque(case.automaton), store)
-}
-
-// ---- the table
 fn told(answer: Answer) -> String {
     match answer {
         Ok([0, ..]) => "reached".into(),
@@ -132,44 +87,87 @@ fn told(answer: Answer) -> String {
 }
 
 fn kept(case: &Case, store: &[i32]) -> usize {
-    let slots = store.chunks_exact(slot_length(case.automaton));
+    let slots = store.chunks_exact(slot_length(&case.automaton));
     slots.take_while(|slot| slot[0] != UNTOUCHED).count()
 }
 
-fn run(case: &Case) {
-    let mut store = vec![UNTOUCHED; case.store];
-    // What the first search answered and left, which all later ones must too.
-    let mut first: Option<(Answer, Vec<i32>)> = None;
-    let [ours, literal, independent] = best(case.repetitions, |i| {
-        store.fill(UNTOUCHED);
-        let mut answer = Err(0);
-        let time = nanoseconds(|| answer = one_search(&SIDES[i], case, &mut store));
-        let (expected, left) = first.get_or_insert_with(|| (answer, store.clone()));
-        let (name, side) = (case.name, SIDES[i].name);
-        assert_eq!(answer, *expected, "{name}: the answer of {side}");
-        assert!(store == *left, "{name}: the store of {side}");
-        time / 1e6
-    });
-    let (answer, store) = first.expect("a search");
+// ---- the table
+struct Row {
+    clocks: u8,
+    // Ours over that of each other side.
+    ratios: [f64; 2],
+}
+
+fn row(case: &Case) -> Row {
+    let store = vec![UNTOUCHED; case.store];
+    let mut timed = Timed {
+        case,
+        store,
+        first: None,
+    };
+    let [ours, literal, independent] = timed.times();
+    let (answer, store) = timed.first.expect("a search");
     let (answer, zones) = (told(answer), kept(case, &store));
-    print!("{:9} {answer:>13} {zones:6} {ours:10.1}", case.name);
-    print!(" {literal:10.1} {:6.2}", ours / literal);
-    println!(" {independent:14.1} {:6.2}", ours / independent);
+    let ratios = [ours / literal, ours / independent];
+    let (clocks, locations, edges) = (case.clocks(), case.locations(), case.edges());
+    print!(
+        "{:26} {clocks:6} {locations:9} {edges:5} {answer:>13} {zones:6}",
+        case.name
+    );
+    println!(
+        " {ours:11.2} {literal:11.2} {:6.2} {independent:11.2} {:6.2}",
+        ratios[0], ratios[1]
+    );
+    Row { clocks, ratios }
+}
+
+fn print_mean(name: &str, rows: &[Row], counts: impl Fn(&Row) -> bool) {
+    let counted: Vec<&Row> = rows.iter().filter(|row| counts(row)).collect();
+    if counted.is_empty() {
+        return;
+    }
+    let sum = |i: usize| counted.iter().map(|row| row.ratios[i].ln()).sum::<f64>();
+    let [literal, independent] = [0, 1].map(|i| (sum(i) / counted.len() as f64).exp());
+    println!(
+        "{name:26} {:6} {literal:67.2} {independent:18.2}",
+        counted.len()
+    );
+}
+
+fn print_table(families: impl Iterator<Item = &'static Family>) {
+    let cases: Vec<Case> = families.flat_map(|family| (family.cases)()).collect();
+    println!("microseconds for one search, and ours over each of the others");
+    print!(
+        "{:26} clocks locations edges        answer  zones",
+        "automaton"
+    );
+    println!("      Rattle     literal  ratio independent  ratio");
+    let rows: Vec<Row> = cases.iter().map(row).collect();
+    println!("geometric means of the ratios, and of how many");
+    print_mean("all", &rows, |_| true);
+    print_mean("at most 4 clocks", &rows, |row| row.clocks <= 4);
+    print_mean("more than 4 clocks", &rows, |row| 4 < row.clocks);
 }
 
 fn one(side: &str, name: &str) {
     let side = SIDES.iter().find(|s| s.name == side).expect("a side");
-    let case = CASES.iter().find(|c| c.name == name).expect("an automaton");
-    let answer = one_search(side, case, &mut vec![UNTOUCHED; case.store]);
+    let mut cases = FAMILIES.iter().flat_map(|family| (family.cases)());
+    let case = cases.find(|c| c.name == name).expect("an automaton");
+    let answer = one_search(side, &case.automaton, &mut vec![UNTOUCHED; case.store]);
     println!("{}", told(answer));
+}
+
+fn family(name: &str) -> &'static Family {
+    let mut families = FAMILIES.iter();
+    let family = families.find(|family| family.name == name);
+    family.unwrap_or_else(|| panic!("no family {name}"))
 }
 
 fn main() {
     let words: Vec<String> = std::env::args().skip(1).collect();
-    if let [side, name] = &words[..] {
-        return one(side, name);
+    match &words[..] {
+        [] => print_table(FAMILIES.iter()),
+        [word, side, name] if word == "one" => one(side, name),
+        names => print_table(names.iter().map(|name| family(name))),
     }
-    check_stored();
-    println!("automaton        answer  zones  ms Rattle ms literal  ratio ms independent  ratio");
-    CASES.iter().for_each(run);
 }

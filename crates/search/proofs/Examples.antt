@@ -1,7 +1,7 @@
 -- Document 01's cards A to J, computed from the definitions.
 -- Assumes nothing.
 use mathlib.Core.Path.{refl}
-use Rattle.zones.specs.Containment.{containmentOf, countTo, larger, loweredTo, withinTo}
+use Rattle.zones.specs.Containment.{countTo, larger, loweredTo, withinTo}
 use Rattle.zones.specs.Fractions.{loweredBy, euclid, gcdOf, lowestTerms}
 use Rattle.zones.specs.Pairs.{sumOf, isLess, thresholdOf, smallerOf}
 use Rattle.zones.specs.Zones.{pairAt, firstWork, lowerAt, meetUpper, meetClock, meetLimits, raiseLimits, home, resetPlaces, resetOf}
@@ -17,5 +17,5 @@ use Rattle.search.specs.Store.{capacityOf, slotsOf, storeOf}
 use Rattle.search.specs.Verdicts.{answerOf, holdingOf, searchAnswer, searchStore, stateAnswer}
 
 pub all-right : AllRight examples
-unfolding containmentOf countTo larger loweredTo withinTo loweredBy euclid gcdOf lowestTerms sumOf isLess thresholdOf smallerOf pairAt firstWork lowerAt meetUpper meetClock meetLimits raiseLimits home resetPlaces resetOf relaxed rowSteps roundSteps emptyIn afterMiddle reduceSteps andThen meetOf enterOf followOf be16At be32At edgeAt firsts guardOf inByte invariantAt invariantOf limitsAt outOfRangeAt refusalOf resetSet resetsOf some entering following overcounted resultOf find offer follow expand take-from search counted flat pairsTo slotOf capacityOf slotsOf storeOf answerOf holdingOf searchAnswer searchStore stateAnswer
+unfolding countTo larger loweredTo withinTo loweredBy euclid gcdOf lowestTerms sumOf isLess thresholdOf smallerOf pairAt firstWork lowerAt meetUpper meetClock meetLimits raiseLimits home resetPlaces resetOf relaxed rowSteps roundSteps emptyIn afterMiddle reduceSteps andThen meetOf enterOf followOf be16At be32At edgeAt firsts guardOf inByte invariantAt invariantOf limitsAt outOfRangeAt refusalOf resetSet resetsOf some entering following overcounted resultOf find offer follow expand take-from search counted flat pairsTo slotOf capacityOf slotsOf storeOf answerOf holdingOf searchAnswer searchStore stateAnswer
 all-right = ((refl, refl), ((refl, refl), ((refl, refl), ((refl, refl), ((refl, refl), ((refl, refl), ((refl, refl), ((refl, refl), ((refl, refl), ((refl, refl), ((refl, refl), ((refl, refl), ((refl, refl), ((refl, refl), tt))))))))))))))

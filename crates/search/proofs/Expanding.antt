@@ -8,22 +8,21 @@ use lib.ListN.{length}
 use borrow.Author.Tests.{ne-eqb}
 use native.Mathlib.Omega.{arith}
 use native.Mathlib.Nat.{mul-le-mul-right, le-trans}
-use Rattle.zones.specs.declared.fraction.Fraction.{Fraction}
 use Rattle.zones.specs.declared.pair.Pair.{Pair}
-use Rattle.zones.specs.declared.reduction.Reduced.{Reduced}
-use Rattle.zones.specs.Ranges.{Fits32, Sized, counts}
+use Rattle.zones.specs.declared.zone.Work.{Work}
+use Rattle.zones.specs.Ranges.{Fits32}
 use Rattle.zones.specs.Successors.{followOf}
 use Rattle.search.specs.declared.exploration.Turn.{Turn}
 use Rattle.search.specs.Accepted.{Accepted}
 use Rattle.search.specs.Automata.{clocks, edges, from, to, invariantOf, guardOf, resetsOf}
-use Rattle.search.specs.Exploring.{SoundState, SoundResult, SoundZone, Shown, Gives, InProgress, Going}
+use Rattle.search.specs.Exploring.{SoundState, SoundZone, Shown, Gives, InProgress, Going}
 use Rattle.search.specs.Instance.{ZoneState, ZoneNode, workOf, resultOf, following, zonesOf}
 use Rattle.search.specs.Search.{offer, follow, expand}
 use Rattle.search.specs.Semantics.{systemOf}
 use Rattle.search.specs.Slots.{slotLength}
 use Rattle.search.proofs.Judged.{follow-on, expand-later}
 use Rattle.search.proofs.Judging.{n≤}
-use Rattle.search.proofs.Sounding.{node-sized, follow-sound, offer-sound}
+use Rattle.search.proofs.Sounding.{follow-sound, offer-sound}
 use Rattle.search.proofs.Stores.{store-length}
 
 pub progress : (b : List ℕ) (slots : ℕ) (s : List ℤ) {t : Turn} → Going b slots s t → InProgress b slots s (t .count)
@@ -74,60 +73,56 @@ module _ (b : List ℕ) (slots l : ℕ) (z : List Pair) (p : List ℕ) where
       rest = sym (one-edge i (w .state) hi ∙ ap (opened (edges b - (i + 1)) (i + 1)) (follow-off i (w .state) (w .going) h)) ∙ w .rest;
     }
 
-    -- an edge of this one
-    module _ (a : Accepted b) (sz : SoundZone b z) (f : Fraction) (ef : f ≡ t .fraction) where
-      fits : Fits32 f
-      fits = subst Fits32 (sym (ef ∙ w .shown .fraction)) (w .sound .fraction)
+    -- an edge of this one: v is the zone with the running fraction
+    module _ (a : Accepted b) (sz : SoundZone b z) (v : Work) (e : v ≡ workOf z (t .fraction)) where
+      pub taken-fits : Fits32 (v .fraction)
+      taken-fits = subst Fits32 (sym (ap (λ (x : Work). x .fraction) e ∙ w .shown .fraction)) (w .sound .fraction)
 
-      pub taken-sized : Sized counts (suc (clocks b)) (workOf z f)
-      taken-sized = node-sized b a z f (sz .ranged) fits
+      pub taken-sound : SoundZone b (v .zone)
+      taken-sound = subst (λ (x : Work). SoundZone b (x .zone)) (sym e) sz
 
-      pub result-sound : {r : Reduced} → r ≡ followOf (clocks b) (guardOf b i) (resetsOf b i) (invariantOf b (to b i)) (workOf z f) → SoundResult b r
-      result-sound er = subst (SoundResult b) (sym er) (follow-sound b a i hi z f (sz .ranged) (sz .framed) fits)
+      -- s′ and t′ are what the offer of its successor left
+      module _ (at : from b i ≡ l) (s′ : List ℤ) (t′ : Turn) (g : (p : List ℕ) → Gives b slots s (t .count) (λ q. offer (systemOf b) (zonesOf b) slots q (to b i) p (resultOf (followOf (clocks b) (guardOf b i) (resetsOf b i) (invariantOf b (to b i)) v))) s′ t′) where
+        next : ZoneState
+        next = offer (systemOf b) (zonesOf b) slots (w .state) (to b i) (p ++ (i ∷ [])) (resultOf (followOf (clocks b) (guardOf b i) (resetsOf b i) (invariantOf b (to b i)) v))
 
-    -- r is its successor, and s′ and t′ what the offer left
-    module _ (a : Accepted b) (sz : SoundZone b z) (at : from b i ≡ l) (r : Reduced) (f : Fraction) (ef : f ≡ t .fraction) (er : r ≡ followOf (clocks b) (guardOf b i) (resetsOf b i) (invariantOf b (to b i)) (workOf z f))
-        (s′ : List ℤ) (t′ : Turn) (g : (p : List ℕ) → Gives b slots s (t .count) (λ q. offer (systemOf b) (zonesOf b) slots q (to b i) p (resultOf r)) s′ t′) where
-      next : ZoneState
-      next = offer (systemOf b) (zonesOf b) slots (w .state) (to b i) (p ++ (i ∷ [])) (resultOf r)
+        shown : Shown (suc (clocks b)) s₀ (offer (systemOf b) (zonesOf b) slots (w .state) (to b i) (p ++ (i ∷ [])) (resultOf (followOf (clocks b) (guardOf b i) (resetsOf b i) (invariantOf b (to b i)) v))) s′ t′
+        shown = g (p ++ (i ∷ [])) .shows s₀ (w .state) (w .shown .stored) (w .sound)
 
-      shown : Shown (suc (clocks b)) s₀ (offer (systemOf b) (zonesOf b) slots (w .state) (to b i) (p ++ (i ∷ [])) (resultOf r)) s′ t′
-      shown = g (p ++ (i ∷ [])) .shows s₀ (w .state) (w .shown .stored) (w .sound)
+        followed : follow (systemOf b) (zonesOf b) slots node i (w .state) ≡ offer (systemOf b) (zonesOf b) slots (w .state) (to b i) (p ++ (i ∷ [])) (resultOf (followOf (clocks b) (guardOf b i) (resetsOf b i) (invariantOf b (to b i)) v))
+        unfolding following
+        followed =
+            follow-on (systemOf b) (zonesOf b) slots node i (w .state) (w .going) at
+            ∙ (λ k. offer (systemOf b) (zonesOf b) slots (w .state) (to b i) (p ++ (i ∷ [])) (resultOf (followOf (clocks b) (guardOf b i) (resetsOf b i) (invariantOf b (to b i)) (sym (e ∙ ap (workOf z) (w .shown .fraction)) k))))
 
-      followed : follow (systemOf b) (zonesOf b) slots node i (w .state) ≡ offer (systemOf b) (zonesOf b) slots (w .state) (to b i) (p ++ (i ∷ [])) (resultOf r)
-      unfolding following
-      followed =
-          follow-on (systemOf b) (zonesOf b) slots node i (w .state) (w .going) at
-          ∙ (λ k. offer (systemOf b) (zonesOf b) slots (w .state) (to b i) (p ++ (i ∷ [])) (resultOf (followOf (clocks b) (guardOf b i) (resetsOf b i) (invariantOf b (to b i)) (workOf z (sym (ef ∙ w .shown .fraction) k)))))
-          ∙ ap (λ (x : Reduced). offer (systemOf b) (zonesOf b) slots (w .state) (to b i) (p ++ (i ∷ [])) (resultOf x)) (sym er)
+        rest : opened (edges b - (i + 1)) (i + 1) (offer (systemOf b) (zonesOf b) slots (w .state) (to b i) (p ++ (i ∷ [])) (resultOf (followOf (clocks b) (guardOf b i) (resetsOf b i) (invariantOf b (to b i)) v))) ≡ opened (edges b) 0 q₀
+        rest = sym (one-edge i (w .state) hi ∙ ap (opened (edges b - (i + 1)) (i + 1)) followed) ∙ w .rest
 
-      rest : opened (edges b - (i + 1)) (i + 1) (offer (systemOf b) (zonesOf b) slots (w .state) (to b i) (p ++ (i ∷ [])) (resultOf r)) ≡ opened (edges b) 0 q₀
-      rest = sym (one-edge i (w .state) hi ∙ ap (opened (edges b - (i + 1)) (i + 1)) followed) ∙ w .rest
+        sound : SoundState b slots (offer (systemOf b) (zonesOf b) slots (w .state) (to b i) (p ++ (i ∷ [])) (resultOf (followOf (clocks b) (guardOf b i) (resetsOf b i) (invariantOf b (to b i)) v)))
+        sound = offer-sound b a slots (to b i) (a .to< i hi) (p ++ (i ∷ [])) (w .state) (w .sound) _ (follow-sound b a i hi (v .zone) (v .fraction) (taken-sound .ranged) (taken-sound .framed) taken-fits)
 
-      sound : SoundState b slots (offer (systemOf b) (zonesOf b) slots (w .state) (to b i) (p ++ (i ∷ [])) (resultOf r))
-      sound = offer-sound b a slots (to b i) (a .to< i hi) (p ++ (i ∷ [])) (w .state) (w .sound) r (result-sound a sz f ef er)
+        pub offered-length : slots * slotLength (suc (clocks b)) ≤ length s₀ → length s′ ≡ length s₀
+        unfolding next
+        offered-length h = shown-length b a slots s₀ next s′ h shown sound
 
-      pub offered-length : slots * slotLength (suc (clocks b)) ≤ length s₀ → length s′ ≡ length s₀
-      offered-length h = shown-length b a slots s₀ (offer (systemOf b) (zonesOf b) slots (w .state) (to b i) (p ++ (i ∷ [])) (resultOf r)) s′ h shown sound
+        pub goes-on : t′ .code ≡ 0 → Between s₀ q₀ (i + 1) s′ t′
+        unfolding next
+        goes-on f = record {
+          state = next;
+          shown = shown;
+          sound = sound;
+          going = sym (shown .code) ∙ f;
+          rest = rest;
+        }
 
-      pub goes-on : t′ .code ≡ 0 → Between s₀ q₀ (i + 1) s′ t′
-      unfolding next
-      goes-on e = record {
-        state = next;
-        shown = shown;
-        sound = sound;
-        going = sym (shown .code) ∙ e;
-        rest = rest;
-      }
-
-      -- a search that has stopped stays as it is
-      pub stops : (t′ .code ≡ 0 → ⊥) → Shown (suc (clocks b)) s₀ (opened (edges b) 0 q₀) s′ t′
-      unfolding next
-      stops e = go (next .code) refl
-        where
-          go : (k : ℕ) → offer (systemOf b) (zonesOf b) slots (w .state) (to b i) (p ++ (i ∷ [])) (resultOf r) .code ≡ k → Shown (suc (clocks b)) s₀ (opened (edges b) 0 q₀) s′ t′
-          go zero h = absurd (e (shown .code ∙ h))
-          go (suc k) h = subst (λ (q : ZoneState). Shown (suc (clocks b)) s₀ q s′ t′) (sym (expand-later (systemOf b) (zonesOf b) slots node (edges b - (i + 1)) (i + 1) next .stopped k h) ∙ rest) shown
+        -- a search that has stopped stays as it is
+        pub stops : (t′ .code ≡ 0 → ⊥) → Shown (suc (clocks b)) s₀ (opened (edges b) 0 q₀) s′ t′
+        unfolding next
+        stops f = go (next .code) refl
+          where
+            go : (k : ℕ) → offer (systemOf b) (zonesOf b) slots (w .state) (to b i) (p ++ (i ∷ [])) (resultOf (followOf (clocks b) (guardOf b i) (resetsOf b i) (invariantOf b (to b i)) v)) .code ≡ k → Shown (suc (clocks b)) s₀ (opened (edges b) 0 q₀) s′ t′
+            go zero h = absurd (f (shown .code ∙ h))
+            go (suc k) h = subst (λ (q : ZoneState). Shown (suc (clocks b)) s₀ q s′ t′) (sym (expand-later (systemOf b) (zonesOf b) slots node (edges b - (i + 1)) (i + 1) next .stopped k h) ∙ rest) shown
 
   -- what the next call asks
   pub between-progress : (s₀ : List ℤ) (q₀ : ZoneState) (i : ℕ) (s : List ℤ) (t : Turn) → slots * slotLength (suc (clocks b)) ≤ length s₀ → Between s₀ q₀ i s t → InProgress b slots s (t .count)

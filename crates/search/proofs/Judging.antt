@@ -11,26 +11,25 @@ use lib.Signed.{_≤ℤ_}
 use lib.ListN.{length, getD, take, drop, replicate, length-append}
 use native.Mathlib.Omega.{arith}
 use native.Mathlib.Nat.{mul-le-mul-right, le-trans}
-use Rattle.zones.specs.declared.containment.Containment.{Containment}
-use Rattle.zones.specs.declared.pair.Pair.{Pair}
+use Rattle.zones.specs.declared.fraction.Fraction.{Fraction}
 use Rattle.zones.specs.declared.reduction.Reduced.{Reduced}
 use Rattle.zones.specs.declared.zone.Work.{Work}
-use Rattle.zones.specs.Containment.{loweredWithin, containmentOf, largestCount}
-use Rattle.zones.specs.Ranges.{AllBounded, Sized, Comparable, scale, counts, lastCounts}
-use Rattle.zones.proofs.Inside.{contain-yes}
+use Rattle.zones.specs.Containment.{largestCount}
+use Rattle.zones.specs.Ranges.{AllBounded, Sized, scale, counts, lastCounts}
 use Rattle.search.specs.declared.exploration.Turn.{Turn}
 use Rattle.search.specs.Accepted.{Accepted}
 use Rattle.search.specs.Automata.{clocks, locations, target}
-use Rattle.search.specs.Exploring.{FirstHit, SoundNode, SoundState, Stored, Shown, Gives, InProgress}
+use Rattle.search.specs.Exploring.{FirstHit, SoundNode, Stored, Shown, Gives, InProgress}
 use Rattle.search.specs.Instance.{ZoneState, ZoneNode, resultOf, overcounted, zonesOf}
-use Rattle.search.specs.Search.{empty, zone, Nth, none, find, offer}
+use Rattle.search.specs.Search.{empty, zone, Nth, none, found, find, offer}
 use Rattle.search.specs.Semantics.{systemOf}
 use Rattle.search.specs.Slots.{slotLength, slotOf}
 use Rattle.search.specs.Decoding.{zoneOf}
+use Rattle.search.specs.Containing.{loweredSlots, largestSlot, Readable, ComparableSlots}
 use Rattle.search.specs.Store.{storeOf}
-use Rattle.search.proofs.Judged.{Judged, was-empty, was-target, was-inside, was-big, was-kept, was-full, computes, find-inside}
-use Rattle.search.proofs.Slotted.{slot-size, slot-taken, slot-counts, zone-of-slot}
-use Rattle.search.proofs.Stores.{SlotAt, slot-at, store-length, store-more, hit-none, hit-first, slot-fits, lent-part, lent-length}
+use Rattle.search.proofs.Judged.{Judged, was-empty, was-target, was-inside, was-big, was-kept, was-full, computes}
+use Rattle.search.proofs.Slotted.{slot-taken, slot-counts, slot-readable, slot-bounded, zone-of-slot, lowered-slots, largest-slot}
+use Rattle.search.proofs.Stores.{SlotAt, slot-at, store-length, store-more, hit-none, hit-first, slot-fits, lent-part}
 
 -- the element at a place that is there
 pub record At {X : Type 0} (xs : List X) (j : ℕ) : Type 0 where
@@ -47,6 +46,11 @@ module _ (b : List ℕ) (a : Accepted b) where
   n≤ = omega (arith, a .complete .clocks≤)
 
   -- ---- what the store shows
+  stored-slot : {s₀ : List ℤ} {q : ZoneState} {s : List ℤ} {count : ℕ} → Stored (suc (clocks b)) s₀ q s count → (j : ℕ) (k : ZoneNode) →
+      Nth (q .kept) j k → SlotAt (suc (clocks b)) n≤ s j k
+  stored-slot {s₀} {q} d j k m =
+      subst (λ (u : List ℤ). SlotAt (suc (clocks b)) n≤ u j k) (sym (d .store)) (slot-at (suc (clocks b)) n≤ (q .kept) s₀ j k m)
+
   module _ (slots count : ℕ) (s : List ℤ) (i : InProgress b slots s count) where
     pub progress-room : slots * slotLength (suc (clocks b)) ≤ length s
     progress-room =
@@ -59,21 +63,6 @@ module _ (b : List ℕ) (a : Accepted b) where
     pub progress-slots : count * slotLength (suc (clocks b)) ≤ length s
     progress-slots = le-trans (mul-le-mul-right (slotLength (suc (clocks b))) progress-count) progress-room
 
-    -- slot j is a sound node's
-    pub record SlotOf (j : ℕ) : Type 0 where
-      pub node : ZoneNode
-      pub sound : SoundNode b node
-      pub slot : SlotAt (suc (clocks b)) n≤ s j node
-
-    pub progress-slot : (j : ℕ) → j < count → SlotOf j
-    progress-slot j h =
-        let m = nth-at (i .state .kept) j (omega (arith, i .stored .number)) in
-        record {
-          node = m .node;
-          sound = i .sound .nodes j (m .node) (m .nth);
-          slot = subst (λ (u : List ℤ). SlotAt (suc (clocks b)) n≤ u j (m .node)) (sym (i .stored .store)) (slot-at (suc (clocks b)) n≤ (i .state .kept) (i .base) j (m .node) (m .nth));
-        }
-
   -- ---- a slot read back
   module _ (s : List ℤ) (j at : ℕ) (k : ZoneNode) (e : at ≡ j * slotLength (suc (clocks b))) (t : SlotAt (suc (clocks b)) n≤ s j k) where
     part : take (length s - at) (drop at s) ≡ slotOf (suc (clocks b)) (k .at) (k .zone) ++ t .rest
@@ -85,21 +74,13 @@ module _ (b : List ℕ) (a : Accepted b) where
     pub read-zone : SoundNode b k → zoneOf (suc (clocks b)) (take (length s - at) (drop at s)) ≡ k .zone
     read-zone h = ap (zoneOf (suc (clocks b))) part ∙ zone-of-slot (suc (clocks b)) (k .at) (k .zone) (t .rest) n≤ (h .ranged .size) (h .framed)
 
-  node-bounded : (k : ZoneNode) → SoundNode b k → AllBounded scale lastCounts (suc (clocks b)) (k .zone)
+  pub node-bounded : (k : ZoneNode) → SoundNode b k → AllBounded scale lastCounts (suc (clocks b)) (k .zone)
   node-bounded k h x y hx hy = record { m = h .ranged .bounded x y hx hy .m; p = omega (arith, h .ranged .bounded x y hx hy .p) }
 
-  pub comparable : (w : Work) → Sized lastCounts (suc (clocks b)) w → (k : ZoneNode) → SoundNode b k → {y : List Pair} → y ≡ k .zone → Comparable (w .zone) y (suc (clocks b)) (w .fraction)
-  comparable w sized k h e = record {
-    n≤ = n≤;
-    new = sized .ranged .bounded;
-    old = subst (AllBounded scale lastCounts (suc (clocks b))) (sym e) (node-bounded k h);
-    fraction = sized .narrow;
-  }
-
   -- ---- the zone to be judged
-  module _ (l : ℕ) (away : l ≡ target b → ⊥) (w : Work) (sized : Sized lastCounts (suc (clocks b)) w) (slots count : ℕ) where
-    module _ (s s₀ rest : List ℤ) (q : ZoneState) (p : List ℕ) (d : Stored (suc (clocks b)) s₀ q s count) (sound : SoundState b slots q)
-        (j : ℕ) (h : FirstHit (suc (clocks b)) (slotOf (suc (clocks b)) l (w .zone) ++ rest) s count j) where
+  module _ (l : ℕ) (away : l ≡ target b → ⊥) (w : Work) (slots count : ℕ) where
+    module _ (s s₀ rest : List ℤ) (q : ZoneState) (p : List ℕ) (d : Stored (suc (clocks b)) s₀ q s count) (j : ℕ)
+        (h : FirstHit (suc (clocks b)) (slotOf (suc (clocks b)) l (w .zone) ++ rest) s count j) where
       first : FirstHit (suc (clocks b)) (slotOf (suc (clocks b)) l (w .zone) ++ rest) (storeOf (suc (clocks b)) (q .kept) s₀) (length (q .kept)) j
       first = subst (λ (u : List ℤ). FirstHit (suc (clocks b)) (slotOf (suc (clocks b)) l (w .zone) ++ rest) u (length (q .kept)) j) (d .store) (subst (λ (c : ℕ). FirstHit (suc (clocks b)) (slotOf (suc (clocks b)) l (w .zone) ++ rest) s c j) (d .number) h)
 
@@ -107,20 +88,25 @@ module _ (b : List ℕ) (a : Accepted b) where
       offered = offer (systemOf b) (zonesOf b) slots q l p (zone (w .zone) (w .fraction))
 
       -- it is inside a kept one: the oldest such counts
-      pub judged-inside : j < count → {at : ℕ} {old : List Pair} {t : Containment} → at ≡ j * slotLength (suc (clocks b)) → old ≡ zoneOf (suc (clocks b)) (take (length s - at) (drop at s)) →
-          t ≡ containmentOf (suc (clocks b)) (w .zone) old (w .fraction) → Shown (suc (clocks b)) s₀ offered s (record { count = count; fraction = t .fraction; code = 0 })
-      judged-inside hj {at} {t = t} e f g =
-          let m = nth-at (q .kept) j (omega (arith, d .number)) in
-          let k = m .node in
-          let x = sound .nodes j k (m .nth) in
-          let slot = subst (λ (u : List ℤ). SlotAt (suc (clocks b)) n≤ u j k) (sym (d .store)) (slot-at (suc (clocks b)) n≤ (q .kept) s₀ j k (m .nth)) in
-          let y = f ∙ read-zone s j at k e slot x in
-          let found-k = hit-first b n≤ l (w .zone) (q .kept) s₀ rest j first k (m .nth) in
-          let i = find-inside (systemOf b) (zonesOf b) (q .kept) l (w .zone) k found-k .holds in
-          let z = computes (systemOf b) (zonesOf b) slots q l p (zone (w .zone) (w .fraction)) _ (was-inside (w .zone) (w .fraction) k (ne-eqb l (target b) away) found-k) in
-          let fr : t .fraction ≡ loweredWithin (suc (clocks b)) (w .zone) (k .zone) (w .fraction) =
-          ap (λ (c : Containment). c .fraction) (g ∙ ap (λ (o : List Pair). containmentOf (suc (clocks b)) (w .zone) o (w .fraction)) y ∙ sym (contain-yes (suc (clocks b)) (w .zone) (k .zone) (w .fraction) _ i refl)) in
-          rw z (record { stored = record { number = d .number; store = d .store }; fraction = fr; code = refl })
+      module _ (hj : j < count) {at : ℕ} (e : at ≡ j * slotLength (suc (clocks b))) where
+        m : At (q .kept) j
+        m = nth-at (q .kept) j (omega (arith, d .number))
+
+        found-at : find (systemOf b) (zonesOf b) (q .kept) l (w .zone) ≡ found (m .node)
+        found-at = hit-first b n≤ l (w .zone) (q .kept) s₀ rest j first (m .node) (m .nth)
+
+        pub judged-inside : {g : Fraction} →
+            g ≡ loweredSlots (slotOf (suc (clocks b)) l (w .zone) ++ rest) (take (length s - at) (drop at s)) (suc (clocks b) * suc (clocks b))
+            (w .fraction) →
+            Shown (suc (clocks b)) s₀ offered s (record { count = count; fraction = g; code = 0 })
+        judged-inside g =
+            let was = was-inside (w .zone) (w .fraction) (m .node) (ne-eqb l (target b) away) found-at in
+            let t = stored-slot d j (m .node) (m .nth) in
+            rw (computes (systemOf b) (zonesOf b) slots q l p (zone (w .zone) (w .fraction)) _ was) (record {
+              stored = record { number = d .number; store = d .store };
+              fraction = g ∙ rw (part s j at (m .node) e t) (lowered-slots (suc (clocks b)) l (w .zone) rest _ _ (t .rest) (w .fraction) n≤);
+              code = refl;
+            })
 
       -- no kept one contains it
       module _ (out : count ≤ j) where
@@ -185,11 +171,14 @@ module _ {b : List ℕ} {l : ℕ} {w : Work} {slots count : ℕ} {s : List ℤ} 
   pub asks-encode : ((size ≤ 9) × (l < 256)) × AllBounded scale lastCounts size (w .zone)
   asks-encode = ((omega (arith, es, n≤ b a), omega (arith, entered .location, a .complete .locations≤)), subst (λ (k : ℕ). AllBounded scale lastCounts k (w .zone)) (sym es) (entered .sized .ranged .bounded))
 
+  pub asks-largest : {new : List ℤ} → new ≡ slotOf size l (w .zone) ++ replicate (162 - 2 * (size * size)) (pos 0) → Readable new (size * size)
+  asks-largest e = rw e (slot-readable size l (w .zone) _ (omega (arith, es, n≤ b a)))
+
   pub asks-find : {new : List ℤ} → new ≡ slotOf size l (w .zone) ++ replicate (162 - 2 * (size * size)) (pos 0) → (size ≤ 9) × (count * slotLength size ≤ length s) × (slotLength size ≤ length new)
   asks-find e = (
     omega (arith, es, n≤ b a),
     subst (λ (k : ℕ). count * slotLength k ≤ length s) (sym es) (progress-slots b a slots count s i),
-    omega (arith, ap length e, length-append (slotOf size l (w .zone)) (replicate (162 - 2 * (size * size)) (pos 0)), slot-size size l (w .zone) (omega (arith, es, n≤ b a))),
+    asks-largest e .long,
   )
 
   -- a slot among the first `count`, or the next one where there is room
@@ -199,59 +188,62 @@ module _ {b : List ℕ} {l : ℕ} {w : Work} {slots count : ℕ} {s : List ℤ} 
   pub next-within : {amount : ℕ} → amount ≡ slotLength size → count < slots → count * amount + slotLength size ≤ length s
   next-within e h = subst (λ (x : ℕ). count * x + slotLength size ≤ length s) (sym e) (slot-fits (slotLength size) h (subst (λ (k : ℕ). slots * slotLength k ≤ length s) (sym es) (progress-room b a slots count s i)) refl)
 
-  module _ {j at : ℕ} (h : j < count) (e : at ≡ j * slotLength size) where
-    pub slot : SlotOf b a slots count s i j
-    slot = progress-slot b a slots count s i j h
-
-    at≡ : at ≡ j * slotLength (suc (clocks b))
-    at≡ = e ∙ ap (λ (k : ℕ). j * slotLength k) es
-
-    pub asks-decode : ((size ≤ 9) × (slotLength size ≤ length (take (length s - at) (drop at s)))) × ((t : ℕ) → t < size * size → pos 0 ≤ℤ getD (take (length s - at) (drop at s)) (2 + 2 * t) (pos 0))
-    asks-decode = (
-      (omega (arith, es, n≤ b a), omega (arith, lent-length s at, slot-fits (slotLength size) h (subst (λ (k : ℕ). count * slotLength k ≤ length s) (sym es) (progress-slots b a slots count s i)) e)),
-      λ t ht. read-counts b a s j at (slot .node) at≡ (slot .slot) t (subst (λ (k : ℕ). t < k * k) es ht),
-    )
-
-    pub read-node : {z : List Pair} → z ≡ zoneOf size (take (length s - at) (drop at s)) → z ≡ slot .node .zone
-    read-node f = f ∙ ap (λ (k : ℕ). zoneOf k (take (length s - at) (drop at s))) es ∙ read-zone b a s j at (slot .node) at≡ (slot .slot) (slot .sound)
-
-    pub asks-contain : {old : List Pair} → old ≡ zoneOf size (take (length s - at) (drop at s)) → Comparable (w .zone) old size (w .fraction)
-    asks-contain {old} f = subst (λ (k : ℕ). Comparable (w .zone) old k (w .fraction)) (sym es) (comparable b a w (entered .sized) (slot .node) (slot .sound) (read-node f))
-
   -- what each branch gives
-  module _ (p : List ℕ) {new : List ℤ} (en : new ≡ slotOf size l (w .zone) ++ replicate (162 - 2 * (size * size)) (pos 0)) {j : ℕ} (h : FirstHit size new s count j) where
-    abbrev op : ZoneState → ZoneState
-    op q = offer (systemOf b) (zonesOf b) slots q l p (zone (w .zone) (w .fraction))
-
+  module _ {new : List ℤ} (en : new ≡ slotOf size l (w .zone) ++ replicate (162 - 2 * (size * size)) (pos 0))
+      {j : ℕ} (h : FirstHit size new s count j) where
     new≡ : new ≡ slotOf (suc (clocks b)) l (w .zone) ++ replicate (162 - 2 * (suc (clocks b) * suc (clocks b))) (pos 0)
     new≡ = en ∙ ap (λ (k : ℕ). slotOf k l (w .zone) ++ replicate (162 - 2 * (k * k)) (pos 0)) es
 
     hits : FirstHit (suc (clocks b)) (slotOf (suc (clocks b)) l (w .zone) ++ replicate (162 - 2 * (suc (clocks b) * suc (clocks b))) (pos 0)) s count j
     hits = subst (λ (u : List ℤ). FirstHit (suc (clocks b)) u s count j) new≡ (subst (λ (k : ℕ). FirstHit k new s count j) es h)
 
-    pub gives-inside : j < count → {at : ℕ} {old : List Pair} {t : Containment} → at ≡ j * slotLength size → old ≡ zoneOf size (take (length s - at) (drop at s)) → t ≡ containmentOf size (w .zone) old (w .fraction) →
-        Gives b slots s count op s (record { count = count; fraction = t .fraction; code = 0 })
-    gives-inside hj {at} {old} e f g = record {
-      shows = λ s₀ q d o. judged-inside b a l (entered .away) w (entered .sized) slots count s s₀ _ q p d o j hits hj (e ∙ ap (λ (k : ℕ). j * slotLength k) es)
-          (f ∙ ap (λ (k : ℕ). zoneOf k (take (length s - at) (drop at s))) es) (g ∙ ap (λ (k : ℕ). containmentOf k (w .zone) old (w .fraction)) es);
-    }
+    abbrev op : List ℕ → ZoneState → ZoneState
+    op p q = offer (systemOf b) (zonesOf b) slots q l p (zone (w .zone) (w .fraction))
 
-    module _ (out : count ≤ j) {most : ℕ} (em : most ≡ largestCount size (w .zone)) where
+    module _ (hj : j < count) {at : ℕ} (e : at ≡ j * slotLength size) where
+      here : at ≡ j * slotLength (suc (clocks b))
+      here = e ∙ ap (λ (k : ℕ). j * slotLength k) es
+
+      pub asks-lowered : ComparableSlots new (take (length s - at) (drop at s)) (size * size) (w .fraction)
+      asks-lowered =
+          let m = nth-at (i .state .kept) j (omega (arith, i .stored .number)) in
+          let k = m .node in
+          let t = stored-slot b a (i .stored) j k (m .nth) in
+          let sound = i .sound .nodes j k (m .nth) in
+          rw (es, new≡, part b a s j at k here t) (record {
+            new-reads = slot-readable (suc (clocks b)) l (w .zone) _ (n≤ b a);
+            old-reads = slot-readable (suc (clocks b)) (k .at) (k .zone) _ (n≤ b a);
+            new-bounded = slot-bounded (suc (clocks b)) l (w .zone) _ scale lastCounts (n≤ b a) (entered .sized .ranged .bounded);
+            old-bounded = slot-bounded (suc (clocks b)) (k .at) (k .zone) _ scale lastCounts (n≤ b a) (node-bounded b a k sound);
+            inside = rw (t .same) at (hits .found hj .inside);
+            fraction = entered .sized .narrow;
+          })
+
+      pub gives-inside : {g : Fraction} → g ≡ loweredSlots new (take (length s - at) (drop at s)) (size * size) (w .fraction) →
+          (p : List ℕ) → Gives b slots s count (op p) s (record { count = count; fraction = g; code = 0 })
+      gives-inside g p = record {
+        shows = λ s₀ q d o. judged-inside b a l (entered .away) w slots count s s₀ _ q p d j hits hj here
+            (g ∙ (λ i. loweredSlots (new≡ i) (take (length s - at) (drop at s)) (es i * es i) (w .fraction)));
+      }
+
+    module _ (out : count ≤ j) {most : ℕ} (em : most ≡ largestSlot new (size * size)) where
       largest : most ≡ largestCount (suc (clocks b)) (w .zone)
-      largest = em ∙ ap (λ (k : ℕ). largestCount k (w .zone)) es
+      largest = em ∙ (λ i. largestSlot (new≡ i) (es i * es i)) ∙ largest-slot (suc (clocks b)) l (w .zone) _ (n≤ b a)
 
-      pub gives-big : counts < most → Gives b slots s count op s (record { count = count; fraction = w .fraction; code = 9 })
-      gives-big g = record { shows = λ s₀ q d o. judged-big b a l (entered .away) w (entered .sized) slots count s s₀ _ q p d o j hits out (subst (λ (m : ℕ). counts < m) largest g) }
+      pub gives-big : counts < most → (p : List ℕ) → Gives b slots s count (op p) s (record { count = count; fraction = w .fraction; code = 9 })
+      gives-big g p = record { shows = λ s₀ q d o. judged-big b a l (entered .away) w slots count s s₀ _ q p d j hits out (rw largest at g) }
 
-      pub gives-full : most ≤ counts → slots ≤ count → Gives b slots s count op s (record { count = count; fraction = w .fraction; code = 10 })
-      gives-full g r = record { shows = λ s₀ q d o. judged-full b a l (entered .away) w (entered .sized) slots count s s₀ _ q p d o j hits out (subst (λ (m : ℕ). m ≤ counts) largest g) r }
+      pub gives-full : most ≤ counts → slots ≤ count → (p : List ℕ) →
+          Gives b slots s count (op p) s (record { count = count; fraction = w .fraction; code = 10 })
+      gives-full g r p = record { shows = λ s₀ q d o. judged-full b a l (entered .away) w slots count s s₀ _ q p d j hits out (rw largest at g) r }
 
       pub gives-kept : most ≤ counts → count < slots → {amount : ℕ} {s′ : List ℤ} → amount ≡ slotLength size →
-          s′ ≡ take (count * amount) s ++ (take amount new ++ drop (count * amount + amount) s) → Gives b slots s count op s′ (record { count = count + 1; fraction = w .fraction; code = 0 })
-      gives-kept g r {amount} e f =
+          s′ ≡ take (count * amount) s ++ (take amount new ++ drop (count * amount + amount) s) → (p : List ℕ) →
+          Gives b slots s count (op p) s′ (record { count = count + 1; fraction = w .fraction; code = 0 })
+      gives-kept g r {amount} e f p =
           let k = e ∙ ap slotLength es in
           record {
-            shows = λ s₀ q d o. judged-kept b a l (entered .away) w (entered .sized) slots count s s₀ _ q p d o j hits out (subst (λ (m : ℕ). m ≤ counts) largest g) r (ap (λ (x : ℕ). count * x) k)
+            shows = λ s₀ q d o. judged-kept b a l (entered .away) w slots count s s₀ _ q p d j hits out (rw largest at g) r (ap (λ (x : ℕ). count * x) k)
                 (f ∙ (λ i. take (count * amount) s ++ (take (k i) (new≡ i) ++ drop (count * amount + k i) s)));
           }
 

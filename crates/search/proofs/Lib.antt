@@ -20,6 +20,7 @@ pub mod Turns
 pub mod Stores
 pub mod Judging
 pub mod Sounding
+pub mod Arriving
 pub mod Expanding
 pub mod Taking
 pub mod Beginning

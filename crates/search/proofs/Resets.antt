@@ -1,10 +1,11 @@
 -- The clocks of a reset byte.
 -- Assumes nothing.
-use Prim.Native.Nat.{ℕ, zero, suc, _/_, _^_, _<_}
+use Prim.Native.Nat.{ℕ, zero, suc, _/_, _^_, _<_, _≤_}
 use mathlib.Core.Path.{_≡_, refl}
 use mathlib.Core.Bool.{Bool, false}
 use mathlib.Core.List.{List}
-use lib.ListN.{getD}
+use lib.ListN.{length, getD, replicate, getD-replicate, length-replicate, List·getD-eq-default}
+use native.Mathlib.Decide.{decLt}
 use native.Mathlib.Nat.{div-eq-of-lt, lt-of-lt-of-le, pow-le-pow-right, le-of-suc-le-suc, not-suc-le-zero}
 use native.Mathlib.Omega.{arith}
 use Rattle.search.specs.Automata.{resetByte, inByte, firsts, resetSet, resetsOf}
@@ -31,3 +32,11 @@ firsts-at (suc n) f (suc x) h = firsts-at n (λ x. f (suc x)) x (le-of-suc-le-su
 pub resets-at : (s : List ℕ) (i x : ℕ) → x < 9 → getD (resetSet (resetByte s i)) x false ≡ resetsOf s i x
 unfolding resetSet resetsOf
 resets-at s i = firsts-at 9 (inByte (resetByte s i))
+
+-- a list of nine that marks no clock
+pub none-reset : (x : ℕ) → getD (replicate 9 false) x false ≡ false
+none-reset x = go (decLt x 9)
+  where
+    go : Dec (x < 9) → getD (replicate 9 false) x false ≡ false
+    go (yes h) = getD-replicate 9 x false false h
+    go (no h) = let long : length (replicate 9 false) ≤ x = omega (arith, length-replicate 9 false) in List·getD-eq-default (replicate 9 false) false long

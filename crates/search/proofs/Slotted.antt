@@ -1,10 +1,11 @@
--- Slots: their size, what stands where in one, that a zone comes back out of its slot, and that the containment test of two slots is that of their zones.
+-- Slots: their size, what stands where in one, that a zone comes back out of its slot, and that the containment test of two slots, the fraction
+-- after it and the largest error count of one are those of their zones.
 -- Assumes nothing.
 use Prim.Native.Nat.{ℕ, zero, suc, _+_, _-_, _*_, _/_, _%_, _<_, _≤_, min}
-use mathlib.Core.Path.{_≡_, refl, sym, _∙_}
+use mathlib.Core.Path.{_≡_, refl, sym, _∙_, subst}
 use mathlib.Core.Bool.{Bool, true, false, cond}
 use mathlib.Core.List.{List, [], _∷_, _++_, append-assoc}
-use borrow.Author.Tests.{lt-ltb, le-ltb, ltb-true}
+use borrow.Author.Tests.{lt-ltb, le-ltb, ltb-true, ltb-false}
 use lib.Dec.{ltb}
 use lib.IntN.{ℤ, pos}
 use lib.ListN.{length, getD, take, set, length-append, length-set, length-replicate, getD-replicate}
@@ -13,19 +14,24 @@ use lib.Signed.{_≤ℤ_}
 use native.Mathlib.Decide.{ℕ-discrete, decLt}
 use native.Mathlib.Nat.{not-suc-le-zero}
 use native.Mathlib.Omega.{arith}
+use Rattle.zones.specs.declared.fraction.Fraction.{Fraction}
 use Rattle.zones.specs.declared.pair.Pair.{Pair}
-use Rattle.zones.specs.Containment.{placeOf, withinTo, within}
+use Rattle.zones.specs.Containment.{placeOf, withinTo, within, loweredTo, loweredWithin, countTo, largestCount}
 use Rattle.zones.specs.Integers.{up}
 use Rattle.zones.proofs.Integers.{le-make}
-use Rattle.zones.specs.Pairs.{zeroPair, atMost, isLess, smallerOf}
+use Rattle.zones.specs.Fractions.{loweredBy}
+use Rattle.zones.specs.Pairs.{zeroPair, atMost, isLess, thresholdOf, smallerOf}
+use Rattle.zones.specs.Ranges.{AllBounded, Bounded}
 use Rattle.zones.specs.Reductions.{reduceOf}
 use Rattle.zones.specs.Zones.{Limits, pairAt, entry, firstWork, lowerAt, meetLimits, raiseLimits, home, resetPlaces, resetOf}
 use Rattle.zones.specs.declared.zone.Work.{Work}
 use Rattle.zones.proofs.Meeting.{met-ind}
 use Rattle.zones.proofs.Places.{home-stays, home-below}
+use Rattle.zones.proofs.Squares.{up-to}
 use Rattle.zones.proofs.Steps.{reduce-ind}
 use Rattle.search.specs.Slots.{slotLength, pairsTo, pairsOf, flat, slotOf}
-use Rattle.search.specs.Decoding.{slotPair, counted, squareTo, zoneOf, lessAt, withinSlots, Framed}
+use Rattle.search.specs.Decoding.{slotPair, counted, squareTo, zoneOf, Framed}
+use Rattle.search.specs.Containing.{lessAt, withinSlots, loweredSlots, largestSlot, Readable}
 
 -- ---- how many places count
 module _ (n : ℕ) where
@@ -73,6 +79,18 @@ module _ (n : ℕ) where
   pub counted-all : n ≤ 9 → counted n (n * 9) ≡ n * n
   counted-all h = rows-counted h n
 
+  -- what holds of the first k places and their number t, place by place
+  counted-ind : (P : ℕ → ℕ → Type 0) → P 0 0 →
+      ((k : ℕ) → k < n * 9 → k % 9 < n → P k (counted n k) → P (suc k) (suc (counted n k))) →
+      ((k : ℕ) → n ≤ k % 9 → P k (counted n k) → P (suc k) (counted n k)) → (k : ℕ) → k ≤ n * 9 → P k (counted n k)
+  unfolding counted
+  counted-ind P p f g zero h = p
+  counted-ind P p f g (suc k) h = go (counted-ind P p f g k (omega arith)) (ltb (k % 9) n) refl
+    where
+      go : P k (counted n k) → (t : Bool) → ltb (k % 9) n ≡ t → P (suc k) (cond t (suc (counted n k)) (counted n k))
+      go ih true e = f k h (ltb-true (k % 9) n e) ih
+      go ih false e = g k (ltb-false (k % 9) n e) ih
+
   -- a place that counts comes before the last
   pub counted-below : n ≤ 9 → (k : ℕ) → k < n * 9 → k % 9 < n → counted n k < n * n
   counted-below h k hk c =
@@ -109,6 +127,10 @@ module _ (n : ℕ) (z : List Pair) where
       go : (qs : List Pair) → pairsTo n (d + suc k) z ≡ pairsTo n k z ++ (placeOf z k ∷ qs) → Dec ((d + suc k) % 9 < n) → (qs : List Pair) × (pairsTo n (suc d + suc k) z ≡ pairsTo n k z ++ (placeOf z k ∷ qs))
       go qs s (yes p) = (qs ++ (placeOf z (d + suc k) ∷ []), rw e (pairs-in (d + suc k) p ∙ rw (s, append-assoc)))
       go qs s (no p) = (qs, rw e (pairs-out (d + suc k) (omega arith) ∙ s))
+
+pub bounded-place : (C P n : ℕ) (z : List Pair) (k : ℕ) → AllBounded C P n z → k < n * 9 → k % 9 < n → Bounded C P (placeOf z k)
+unfolding pairAt
+bounded-place C P n z k h hk c = let e : k / 9 * 9 + k % 9 ≡ k = omega arith in subst (λ (i : ℕ). Bounded C P (placeOf z i)) e (h (k / 9) (k % 9) (omega arith) c)
 
 -- ---- their numbers
 pub flat-length : (l : List Pair) → length (flat l) ≡ 2 * length l
@@ -178,6 +200,31 @@ module _ (n l : ℕ) (z : List Pair) where
 
     pub slot-pair-at : (k : ℕ) → k < n * 9 → k % 9 < n → slotPair (slotOf n l z ++ rest) (counted n k) ≡ placeOf z k
     slot-pair-at k h c = let e = slot-m k h c in let f = slot-p k h c in λ i. record { m = e i; p = up (f i) }
+
+    -- every pair is one of the zone's
+    module _ (C P : ℕ) where
+      abbrev BoundedAt : ℕ → Type 0
+      BoundedAt t = Bounded C P (slotPair (slotOf n l z ++ rest) t)
+
+      pub slot-bounded : n ≤ 9 → AllBounded C P n z → (t : ℕ) → t < n * n → Bounded C P (slotPair (slotOf n l z ++ rest) t)
+      slot-bounded n≤ b =
+          rw (← counted-all n n≤)
+          (counted-ind n (λ k c. (t : ℕ) → t < c → BoundedAt t) (λ t h. absurd (not-suc-le-zero h))
+          (λ k h c ih. up-to BoundedAt (counted n k) ih (subst (Bounded C P) (sym (slot-pair-at k h c)) (bounded-place C P n z k b h c)))
+          (λ k c ih. ih) (n * 9) (omega arith))
+
+    pub slot-readable : n ≤ 9 → Readable (slotOf n l z ++ rest) (n * n)
+    slot-readable h = record { long = rw length-append (omega (arith, slot-size h)); counts = slot-counts h }
+
+    -- the largest error count
+    largest-to : (k : ℕ) → k ≤ n * 9 → largestSlot (slotOf n l z ++ rest) (counted n k) ≡ countTo n k z
+    unfolding largestSlot countTo
+    largest-to =
+        counted-ind n (λ k t. largestSlot (slotOf n l z ++ rest) t ≡ countTo n k z) refl
+        (λ k h c ih. rw (lt-ltb (k % 9) n c, slot-p k h c, ih)) (λ k c ih. rw (le-ltb (k % 9) n c) ih)
+
+    pub largest-slot : n ≤ 9 → largestSlot (slotOf n l z ++ rest) (n * n) ≡ largestCount n z
+    largest-slot h = rw (← counted-all n h) (largest-to (n * 9) (omega arith))
 
 -- ---- the square of a slot's pairs
 module _ (n : ℕ) (s : List ℤ) where
@@ -252,17 +299,26 @@ module _ (n l : ℕ) (z : List Pair) (rest : List ℤ) (l′ : ℕ) (y : List Pa
   less-slots k h c = rw (slot-m n l z rest k h c, slot-m n l′ y rest′ k h c, slot-p n l z rest k h c, slot-p n l′ y rest′ k h c)
 
   within-to : (k : ℕ) → k ≤ n * 9 → withinSlots new old (counted n k) ≡ withinTo n k z y
-  unfolding withinSlots withinTo counted
-  within-to zero h = refl
-  within-to (suc k) h = go (within-to k (omega arith)) (ltb (k % 9) n) refl
-    where
-      go : withinSlots new old (counted n k) ≡ withinTo n k z y → (t : Bool) → ltb (k % 9) n ≡ t
-          → withinSlots new old (cond t (suc (counted n k)) (counted n k)) ≡ cond t (cond (isLess (placeOf y k) (placeOf z k)) false (withinTo n k z y)) (withinTo n k z y)
-      go ih true e = rw (less-slots k h (ltb-true (k % 9) n e), ih)
-      go ih false e = ih
+  unfolding withinSlots withinTo
+  within-to =
+      counted-ind n (λ k t. withinSlots new old t ≡ withinTo n k z y) refl
+      (λ k h c ih. rw (lt-ltb (k % 9) n c, less-slots k h c, ih)) (λ k c ih. rw (le-ltb (k % 9) n c) ih)
 
   pub within-slots : n ≤ 9 → withinSlots (slotOf n l z ++ rest) (slotOf n l′ y ++ rest′) (n * n) ≡ within n z y
   within-slots h = rw (← counted-all n h) (within-to (n * 9) (omega arith))
+
+  -- and so is the fraction after it
+  module _ (f : Fraction) where
+    lowered-to : (k : ℕ) → k ≤ n * 9 → loweredSlots new old (counted n k) f ≡ loweredTo n k z y f
+    unfolding loweredSlots loweredTo
+    lowered-to =
+        counted-ind n (λ k t. loweredSlots new old t f ≡ loweredTo n k z y f) refl
+        (λ k h c ih. let x = slot-pair-at n l z rest k h c in let o = slot-pair-at n l′ y rest′ k h c in
+        rw (lt-ltb (k % 9) n c) (λ i. loweredBy (ih i) (thresholdOf (x i) (o i))))
+        (λ k c ih. rw (le-ltb (k % 9) n c) ih)
+
+    pub lowered-slots : n ≤ 9 → loweredSlots (slotOf n l z ++ rest) (slotOf n l′ y ++ rest′) (n * n) f ≡ loweredWithin n z y f
+    lowered-slots h = rw (← counted-all n h) (lowered-to (n * 9) (omega arith))
 
 -- ---- the frame of (0, 0) is kept by every operation
 module _ (n : ℕ) where

@@ -30,7 +30,7 @@ use Rattle.search.specs.Search.{Result, empty, zone, fracOf, offer}
 use Rattle.search.specs.Semantics.{systemOf}
 use Rattle.search.specs.Decoding.{Framed}
 use Rattle.search.proofs.Judged.{Judged, was-empty, was-target, was-inside, was-big, was-kept, was-full, judged, find-inside}
-use Rattle.search.proofs.Judging.{comparable}
+use Rattle.search.proofs.Judging.{node-bounded}
 use Rattle.search.proofs.Lists.{nth-snoc}
 use Rattle.search.proofs.Slotted.{framed-first, framed-meet, framed-reduce, framed-raise, framed-reset}
 use Rattle.search.proofs.Stepping.{invariant-scale, guard-scale}
@@ -162,8 +162,8 @@ module _ (b : List ℕ) (a : Accepted b) where
     judged-sound x e q′ (was-inside z f k d g) =
         let i = find-inside (systemOf b) (zonesOf b) (q .kept) l z k g in
         let o = zone-fit r z f h e in
-        let t = comparable b a (workOf z f) (o .0) k (sound .nodes (i .place) k (i .kept)) refl in
-        record { nodes = sound .nodes; most = sound .most; fraction = lowered-fits z (k .zone) (suc (clocks b)) f t (i .holds) (suc (clocks b) * 9) (omega arith) }
+        let old = node-bounded b a k (sound .nodes (i .place) k (i .kept)) in
+        record { nodes = sound .nodes; most = sound .most; fraction = lowered-fits z (k .zone) (suc (clocks b)) (o .0 .ranged .bounded) old (i .holds) f (o .0 .narrow) (suc (clocks b) * 9) (omega arith) }
     judged-sound x e q′ (was-big z f d g i) = record { nodes = sound .nodes; most = sound .most; fraction = result-fits r h x e }
     judged-sound x e q′ (was-kept z f d g i j) =
         let o = zone-fit r z f h e in

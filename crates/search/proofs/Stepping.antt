@@ -5,6 +5,7 @@ use mathlib.Core.Path.{_≡_, refl, sym, ap, _∙_, subst}
 use mathlib.Core.Bool.{Bool, true, false}
 use mathlib.Core.List.{List}
 use lib.ListN.{length, getD, set, List·getD-eq-default}
+use lib.Seq.{set-getD}
 use native.Mathlib.Decide.{decLt}
 use native.Mathlib.Omega.{arith}
 use Rattle.zones.specs.declared.fraction.Fraction.{Fraction}
@@ -14,11 +15,17 @@ use Rattle.zones.specs.declared.zone.Bounds.{Bounds}
 use Rattle.zones.specs.declared.zone.Work.{Work}
 use Rattle.zones.specs.Pairs.{zeroPair}
 use Rattle.zones.specs.Ranges.{Sized, OnScale, LimitsReady, Ready, scale, counts, stepCounts}
-use Rattle.zones.specs.Reductions.{reduceOf}
+use Rattle.zones.specs.Reductions.{reduceSteps, reduceOf}
+use Rattle.zones.specs.Moves.{Shaped}
+use Rattle.zones.specs.Settled.{Settled, Lifted, Begun}
 use Rattle.zones.specs.Successors.{meetOf, enterOf, followOf}
-use Rattle.zones.specs.Zones.{Limits, pairAt, boundsMet, meetLimits, raiseLimits, setOf, resetOf}
+use Rattle.zones.specs.Zones.{Limits, pairAt, boundsMet, boundsBelow, meetLimits, raiseLimits, setOf, resetOf}
 use Rattle.zones.proofs.Bounding.{sized-more, sized-ready, sized-limits, sized-meet, sized-reset, sized-raise, sized-reduce}
-use Rattle.zones.proofs.Limits.{limits-more}
+use Rattle.zones.proofs.Limits.{met-unlowered, limits-more}
+use Rattle.zones.proofs.Meeting.{meet-shaped}
+use Rattle.zones.proofs.Raising.{raise-lifted}
+use Rattle.zones.proofs.Settled.{settled-reduced}
+use Rattle.zones.proofs.Settling.{reduced-settled, reset-settled, limits-settled}
 use Rattle.zones.proofs.Moving.{then-empty, then-live}
 use Rattle.search.specs.Accepted.{Accepted}
 use Rattle.search.specs.Automata.{clocks, locations, edges, resetByte, limitsAt, invariantOf, guardOf, resetsOf, inByte, firsts, resetSet}
@@ -47,6 +54,15 @@ module _ (L : Limits) (n : ℕ) (w u : Work) (n≤ : n ≤ 8) (o : OnScale scale
       limits-more L x w u px (omega arith) (sized .ranged .size) e
       (k ∙ (λ i. boundsMet (f i) (g i) (h i) (sym (entries-at (u .zone) x (u .fraction)) i)))
 
+-- a clock's limits that lower neither entry leave the square as it is
+pub turn-same : (z : List Pair) (x : ℕ) (f : Fraction) (lo hi : ℕ) (absent : Bool) {b : Bounds} → b ≡ boundsMet lo hi absent (entries z x f) → boundsBelow b (entries z x f) ≡ false →
+    set (set z (x * 9) (b .upper)) x (b .lower) ≡ z
+turn-same z x f lo hi absent e h =
+    let m = met-unlowered lo hi absent (entries z x f) (subst (λ (b : Bounds). boundsBelow b (entries z x f) ≡ false) e h) in
+    let upper = ap (λ (b : Bounds). b .upper) e ∙ m .0 in
+    let lower = ap (λ (b : Bounds). b .lower) e ∙ m .1 in
+    (λ i. set (set z (x * 9) (upper i)) x (lower i)) ∙ ap (λ (y : List Pair). set y x (getD z x zeroPair)) (set-getD z (x * 9) zeroPair) ∙ set-getD z x zeroPair
+
 -- ---- the operations of a step, as the code makes them; k is the number of indices
 module _ (c : ℕ) (c≤ : c ≤ 8) (w : Work) {k : ℕ} (k≡ : k ≡ suc c) where
   pub met-is : (L : Limits) {u : Work} {r : Reduced} → u ≡ meetLimits L c w → r ≡ reduceOf k u → r ≡ meetOf c L w
@@ -67,10 +83,10 @@ module _ (c : ℕ) (c≤ : c ≤ 8) (w : Work) {k : ℕ} (k≡ : k ≡ suc c) wh
   unfolding followOf
   followed-none G R I e f = e ∙ sym (then-empty (meetOf c G w) (λ v. enterOf c I (resetOf (suc c) R v)) (ap (λ (x : Reduced). x .empty) (sym e) ∙ f))
 
-  pub followed : (G : Limits) (R : ℕ → Bool) (I : Limits) {r v : Reduced} {u : Work} {S : ℕ → Bool} → r ≡ meetOf c G w → r .empty ≡ false → S ≡ R → u ≡ resetOf k S (r .work) → v ≡ enterOf c I u → v ≡ followOf c G R I w
+  pub followed : (G : Limits) (R : ℕ → Bool) (I : Limits) {r : Reduced} → r ≡ meetOf c G w → r .empty ≡ false → enterOf c I (resetOf (suc c) R (r .work)) ≡ followOf c G R I w
   unfolding followOf
-  followed G R I e f s g h =
-      h ∙ ap (enterOf c I) (g ∙ (λ i. resetOf (k≡ i) (s i) (e i .work)))
+  followed G R I e f =
+      ap (λ (x : Reduced). enterOf c I (resetOf (suc c) R (x .work))) e
       ∙ sym (then-live (meetOf c G w) (λ v. enterOf c I (resetOf (suc c) R v)) (ap (λ (x : Reduced). x .empty) (sym e) ∙ f))
 
   -- ---- ranges
@@ -78,6 +94,16 @@ module _ (c : ℕ) (c≤ : c ≤ 8) (w : Work) {k : ℕ} (k≡ : k ≡ suc c) wh
   met-ready L o r {u} e =
       subst (Ready u) (sym k≡)
       (subst (λ (v : Work). Ready v (suc c)) (sym e) (sized-ready stepCounts (suc c) (omega arith) (omega arith) (omega arith) (meetLimits L c w) (sized-meet stepCounts (suc c) (omega arith) (omega arith) (omega arith) w r c (omega arith) L o c (omega arith))))
+
+  -- which middle indices are left out: none, or of a settled zone all
+  pub none-begun : (u : Work) {m : ℕ} → m ≡ 0 → Begun k m u
+  unfolding reduceSteps
+  none-begun u e = subst (λ (m : ℕ). Begun k m u) (sym e) (record { most = omega arith; same = refl })
+
+  pub all-begun : (L : Limits) → Settled (suc c) w → meetLimits L c w .zone ≡ w .zone → {u : Work} → u ≡ meetLimits L c w → {m : ℕ} → m ≡ k → Begun k m u
+  all-begun L h z {u} e f =
+      subst (λ (m : ℕ). Begun k m u) (sym f) (subst (λ (i : ℕ). Begun i i u) (sym k≡)
+      (subst (Begun (suc c) (suc c)) (sym e) (record { most = omega arith; same = settled-reduced (suc c) (meetLimits L c w) (limits-settled c (omega arith) L w h z) (suc c) (omega arith) })))
 
   -- after the guard or the invariant, error counts are ten times larger
   module _ (P : ℕ) (P> : 0 < P) (P≤ : P ≤ 10 * counts) (L : Limits) (o : OnScale scale c L) (r : Sized P (suc c) w) {m : Reduced} (e : m ≡ meetOf c L w) (live : m .empty ≡ false) where
@@ -92,9 +118,29 @@ module _ (c : ℕ) (c≤ : c ≤ 8) (w : Work) {k : ℕ} (k≡ : k ≡ suc c) wh
         subst (Ready u) (sym k≡)
         (subst (λ (v : Work). Ready v (suc c)) (sym f) (sized-ready (10 * P) (suc c) (omega arith) (omega arith) (omega arith) (raiseLimits L c (m .work)) (sized-raise (10 * P) (suc c) (omega arith) (omega arith) (omega arith) (m .work) met-sized c (omega arith) L h)))
 
-    pub reset-sized : (S : ℕ → Bool) {u : Work} → u ≡ resetOf k S (m .work) → Sized (10 * P) (suc c) u
-    reset-sized S f =
-        subst (Sized (10 * P) (suc c)) (sym (f ∙ (λ i. resetOf (k≡ i) S (m .work)))) (sized-reset (10 * P) (suc c) (omega arith) (omega arith) (omega arith) (m .work) met-sized (omega arith) S)
+    shaped : Shaped c w
+    shaped = record { size = r .ranged .size; diagonal = r .ranged .diagonal }
+
+    pub met-settled : Settled (suc c) (m .work)
+    unfolding meetOf
+    met-settled = subst (λ (x : Reduced). Settled (suc c) (x .work)) (sym e) (reduced-settled c (omega arith) (meetLimits L c w) (meet-shaped 1 0 (omega arith) c (omega arith) L w shaped) (ap (λ (x : Reduced). x .empty) (sym e) ∙ live))
+
+    pub raised-lifted : ((x : ℕ) → 0 < x → x < suc c → L .absent x ≡ false) → {u : Work} → u ≡ raiseLimits L c (m .work) → Lifted k u
+    unfolding meetOf
+    raised-lifted p {u} f =
+        subst (λ (i : ℕ). Lifted i u) (sym k≡)
+        (subst (Lifted (suc c)) (sym (f ∙ ap (λ (x : Reduced). raiseLimits L c (x .work)) e)) (raise-lifted c (omega arith) L p w (r .ranged .size) (subst (λ (x : Reduced). Settled (suc c) (x .work)) e met-settled)))
+
+  -- a reset zone, settled before, with error counts up to P
+  module _ (P : ℕ) (P> : 0 < P) (P≤ : P ≤ stepCounts) (S : ℕ → Bool) {u : Work} (e : u ≡ resetOf k S w) where
+    pub reset-is : u ≡ resetOf (suc c) S w
+    reset-is = e ∙ (λ i. resetOf (k≡ i) S w)
+
+    pub reset-enters : Sized P (suc c) w × Settled (suc c) w → Sized P (suc c) u × Settled (suc c) u
+    reset-enters h = (
+      subst (Sized P (suc c)) (sym reset-is) (sized-reset P (suc c) P> (omega arith) (omega arith) w (h .0) (omega arith) S),
+      subst (Settled (suc c)) (sym reset-is) (reset-settled (suc c) (omega arith) S w (h .1)),
+    )
 
 -- ---- an accepted automaton's limits
 firsts-length : (n : ℕ) (f : ℕ → Bool) → length (firsts n f) ≡ n
@@ -125,16 +171,13 @@ module _ (b : List ℕ) (a : Accepted b) where
 pub one-more : {n m : ℕ} → n ≡ m → n + 1 ≡ suc m
 one-more e = omega arith
 
-pub meets : (b : List ℕ) (w : Work) {at at′ n n′ : ℕ} {u : Work} → at ≡ at′ → n ≡ n′ → u ≡ meetLimits (limitsAt b at) n w → u ≡ meetLimits (limitsAt b at′) n′ w
-meets b w e f g = g ∙ (λ i. meetLimits (limitsAt b (e i)) (f i) w)
+pub meets : (b : List ℕ) (w : Work) {at at′ n n′ : ℕ} {r : Reduced} → at ≡ at′ → n ≡ n′ → r ≡ meetOf n (limitsAt b at) w → r ≡ meetOf n′ (limitsAt b at′) w
+meets b w e f g = g ∙ (λ i. meetOf (f i) (limitsAt b (e i)) w)
 
 pub raises : (b : List ℕ) (w : Work) {at at′ n n′ : ℕ} {u : Work} → at ≡ at′ → n ≡ n′ → u ≡ raiseLimits (limitsAt b at) n w → u ≡ raiseLimits (limitsAt b at′) n′ w
 raises b w e f g = g ∙ (λ i. raiseLimits (limitsAt b (e i)) (f i) w)
 
--- what `meet` asks, of the limits at a place
+-- what `narrow` asks, of the limits at a place
 pub asks-limits : (b : List ℕ) (w : Work) {at at′ n n′ P : ℕ} → at ≡ at′ → n ≡ n′ → n′ ≤ 8 → at′ + 8 * n′ ≤ length b → OnScale scale n′ (limitsAt b at′) → P ≤ stepCounts → Sized P (suc n′) w →
     ((n ≤ 8) × (at + 8 * n ≤ length b)) × (OnScale scale n (limitsAt b at) × Sized stepCounts (suc n) w)
 asks-limits b w {P = P} e f h k o p r = rw (e, f) ((h, k), (o, sized-more P stepCounts (suc _) w p r))
-
-pub enters-at : (b : List ℕ) (u : Work) {l l′ : ℕ} {v : Reduced} → l ≡ l′ → v ≡ enterOf (clocks b) (invariantOf b l) u → v ≡ enterOf (clocks b) (invariantOf b l′) u
-enters-at b u e f = f ∙ (λ i. enterOf (clocks b) (invariantOf b (e i)) u)

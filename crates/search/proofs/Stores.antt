@@ -22,7 +22,7 @@ use Rattle.search.specs.Instance.{ZoneNode, zonesOf}
 use Rattle.search.specs.Search.{Found, none, found, Nth, find}
 use Rattle.search.specs.Semantics.{systemOf}
 use Rattle.search.specs.Slots.{slotLength, slotOf}
-use Rattle.search.specs.Decoding.{withinSlots}
+use Rattle.search.specs.Containing.{withinSlots}
 use Rattle.search.specs.Store.{slotsOf, storeOf, mostSlots, capacityOf}
 use Rattle.search.proofs.Lists.{nth-lt}
 use Rattle.search.proofs.Slotted.{slot-size, slot-location, within-slots}

@@ -1,9 +1,10 @@
 -- The turns of the loops over a slot, as the code takes them.
 -- Assumes nothing.
-use Prim.Native.Nat.{ℕ, zero, suc, _+_, _-_, _*_, _/_, _%_, _<_, _≤_}
-use mathlib.Core.Path.{_≡_, refl, sym, ap, _∙_, subst}
+use Prim.Native.Nat.{ℕ, zero, suc, _+_, _-_, _*_, _%_, _<_, _≤_}
+use mathlib.Core.Path.{_≡_, refl, sym, ap, _∙_}
 use mathlib.Core.Bool.{Bool, true, false, cond}
 use mathlib.Core.List.{List, [], _∷_, _++_}
+use borrow.Author.Tests.{lt-ltb, le-ltb}
 use lib.IntN.{ℤ, pos, negsuc, natAbs}
 use lib.ListN.{length, getD, take, drop, set, replicate, length-append}
 use lib.Seq.{set-at, append-snoc, paste-suc}
@@ -15,14 +16,19 @@ use mir.ValLaws.{toZ-ofZ, toZ-pos}
 use native.Mathlib.Nat.{zero-add, mul-le-mul}
 use native.Mathlib.Numerals.{add-one}
 use native.Mathlib.Omega.{arith}
+use Rattle.zones.specs.declared.fraction.Fraction.{Fraction}
 use Rattle.zones.specs.declared.pair.Pair.{Pair}
 use Rattle.zones.specs.Integers.{up}
 use Rattle.zones.proofs.Integers.{int, ltZ-false, le-ltZ, abs-fits}
-use Rattle.zones.specs.Containment.{placeOf}
-use Rattle.zones.specs.Ranges.{AllBounded, Bounded, scale, lastCounts}
-use Rattle.zones.specs.Zones.{pairAt}
+use Rattle.zones.specs.Containment.{placeOf, larger}
+use Rattle.zones.specs.Fractions.{loweredBy}
+use Rattle.zones.specs.Pairs.{thresholdOf}
+use Rattle.zones.specs.Ranges.{Bounded, Small, Fits32, scale, lastCounts, widest}
+use Rattle.zones.proofs.Choices.{true-false}
+use Rattle.zones.proofs.Ranges.{chosen-narrow, bounded-small, last-here}
 use Rattle.search.specs.Slots.{pairsTo, flat, slotOf}
-use Rattle.search.specs.Decoding.{slotPair, counted, squareTo, zoneOf, lessAt, withinSlots}
+use Rattle.search.specs.Decoding.{slotPair, counted, squareTo, zoneOf}
+use Rattle.search.specs.Containing.{lessAt, withinSlots, loweredSlots, largestSlot, ComparableSlots}
 use Rattle.search.proofs.Slotted.{counted-in, counted-out, counted-all, counted-below, pairs-in, pairs-out, pairs-length, flat-length, flat-split, square-in, square-out}
 
 -- ---- `is_within`: the code compares the numbers' bits
@@ -85,6 +91,39 @@ module _ (new old : List ℤ) (t : ℕ) where
             let q : oldM ≡ newM = omega (arith, int, ltZ-false oldM newM (tested ho hn false e), ltZ-false newM oldM g) in
             absurd (d (ap (ofZ w32) q))
 
+  -- ---- `lowered_within`: where the test holds, the new pair's m is not above the old one's
+  not-above : (pairs : ℕ) → t < pairs → withinSlots new old pairs ≡ true → newM ≤ℤ oldM
+  not-above pairs h w = go (ltZ oldM newM) refl
+    where
+      go : (b : Bool) → ltZ oldM newM ≡ b → newM ≤ℤ oldM
+      go true e = true-false (sym w ∙ sym (stops pairs h (rw e)))
+      go false e = ltZ-false oldM newM e
+
+  -- a turn, x and y being the pairs that it read
+  module _ (f₀ : Fraction) {x y : Pair} (ex : x ≡ slotPair new t) (ey : y ≡ slotPair old t) where
+    pub turn-lowers : {f g : Fraction} → f ≡ loweredSlots new old t f₀ → g ≡ thresholdOf x y → loweredBy f g ≡ loweredSlots new old (t + 1) f₀
+    unfolding loweredSlots
+    turn-lowers e k = rw add-one (λ i. loweredBy (e i) ((k ∙ (λ j. thresholdOf (ex j) (ey j))) i))
+
+    module _ {pairs : ℕ} (c : ComparableSlots new old pairs f₀) (h : t < pairs) where
+      pub turn-pairs : Small x × Small y × (x .m ≤ℤ y .m)
+      turn-pairs = rw (ex, ey) (bounded-small (c .new-bounded t h), bounded-small (c .old-bounded t h), not-above pairs h (c .inside))
+
+      pub turn-threshold : Fits32 (thresholdOf x y)
+      turn-threshold =
+          rw (ex, ey)
+          (chosen-narrow widest widest scale lastCounts last-here _ _ (c .new-bounded t h) (c .old-bounded t h) (not-above pairs h (c .inside)))
+
+-- ---- `largest_count`
+module _ (s : List ℤ) (t : ℕ) {most p : ℕ} (e : most ≡ largestSlot s t) (ep : p ≡ slotPair s t .p) where
+  pub larger-next : most < p → p ≡ largestSlot s (t + 1)
+  unfolding largestSlot larger
+  larger-next h = rw add-one (rw (← e, ← ep, lt-ltb most p h))
+
+  pub larger-stays : p ≤ most → most ≡ largestSlot s (t + 1)
+  unfolding largestSlot larger
+  larger-stays h = rw add-one (rw (← e, ← ep, le-ltb most p h))
+
 -- ---- `get_pair`: a number of 32 bits, read wide
 count-fits : (x : ℤ) → SFits w32 x → pos 0 ≤ℤ x → Fits w64 (natAbs x)
 count-fits (pos n) h g = record { fits = omega (arith, h .sfits) }
@@ -139,10 +178,6 @@ module _ (n k : ℕ) {t : ℕ} (e : t ≡ counted n k) where
 -- ---- `encode`: the slot of the first k places, and zeros
 pub encoded : ℕ → ℕ → List Pair → ℕ → List ℤ
 encoded n l z k = (pos l ∷ flat (pairsTo n k z)) ++ replicate (162 - 2 * counted n k) (pos 0)
-
-pub bounded-place : (C P n : ℕ) (z : List Pair) (k : ℕ) → AllBounded C P n z → k < n * 9 → k % 9 < n → Bounded C P (placeOf z k)
-unfolding pairAt
-bounded-place C P n z k h hk c = let e : k / 9 * 9 + k % 9 ≡ k = omega arith in subst (λ (i : ℕ). Bounded C P (placeOf z i)) e (h (k / 9) (k % 9) (omega arith) c)
 
 module _ (n l : ℕ) (z : List Pair) where
   pub encode-start : l < 256 → set (replicate 163 (pos 0)) 0 (toZ w32 l) ≡ encoded n l z 0

@@ -1,12 +1,11 @@
--- A slot read back, and two slots compared on their numbers. A place k of a zone's square is row k / 9 and column k % 9.
+-- A slot read back. A place k of a zone's square is row k / 9 and column k % 9.
 use Prim.Native.Nat.{ℕ, zero, suc, _+_, _*_, _%_, _<_}
 use mathlib.Core.Path.{_≡_}
-use mathlib.Core.Bool.{Bool, true, false, cond}
+use mathlib.Core.Bool.{cond}
 use mathlib.Core.List.{List}
 use lib.Dec.{ltb}
 use lib.ListN.{getD, set, replicate}
 use lib.IntN.{ℤ, pos}
-use lib.Signed.{ltZ}
 use Rattle.zones.specs.declared.pair.Pair.{Pair}
 use Rattle.zones.specs.Containment.{placeOf}
 use Rattle.zones.specs.Integers.{up}
@@ -28,17 +27,6 @@ squareTo n (suc k) s = cond (ltb (k % 9) n) (set (squareTo n k s) k (slotPair s 
 
 unfoldable pub zoneOf : ℕ → List ℤ → List Pair
 zoneOf n s = squareTo n (n * 9) s
-
--- ---- the containment test of two slots, on their numbers: the first t pairs
--- pair t of `old` is smaller than that of `new`
-abbrev pub lessAt : List ℤ → List ℤ → ℕ → Bool
-lessAt new old t =
-    cond (ltZ (getD old (1 + 2 * t) (pos 0)) (getD new (1 + 2 * t) (pos 0))) true
-    (cond (ltZ (getD new (1 + 2 * t) (pos 0)) (getD old (1 + 2 * t) (pos 0))) false (ltZ (getD old (2 + 2 * t) (pos 0)) (getD new (2 + 2 * t) (pos 0))))
-
-unfoldable pub withinSlots : List ℤ → List ℤ → ℕ → Bool
-withinSlots new old zero = true
-withinSlots new old (suc t) = cond (lessAt new old t) false (withinSlots new old t)
 
 -- ---- a zone of n indices has (0, 0) outside its rows and columns: nothing of it is lost in a slot
 pub record Framed (n : ℕ) (z : List Pair) : Type 0 where

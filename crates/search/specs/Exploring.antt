@@ -14,7 +14,8 @@ use Rattle.search.specs.Automata.{clocks, locations}
 use Rattle.search.specs.Instance.{ZoneNode, ZoneState, workOf}
 use Rattle.search.specs.Search.{Nth}
 use Rattle.search.specs.Slots.{slotLength}
-use Rattle.search.specs.Decoding.{withinSlots, Framed}
+use Rattle.search.specs.Decoding.{Framed}
+use Rattle.search.specs.Containing.{withinSlots}
 use Rattle.search.specs.Store.{storeOf}
 
 -- ---- slot j, of the same location as the new one, contains it

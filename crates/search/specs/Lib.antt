@@ -16,5 +16,7 @@ pub mod Promised
 pub mod Examples
 pub mod Laws
 pub mod Decoding
+pub mod Containing
+pub mod Meeting
 pub mod Exploring
 pub mod Opened

@@ -1,18 +1,20 @@
 // The search over zones in the lent store: kept zones are taken oldest first, with edges in order.
+use crate::automaton::Edge;
 use crate::automaton::clocks;
+use crate::automaton::edge_at;
 use crate::automaton::start;
 use crate::automaton::target;
+use crate::containment::is_within;
+use crate::containment::largest_count;
+use crate::containment::lowered_within;
 use crate::opened::counts_of;
 use crate::opened::edge_of;
 use crate::slot::decode;
 use crate::slot::encode;
-use crate::slot::is_within;
 use crate::slot::keep;
 use crate::slot::slot_length;
 use crate::successor::enter;
-use crate::successor::follow;
-use zones::containment::contain;
-use zones::containment::largest_count;
+use crate::successor::narrow;
 use zones::fraction::Fraction;
 use zones::pair::Pair;
 use zones::reduction::Reduced;
@@ -21,11 +23,15 @@ ghost use mathlib.Core.Path.{_≡_};
 ghost use mathlib.Core.List.{List};
 ghost use Prim.Native.Nat.{ℕ, suc, _+_, _*_, _≤_, _<_};
 ghost use lib.ListN.{length};
-ghost use Rattle.zones.specs.Ranges.{Sized, lastCounts};
+ghost use Rattle.zones.specs.Ranges.{Fits32, Sized, counts, lastCounts};
+ghost use Rattle.zones.specs.Settled.{Settled};
+ghost use Rattle.zones.specs.Successors.{enterOf, followOf};
+ghost use Rattle.zones.specs.Zones.{setOf, resetOf};
 ghost use Rattle.search.specs.Accepted.{Accepted};
-ghost use Rattle.search.specs.Automata.{clocks, edges, locations, start, target};
+ghost use Rattle.search.specs.Automata.{clocks, edges, locations, start, target, to, guardOf, invariantOf, resetsOf};
 ghost use Rattle.search.specs.Exploring.{FirstHit, Shown, SoundResult, SoundZone, Gives, Continues, InProgress, Going};
 ghost use Rattle.search.specs.Instance.{resultOf, zonesOf};
+ghost use Rattle.search.specs.Opened.{edgeOf};
 ghost use Rattle.search.specs.Search.{offer, expand, take-from, zone};
 ghost use Rattle.search.specs.Semantics.{systemOf};
 ghost use Rattle.search.specs.Slots.{slotLength};
@@ -82,16 +88,14 @@ fn judge(automaton: &[u8], store: &mut [i32], count: usize, slots: usize, l: usi
     let j = find(store, &numbers, count, size);
     if j < count {
         let at = j * amount;
-        let old = decode(&store[at..], size);
-        let test = contain(z, old, size, fraction);
-        let lowered = test.fraction;
+        let lowered = lowered_within(&numbers, &store[at..], size * size, fraction);
         return Turn {
             count,
             fraction: lowered,
             code: 0,
         };
     }
-    if COUNTS < largest_count(z, size) {
+    if COUNTS < largest_count(&numbers, size * size) {
         return Turn {
             count,
             fraction,
@@ -145,6 +149,56 @@ fn offer(
     judge(automaton, store, count, slots, l, work)
 }
 
+// A settled zone is reset, enters l and is judged. It is called for the start and for every edge, so that the compiler keeps it
+// apart and works on one square.
+fn arrive(
+    automaton: &[u8],
+    store: &mut [i32],
+    count: usize,
+    slots: usize,
+    l: usize,
+    w: Work,
+    resets: [bool; 9],
+) -> Turn
+    requires { ⌜ Accepted (now automaton) × (l < locations (now automaton)) × InProgress (now automaton) slots (now store) count ⌝ }
+    requires { ⌜ Sized (10 * counts) (suc (clocks (now automaton))) w × Settled (suc (clocks (now automaton))) w ⌝ }
+    requires { ⌜ SoundResult (now automaton) (enterOf (clocks (now automaton)) (invariantOf (now automaton) l) (resetOf (suc (clocks (now automaton))) (setOf resets) w)) ⌝ }
+    ensures { λ t. ⌜ ((p : List ℕ) → Gives (now (automaton .entry)) slots (now (store .entry)) count (λ q. offer (systemOf (now (automaton .entry))) (zonesOf (now (automaton .entry))) slots q l p (resultOf (enterOf (clocks (now (automaton .entry))) (invariantOf (now (automaton .entry)) l) (resetOf (suc (clocks (now (automaton .entry)))) (setOf resets) w)))) (now (store .exit)) t) ⌝ }
+{
+    let cleared = w.reset(clocks(automaton) + 1, resets);
+    let entered = enter(automaton, l, cleared);
+    offer(automaton, store, count, slots, l, entered)
+}
+
+// The successor of a taken zone along edge i, which was fetched, is judged.
+fn follow(
+    automaton: &[u8],
+    store: &mut [i32],
+    count: usize,
+    slots: usize,
+    i: usize,
+    edge: Edge,
+    w: Work,
+) -> Turn
+    requires { ⌜ Accepted (now automaton) × (i < edges (now automaton)) × (edge ≡ edgeOf (now automaton) i) ⌝ }
+    requires { ⌜ InProgress (now automaton) slots (now store) count × SoundZone (now automaton) (w .zone) × Fits32 (w .fraction) ⌝ }
+    ensures { λ t. ⌜ ((p : List ℕ) → Gives (now (automaton .entry)) slots (now (store .entry)) count (λ q. offer (systemOf (now (automaton .entry))) (zonesOf (now (automaton .entry))) slots q (to (now (automaton .entry)) i) p (resultOf (followOf (clocks (now (automaton .entry))) (guardOf (now (automaton .entry)) i) (resetsOf (now (automaton .entry)) i) (invariantOf (now (automaton .entry)) (to (now (automaton .entry)) i)) w))) (now (store .exit)) t) ⌝ }
+{
+    let at = edge_at(automaton, i) + 3;
+    let met = narrow(automaton, at, clocks(automaton), w, false);
+    if met.empty {
+        let work = met.work;
+        let fraction = work.fraction;
+        return Turn {
+            count,
+            fraction,
+            code: 0,
+        };
+    }
+    let resets = edge.resets;
+    arrive(automaton, store, count, slots, edge.to, met.work, resets)
+}
+
 // The edges of a kept zone, in order, until the search stops.
 fn expand(
     automaton: &[u8],
@@ -158,14 +212,19 @@ fn expand(
     ensures { λ r. ⌜ ((p : List ℕ) → Continues (now (automaton .entry)) slots (now (store .entry)) turn (expand (systemOf (now (automaton .entry))) (zonesOf (now (automaton .entry))) slots (record { at = l; zone = z; path = p }) (edges (now (automaton .entry))) 0) (now (store .exit)) r) ⌝ }
 {
     let mut t = turn;
+    let first = t.fraction;
+    let mut w = Work {
+        zone: z,
+        fraction: first,
+    };
     let last = counts_of(automaton).edges;
     let mut i = 0;
     while i < last {
         let edge = edge_of(automaton, i);
         if edge.from == l {
             let fraction = t.fraction;
-            let r = follow(automaton, i, Work { zone: z, fraction });
-            t = offer(automaton, store, t.count, slots, edge.to, r);
+            w.fraction = fraction;
+            t = follow(automaton, store, t.count, slots, i, edge, w);
             if t.code != 0 {
                 return t;
             }
@@ -213,8 +272,7 @@ pub fn explore(automaton: &[u8], store: &mut [i32]) -> Turn
 {
     let slots = slots_of(store.len(), clocks(automaton) + 1);
     let l = start(automaton);
-    let first = enter(automaton, l, Work::first());
-    let t = offer(automaton, store, 0, slots, l, first);
+    let t = arrive(automaton, store, 0, slots, l, Work::first(), [false; 9]);
     if t.code != 0 {
         return t;
     }

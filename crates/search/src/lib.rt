@@ -1,5 +1,6 @@
 // The reader of automata and the search for their verdicts.
 mod automaton;
+mod containment;
 mod exploration;
 mod opened;
 mod slot;

@@ -7,7 +7,7 @@ ghost use lib.IntN.{pos};
 ghost use lib.Signed.{_≤ℤ_};
 ghost use Rattle.zones.specs.Ranges.{AllBounded, Bounded, scale, lastCounts};
 ghost use Rattle.search.specs.Slots.{slotLength, slotOf};
-ghost use Rattle.search.specs.Decoding.{slotPair, zoneOf, withinSlots};
+ghost use Rattle.search.specs.Decoding.{slotPair, zoneOf};
 
 // The number of numbers of a slot, for a zone of `size` indices.
 pub fn slot_length(size: usize) -> usize
@@ -15,29 +15,6 @@ pub fn slot_length(size: usize) -> usize
     ensures { λ r. ⌜ r ≡ slotLength size ⌝ }
 {
     1 + 2 * (size * size)
-}
-
-// Whether each of the new slot's pairs is the smaller or equal beside the old one's. The search
-// spends its time here: it stops at the first pair that is not.
-pub fn is_within(new: &[i32], old: &[i32], pairs: usize) -> bool
-    requires { ⌜ (1 + 2 * pairs ≤ length (now new)) × (1 + 2 * pairs ≤ length (now old)) × (pairs ≤ 81) ⌝ }
-    ensures { λ r. ⌜ r ≡ withinSlots (now (new .entry)) (now (old .entry)) pairs ⌝ }
-{
-    let mut t = 0;
-    while t < pairs {
-        let m = 1 + 2 * t;
-        let p = 2 + 2 * t;
-        if old[m] < new[m] {
-            return false;
-        }
-        if old[m] == new[m] {
-            if old[p] < new[p] {
-                return false;
-            }
-        }
-        t += 1;
-    }
-    true
 }
 
 // The slot of a zone, and zeros after it.
@@ -91,7 +68,7 @@ pub fn decode(slot: &[i32], size: usize) -> [Pair; 81]
 }
 
 // Pair t of a slot.
-fn get_pair(slot: &[i32], t: usize) -> Pair
+pub fn get_pair(slot: &[i32], t: usize) -> Pair
     requires { ⌜ (2 + 2 * t < length (now slot)) × (pos 0 ≤ℤ getD (now slot) (2 + 2 * t) (pos 0)) ⌝ }
     ensures { λ r. ⌜ r ≡ slotPair (now (slot .entry)) t ⌝ }
 {

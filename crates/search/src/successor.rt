@@ -1,53 +1,77 @@
 // How a zone goes from location to location, with the limits fetched from the lent bytes.
 use crate::automaton::NO_UPPER;
 use crate::automaton::clocks;
-use crate::automaton::edge_at;
 use crate::automaton::invariant_at;
-use crate::opened::edge_of;
 use crate::opened::limits_of;
 use zones::pair::Pair;
 use zones::reduction::Reduced;
 use zones::zone::Bounds;
 use zones::zone::Work;
 ghost use mathlib.Core.Path.{_≡_};
+ghost use mathlib.Core.Bool.{true};
 ghost use Prim.Native.Nat.{suc, _+_, _*_, _≤_, _<_};
 ghost use lib.ListN.{length};
 ghost use Rattle.zones.specs.Ranges.{Sized, OnScale, counts, scale, stepCounts};
-ghost use Rattle.zones.specs.Successors.{enterOf, followOf};
-ghost use Rattle.zones.specs.Zones.{meetLimits, raiseLimits};
+ghost use Rattle.zones.specs.Settled.{Settled};
+ghost use Rattle.zones.specs.Successors.{meetOf, enterOf};
+ghost use Rattle.zones.specs.Zones.{raiseLimits};
 ghost use Rattle.search.specs.Accepted.{Accepted};
-ghost use Rattle.search.specs.Automata.{clocks, edges, locations, to, limitsAt, invariantOf, guardOf, resetsOf};
+ghost use Rattle.search.specs.Automata.{clocks, locations, limitsAt, invariantOf};
+ghost use Rattle.search.specs.Meeting.{MetBy};
 
-// The limits at `at` of n clocks are met, clock by clock.
-fn meet(automaton: &[u8], at: usize, n: usize, w: Work) -> Work
+// A zone on which limits were met, and whether it is known to be settled.
+struct Met {
+    work: Work,
+    settled: bool,
+}
+
+// The limits at `at` of n clocks are met, clock by clock. A settled zone stays settled where they lower no entry.
+fn meet(automaton: &[u8], at: usize, n: usize, w: Work, settled: bool) -> Met
     requires { ⌜ Accepted (now automaton) ⌝ }
     requires { ⌜ (n ≤ 8) × (at + 8 * n ≤ length (now automaton)) ⌝ }
     requires { ⌜ OnScale scale n (limitsAt (now automaton) at) × Sized stepCounts (suc n) w ⌝ }
-    ensures { λ r. ⌜ r ≡ meetLimits (limitsAt (now (automaton .entry)) at) n w ⌝ }
+    ensures { λ r. ⌜ MetBy (limitsAt (now (automaton .entry)) at) n w «settled» r ⌝ }
 {
-    let mut z = w.zone;
-    let mut f = w.fraction;
+    let mut work = w;
+    let mut same = settled;
     let mut x = 1;
     while x <= n {
         let limits = limits_of(automaton, at, x);
         let hi = limits.hi;
         let there = Bounds {
-            upper: z[x * 9],
-            lower: z[x],
-            fraction: f,
+            upper: work.zone[x * 9],
+            lower: work.zone[x],
+            fraction: work.fraction,
         };
         let met = there.meet(limits.lo, hi, hi == NO_UPPER);
+        if met.is_below(there) {
+            same = false;
+        }
         let upper = met.upper;
         let lower = met.lower;
-        z[x * 9] = upper;
-        z[x] = lower;
-        f = met.fraction;
+        let fraction = met.fraction;
+        work.zone[x * 9] = upper;
+        work.zone[x] = lower;
+        work.fraction = fraction;
         x += 1;
     }
-    Work {
-        zone: z,
-        fraction: f,
+    Met {
+        work,
+        settled: same,
     }
+}
+
+// The limits at `at` are met, and the zone is reduced. A settled zone is its own reduction: every middle index is left out.
+pub fn narrow(automaton: &[u8], at: usize, n: usize, w: Work, settled: bool) -> Reduced
+    requires { ⌜ Accepted (now automaton) ⌝ }
+    requires { ⌜ (n ≤ 8) × (at + 8 * n ≤ length (now automaton)) ⌝ }
+    requires { ⌜ OnScale scale n (limitsAt (now automaton) at) × Sized stepCounts (suc n) w ⌝ }
+    requires { ⌜ («settled» ≡ true → Settled (suc n) w) ⌝ }
+    ensures { λ r. ⌜ r ≡ meetOf n (limitsAt (now (automaton .entry)) at) w ⌝ }
+{
+    let met = meet(automaton, at, n, w, settled);
+    let first = if met.settled { n + 1 } else { 0 };
+    met.work.reduce_from(n + 1, first)
 }
 
 // Each entry (clock, 0) is put to (hi, 1), hi among the limits at `at`.
@@ -66,36 +90,18 @@ fn raise(automaton: &[u8], at: usize, n: usize, w: Work) -> Work
     Work { zone: z, fraction }
 }
 
-// The zone enters location l.
+// The zone, which is settled, enters location l.
 pub fn enter(automaton: &[u8], l: usize, w: Work) -> Reduced
     requires { ⌜ Accepted (now automaton) × (l < locations (now automaton)) ⌝ }
-    requires { ⌜ Sized (10 * counts) (suc (clocks (now automaton))) w ⌝ }
+    requires { ⌜ Sized (10 * counts) (suc (clocks (now automaton))) w × Settled (suc (clocks (now automaton))) w ⌝ }
     ensures { λ r. ⌜ r ≡ enterOf (clocks (now (automaton .entry))) (invariantOf (now (automaton .entry)) l) w ⌝ }
 {
     let n = clocks(automaton);
     let at = invariant_at(automaton, l);
-    let met = meet(automaton, at, n, w).reduce(n + 1);
+    let met = narrow(automaton, at, n, w, true);
     if met.empty {
         return met;
     }
-    let work = met.work;
-    raise(automaton, at, n, work).reduce(n + 1)
-}
-
-// The zone's successor along edge i.
-pub fn follow(automaton: &[u8], i: usize, w: Work) -> Reduced
-    requires { ⌜ Accepted (now automaton) × (i < edges (now automaton)) ⌝ }
-    requires { ⌜ Sized counts (suc (clocks (now automaton))) w ⌝ }
-    ensures { λ r. ⌜ r ≡ followOf (clocks (now (automaton .entry))) (guardOf (now (automaton .entry)) i) (resetsOf (now (automaton .entry)) i) (invariantOf (now (automaton .entry)) (to (now (automaton .entry)) i)) w ⌝ }
-{
-    let n = clocks(automaton);
-    let at = edge_at(automaton, i) + 3;
-    let met = meet(automaton, at, n, w).reduce(n + 1);
-    if met.empty {
-        return met;
-    }
-    let work = met.work;
-    let edge = edge_of(automaton, i);
-    let resets = edge.resets;
-    enter(automaton, edge.to, work.reset(n + 1, resets))
+    let raised = raise(automaton, at, n, met.work);
+    raised.reduce_raised(n + 1)
 }

@@ -1,7 +1,7 @@
 -- Comparisons by their branches: one principle for each definition that branches, and the branches as the code returns them.
 -- Assumes nothing.
 use Prim.Native.Nat.{ℕ, _+_, _-_, _*_, _<_, _≤_}
-use mathlib.Core.Path.{_≡_, refl, sym, subst}
+use mathlib.Core.Path.{_≡_, refl, sym, _∙_, subst}
 use mathlib.Core.Bool.{Bool, true, false, cond}
 use borrow.Author.Tests.{lt-ltb, le-ltb, ltb-true, ltb-false}
 use lib.Dec.{T, ltb}
@@ -90,6 +90,13 @@ smaller-cases a b P f g = go (isLess b a) refl
     go : (t : Bool) → isLess b a ≡ t → P (cond t (record { pair = b; threshold = thresholdOf b a }) (record { pair = a; threshold = thresholdOf a b }))
     go true e = f e
     go false e = g e
+
+-- a chosen pair that is not below the one there is that one: the other is not below it
+pub smaller-stays : (a b : Pair) → isLess (smallerOf a b .pair) a ≡ false → isLess b a ≡ false
+smaller-stays a b = smaller-cases a b (λ c. isLess (c .pair) a ≡ false → isLess b a ≡ false) (λ e f. true-false (sym e ∙ f)) (λ e f. e)
+
+pub smaller-same : (a b : Pair) → isLess (smallerOf a b .pair) a ≡ false → smallerOf a b .pair ≡ a
+smaller-same a b = smaller-cases a b (λ c. isLess (c .pair) a ≡ false → c .pair ≡ a) (λ e f. true-false (sym e ∙ f)) (λ e f. refl)
 
 -- ---- the lower of two fractions
 pub lowered-new : (f g : Fraction) → g .n * f .d < f .n * g .d → g ≡ loweredBy f g

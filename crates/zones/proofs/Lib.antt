@@ -15,9 +15,13 @@ pub mod Squares
 pub mod Thresholds
 pub mod Lowering
 pub mod Diagonals
+pub mod Settled
+pub mod Columns
 pub mod Steps
 pub mod Meeting
 pub mod Closing
+pub mod Settling
+pub mod Raising
 pub mod Moving
 pub mod Entering
 pub mod Starts

@@ -14,9 +14,10 @@ use Rattle.zones.specs.declared.pair.Choice.{Choice}
 use Rattle.zones.specs.declared.zone.Bounds.{Bounds}
 use Rattle.zones.specs.declared.zone.Work.{Work}
 use Rattle.zones.specs.Fractions.{loweredBy}
-use Rattle.zones.specs.Pairs.{zeroPair, atMost, atLeast, smallerOf}
+use Rattle.zones.specs.Pairs.{zeroPair, atMost, atLeast, isLess, smallerOf}
+use Rattle.zones.proofs.Choices.{true-false, smaller-same}
 use Rattle.zones.proofs.Places.{lower-off}
-use Rattle.zones.specs.Zones.{Limits, pairAt, entry, lowerAt, meetLimits, raiseLimits, meetUpper, meetClock, upperMet, lowerMet, boundsMet}
+use Rattle.zones.specs.Zones.{Limits, pairAt, entry, lowerAt, meetLimits, raiseLimits, meetUpper, meetClock, upperMet, lowerMet, boundsMet, boundsBelow}
 
 -- ---- as the code makes them
 pub upper-met : (hi : ℕ) (b : Bounds) {q : Pair} {c : Choice} {f : Fraction} → q ≡ atMost hi → c ≡ smallerOf (b .upper) q → f ≡ loweredBy (b .fraction) (c .threshold) →
@@ -42,6 +43,30 @@ met-absent lo hi absent b e = rw e
 pub met-present : (lo hi : ℕ) (absent : Bool) (b : Bounds) → absent ≡ false → lowerMet lo (upperMet hi b) ≡ boundsMet lo hi absent b
 unfolding boundsMet
 met-present lo hi absent b e = rw e
+
+-- ---- limits that lower neither entry leave both as they are
+pub below-yes : (a b : Bounds) → isLess (a .upper) (b .upper) ≡ true → true ≡ boundsBelow a b
+unfolding boundsBelow
+below-yes a b e = rw e
+
+pub below-lower : (a b : Bounds) → isLess (a .upper) (b .upper) ≡ false → isLess (a .lower) (b .lower) ≡ boundsBelow a b
+unfolding boundsBelow
+below-lower a b e = rw e
+
+not-below : (a b : Bounds) → boundsBelow a b ≡ false → (isLess (a .upper) (b .upper) ≡ false) × (isLess (a .lower) (b .lower) ≡ false)
+unfolding boundsBelow
+not-below a b h = go (isLess (a .upper) (b .upper)) refl h
+  where
+    go : (t : Bool) → isLess (a .upper) (b .upper) ≡ t → cond t true (isLess (a .lower) (b .lower)) ≡ false → (isLess (a .upper) (b .upper) ≡ false) × (isLess (a .lower) (b .lower) ≡ false)
+    go true e g = true-false g
+    go false e g = (e, g)
+
+pub met-unlowered : (lo hi : ℕ) (absent : Bool) (b : Bounds) → boundsBelow (boundsMet lo hi absent b) b ≡ false → (boundsMet lo hi absent b .upper ≡ b .upper) × (boundsMet lo hi absent b .lower ≡ b .lower)
+unfolding boundsMet lowerMet upperMet
+met-unlowered lo hi true b h = (refl, smaller-same (b .lower) (atLeast lo) (not-below (boundsMet lo hi true b) b h .1))
+met-unlowered lo hi false b h =
+    let o = not-below (boundsMet lo hi false b) b h in
+    (smaller-same (b .upper) (atMost hi) (o .0), smaller-same (b .lower) (atLeast lo) (o .1))
 
 -- ---- on the square: a clock's two entries are set
 lower-put : (x lo : ℕ) (u : Work) (b : Bounds) → b .lower ≡ entry u 0 x → b .fraction ≡ u .fraction → record { zone = set (u .zone) x (lowerMet lo b .lower); fraction = lowerMet lo b .fraction } ≡ lowerAt 0 x (atLeast lo) u

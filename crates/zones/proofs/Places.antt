@@ -5,10 +5,10 @@ use mathlib.Core.Path.{_≡_, refl, ap, _∙_}
 use mathlib.Core.Bool.{Bool, true, false, cond}
 use mathlib.Core.List.{List}
 use lib.ListN.{length, getD, set, length-set, length-replicate, getD-replicate}
-use lib.Seq.{getD-set-same, getD-set-other}
+use lib.Seq.{getD-set-same, getD-set-other, set-getD}
 use native.Mathlib.Numerals.{add-one}
 use native.Mathlib.Omega.{arith}
-use native.Mathlib.Decide.{ℕ-discrete}
+use native.Mathlib.Decide.{ℕ-discrete, decLt}
 use native.Mathlib.Nat.{not-suc-le-zero}
 use Rattle.zones.specs.declared.pair.Pair.{Pair}
 use Rattle.zones.specs.declared.zone.Work.{Work}
@@ -113,17 +113,30 @@ module _ (R : ℕ → Bool) where
       go true = omega arith
       go false = h
 
+  home-again : (a : ℕ) → home R (home R a) ≡ home R a
+  home-again a = go (R a) refl
+    where
+      go : (c : Bool) → R a ≡ c → home R (home R a) ≡ home R a
+      go true e = rw (home-goes a e) home-zero
+      go false e = ap (home R) (home-stays a e)
+
 pub record ResetBy (n : ℕ) (R : ℕ → Bool) (w w′ : Work) : Type 0 where
   pub size : length (w′ .zone) ≡ 81
   pub fraction : w′ .fraction ≡ w .fraction
   pub at : (a b : ℕ) → a < n → b < 9 → entry w′ a b ≡ entry w (home R a) (home R b)
 
+-- the first k places of y have their home's entry, and the others are as they were
 record PlacesDone (R : ℕ → Bool) (y : List Pair) (k : ℕ) (z : List Pair) : Type 0 where
   size : length z ≡ 81
   done : (m : ℕ) → m < k → getD z m zeroPair ≡ pairAt y (home R (m / 9)) (home R (m % 9))
+  rest : (m : ℕ) → k ≤ m → getD z m zeroPair ≡ getD y m zeroPair
 
 places-next : (R : ℕ → Bool) (y : List Pair) (k : ℕ) (u : List Pair) → k < 81 → PlacesDone R y k u → PlacesDone R y (suc k) (set u k (pairAt y (home R (k / 9)) (home R (k % 9))))
-places-next R y k u h d = record { size = length-set u k q ∙ d .size; done = λ m hm. at m hm (ℕ-discrete m k) }
+places-next R y k u h d = record {
+  size = length-set u k q ∙ d .size;
+  done = λ m hm. at m hm (ℕ-discrete m k);
+  rest = λ m hm. getD-set-other u k m q zeroPair (λ e. omega arith) ∙ d .rest m (omega arith);
+}
   where
     q : Pair
     q = pairAt y (home R (k / 9)) (home R (k % 9))
@@ -132,17 +145,17 @@ places-next R y k u h d = record { size = length-set u k q ∙ d .size; done = �
     at m hm (yes e) = rw e (getD-set-same u k q zeroPair (omega (arith, d .size)))
     at m hm (no f) = getD-set-other u k m q zeroPair f ∙ d .done m (omega arith)
 
-places-done : (R : ℕ → Bool) (y z : List Pair) → length z ≡ 81 → (k : ℕ) → k ≤ 81 → PlacesDone R y k (resetPlaces R y k z)
+places-done : (R : ℕ → Bool) (y : List Pair) → length y ≡ 81 → (k : ℕ) → k ≤ 81 → PlacesDone R y k (resetPlaces R y k y)
 unfolding resetPlaces
-places-done R y z size zero h = record { size = size; done = λ m hm. absurd (not-suc-le-zero hm) }
-places-done R y z size (suc k) h = places-next R y k (resetPlaces R y k z) h (places-done R y z size k (omega arith))
+places-done R y size zero h = record { size = size; done = λ m hm. absurd (not-suc-le-zero hm); rest = λ m hm. refl }
+places-done R y size (suc k) h = places-next R y k (resetPlaces R y k y) h (places-done R y size k (omega arith))
 
 pub reset-by : (n : ℕ) → n ≤ 9 → (R : ℕ → Bool) (w : Work) → length (w .zone) ≡ 81 → ResetBy n R w (resetOf n R w)
 unfolding resetOf pairAt
 reset-by n n≤ R w size = record { size = d .size; fraction = refl; at = at }
   where
     d : PlacesDone R (w .zone) (n * 9) (resetPlaces R (w .zone) (n * 9) (w .zone))
-    d = places-done R (w .zone) (w .zone) size (n * 9) (omega arith)
+    d = places-done R (w .zone) size (n * 9) (omega arith)
 
     at : (a b : ℕ) → a < n → b < 9 → entry (resetOf n R w) a b ≡ entry w (home R a) (home R b)
     at a b ha hb =
@@ -150,12 +163,43 @@ reset-by n n≤ R w size = record { size = d .size; fraction = refl; at = at }
         let y : (a * 9 + b) % 9 ≡ b = omega arith in
         d .done (a * 9 + b) (omega arith) ∙ (λ i. entry w (home R (x i)) (home R (y i)))
 
--- one place more, as the code counts it
-pub reset-next : (R : ℕ → Bool) (y : List Pair) (k : ℕ) (z : List Pair) {u : List Pair} {a b : ℕ} → u ≡ resetPlaces R y k z → a ≡ home R (k / 9) → b ≡ home R (k % 9) →
-    set u k (getD y (a * 9 + b) zeroPair) ≡ resetPlaces R y (k + 1) z
-unfolding resetPlaces pairAt
-reset-next R y k z e f g = rw add-one (λ i. set (e i) k (getD y (f i * 9 + g i) zeroPair))
+-- the entry of two homes is its own home's, so it stays as it was, passed or not
+home-kept : (R : ℕ → Bool) (y : List Pair) → length y ≡ 81 → (k : ℕ) → k ≤ 81 → (a b : ℕ) → a < 9 → b < 9 →
+    pairAt (resetPlaces R y k y) (home R a) (home R b) ≡ pairAt y (home R a) (home R b)
+unfolding pairAt
+home-kept R y size k h a b ha hb = go (decLt (home R a * 9 + home R b) k)
+  where
+    d : PlacesDone R y k (resetPlaces R y k y)
+    d = places-done R y size k h
 
-pub reset-all : (n : ℕ) (R : ℕ → Bool) (w : Work) {k : ℕ} {u : List Pair} → k ≡ n * 9 → u ≡ resetPlaces R (w .zone) k (w .zone) → record { zone = u; fraction = w .fraction } ≡ resetOf n R w
+    go : Dec (home R a * 9 + home R b < k) → pairAt (resetPlaces R y k y) (home R a) (home R b) ≡ pairAt y (home R a) (home R b)
+    go (yes l) =
+        let row : (home R a * 9 + home R b) / 9 ≡ home R a = omega (arith, home-below R 9 b hb) in
+        let column : (home R a * 9 + home R b) % 9 ≡ home R b = omega (arith, home-below R 9 b hb) in
+        d .done (home R a * 9 + home R b) l ∙ (λ i. pairAt y ((ap (home R) row ∙ home-again R a) i) ((ap (home R) column ∙ home-again R b) i))
+    go (no l) = d .rest (home R a * 9 + home R b) (omega arith)
+
+-- one place more, as the code counts it
+pub reset-next : (R : ℕ → Bool) (y : List Pair) (k : ℕ) → length y ≡ 81 → k < 81 → {u : List Pair} {a b : ℕ} →
+    u ≡ resetPlaces R y k y → a ≡ home R (k / 9) → b ≡ home R (k % 9) → set u k (getD u (a * 9 + b) zeroPair) ≡ resetPlaces R y (k + 1) y
+unfolding resetPlaces pairAt
+reset-next R y k size h e f g =
+    let kept = home-kept R y size k (omega arith) (k / 9) (k % 9) (omega arith) (omega arith) in
+    rw add-one ((λ i. set (e i) k (getD (e i) (f i * 9 + g i) zeroPair)) ∙ ap (set (resetPlaces R y k y) k) kept)
+
+pub reset-all : (n : ℕ) (R : ℕ → Bool) (w : Work) {k : ℕ} {u : Work} → k ≡ n * 9 →
+    u .zone ≡ resetPlaces R (w .zone) k (w .zone) → u .fraction ≡ w .fraction → u ≡ resetOf n R w
 unfolding resetOf
-reset-all n R w e f = λ i. record { zone = (f ∙ ap (λ (x : ℕ). resetPlaces R (w .zone) x (w .zone)) e) i; fraction = w .fraction }
+reset-all n R w e f g = λ i. record { zone = (f ∙ ap (λ (x : ℕ). resetPlaces R (w .zone) x (w .zone)) e) i; fraction = g i }
+
+-- a reset of no clock
+places-none : (R : ℕ → Bool) → ((a : ℕ) → R a ≡ false) → (y : List Pair) (k : ℕ) → resetPlaces R y k y ≡ y
+unfolding resetPlaces pairAt
+places-none R none y zero = refl
+places-none R none y (suc k) =
+    let here : home R (k / 9) * 9 + home R (k % 9) ≡ k = omega (arith, home-stays R (k / 9) (none (k / 9)), home-stays R (k % 9) (none (k % 9))) in
+    (λ i. set (places-none R none y k i) k (getD y (here i) zeroPair)) ∙ set-getD y k zeroPair
+
+pub reset-none : (n : ℕ) (R : ℕ → Bool) → ((a : ℕ) → R a ≡ false) → (w : Work) → resetOf n R w ≡ w
+unfolding resetOf
+reset-none n R none w = λ i. record { zone = places-none R none (w .zone) (n * 9) i; fraction = w .fraction }

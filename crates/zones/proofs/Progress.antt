@@ -12,7 +12,7 @@ use native.Mathlib.Decide.{ℕ-discrete, le-ind}
 use native.Mathlib.Nat.{not-suc-le-zero}
 use Rattle.zones.specs.declared.reduction.Reduced.{Reduced}
 use Rattle.zones.specs.declared.zone.Work.{Work}
-use Rattle.zones.proofs.Integers.{ltZ-false}
+use Rattle.zones.proofs.Integers.{ltZ-false, le-ltZ}
 use Rattle.zones.specs.Zones.{entry}
 use Rattle.zones.specs.Reductions.{roundSteps, emptyIn, afterMiddle, reduceSteps}
 use Rattle.zones.proofs.Choices.{true-false}
@@ -44,6 +44,11 @@ diagonals (suc n) w e a h = go (λ f g. diagonals n w f a g) (ltZ (entry w n n .
     go ih true f g d = true-false g
     go ih false f g (yes q) = rw q (ltZ-false (entry w n n .m) (pos 0) f)
     go ih false f g (no q) = ih g (omega arith)
+
+pub live-all : (n : ℕ) (w : Work) → ((a : ℕ) → a < n → pos 0 ≤ℤ entry w a a .m) → emptyIn n w ≡ false
+unfolding emptyIn
+live-all zero w h = refl
+live-all (suc n) w h = rw (le-ltZ (entry w n n .m) (pos 0) (h n (omega arith))) (live-all n w (λ a ha. h a (omega arith)))
 
 -- ---- where it stops
 pub after-live : (n k : ℕ) (r : Reduced) → r .empty ≡ false → afterMiddle n k r ≡ record { work = roundSteps n k n (r .work); empty = emptyIn n (roundSteps n k n (r .work)) }

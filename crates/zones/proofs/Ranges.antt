@@ -21,7 +21,7 @@ use Rattle.zones.specs.Zones.{entry, lowerAt, upperMet}
 use Rattle.zones.specs.Reductions.{relaxed, rowSteps, roundSteps, afterMiddle, reduceSteps}
 use Rattle.zones.specs.Ranges.{Bounded, Narrow, Small, Fits32, Spread, Room, scale, stepCounts, lastCounts, widest, Ready, RoundReady, LimitsReady}
 use Rattle.zones.proofs.Choices.{less-shows, not-less-shows, threshold-cases, smaller-cases, lowered-cases}
-use Rattle.zones.proofs.Rounds.{RowDone, row-done, reads-at, reads-to, reads-from, RoundDone, round-done, middle, still}
+use Rattle.zones.proofs.Rounds.{RowDone, row-done, reads-at, reads-to, reads-from, RoundDone, round-done, middle, still, row-skip}
 use Rattle.zones.proofs.Progress.{Alive, along, after-live, after-empty}
 use Rattle.zones.proofs.Order.{sum-p}
 use Rattle.zones.proofs.Size.{sum-up, sum-down, reduce-spread}
@@ -203,3 +203,18 @@ turn-ready n k w size r i j hi hj v s e g =
 
 pub turn-narrow : (s : Work) (k i j : ℕ) → TurnReady s k i j → Fits32 (smallerOf (entry s i j) (sumOf (entry s i k) (entry s k j)) .threshold)
 turn-narrow s k i j t = choice-narrow widest widest scale stepCounts here _ _ _ (t .at) (t .to) (t .from)
+
+-- ---- in the reduction of w: what its loops ask, v being the zone after k middle indices
+module _ (n : ℕ) (w : Work) (size : length (w .zone) ≡ 81) (r : Ready w n) (k : ℕ) (v : Work) (k< : k < n) (e : reduceSteps n k w ≡ record { work = v; empty = false }) where
+  ready : RoundReady v n k
+  ready = round-ready n w size r k v k< e
+
+  long : length (v .zone) ≡ 81
+  long = subst (λ (x : Reduced). length (x .work .zone) ≡ 81) e
+      (alive-at widest widest scale stepCounts here n w (r .n≤) (record { size = size; diagonal = r .diagonal }) (r .bounded) k (omega arith) (ap (λ (x : Reduced). x .empty) e) .size)
+
+  pub turn-of : (i j : ℕ) → i < n → j < n → (u s : Work) → u ≡ roundSteps n k i v → s ≡ rowSteps k i j u → TurnReady s k i j
+  turn-of = turn-ready n k v long ready
+
+  pub skip-of : {u : Work} (i : ℕ) → i ≡ k → u ≡ roundSteps n k i v → u ≡ roundSteps n k (i + 1) v
+  skip-of i f = row-skip n k i v (r .n≤) k< f (ready .diagonal) long

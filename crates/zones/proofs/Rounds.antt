@@ -3,7 +3,10 @@
 -- Assumes nothing.
 use Prim.Native.Nat.{ℕ, zero, suc, _+_, _*_, _<_, _≤_}
 use mathlib.Core.Path.{_≡_, refl, sym, ap, _∙_, subst}
+use mathlib.Core.Bool.{false}
+use mathlib.Core.List.{List}
 use lib.ListN.{length, set}
+use lib.Seq.{set-getD}
 use lib.IntN.{pos}
 use lib.Signed.{_≤ℤ_}
 use native.Mathlib.Numerals.{add-one}
@@ -15,10 +18,11 @@ use Rattle.zones.specs.declared.pair.Pair.{Pair}
 use Rattle.zones.specs.declared.pair.Choice.{Choice}
 use Rattle.zones.specs.declared.zone.Work.{Work}
 use Rattle.zones.specs.Fractions.{loweredBy}
-use Rattle.zones.specs.Pairs.{sumOf, smallerOf}
-use Rattle.zones.specs.Zones.{entry, lowerAt}
+use Rattle.zones.specs.Pairs.{zeroPair, sumOf, isLess, smallerOf, thresholdOf}
+use Rattle.zones.specs.Zones.{pairAt, entry, lowerAt}
 use Rattle.zones.specs.Reductions.{relaxed, rowSteps, roundSteps}
-use Rattle.zones.proofs.Order.{lex-make, sum-at, sum-p, at-least-0, large, smaller-kept}
+use Rattle.zones.proofs.Choices.{threshold-none, smaller-old, smaller-stays, lowered-none}
+use Rattle.zones.proofs.Order.{_≼_, lex-make, sum-at, sum-p, at-least-0, large, smaller-kept}
 use Rattle.zones.proofs.Places.{lower-size, lower-at, lower-off}
 
 -- the comparison of entry (i, j) with the way through k
@@ -49,21 +53,57 @@ relaxed-is w k i j x ch f e g h =
     let h′ = h ∙ ap (λ (c : Choice). loweredBy (w .fraction) (c .threshold)) e′ in
     λ t. record { zone = set (w .zone) (i * 9 + j) (e′ t .pair); fraction = h′ t }
 
+-- where the way x through k is not the smaller, the square stays
+module _ (w : Work) (k i j : ℕ) (x : Pair) (f : Fraction) (e : x ≡ sumOf (entry w i k) (entry w k j)) where
+  pub relaxed-old : isLess x (entry w i j) ≡ false → f ≡ loweredBy (w .fraction) (thresholdOf (entry w i j) x) → record { zone = w .zone; fraction = f } ≡ relaxed k i j w
+  unfolding pairAt
+  relaxed-old l g = ap (λ (z : List Pair). record { zone = z; fraction = f }) (sym (set-getD (w .zone) (i * 9 + j) zeroPair)) ∙ relaxed-is w k i j x _ f e (smaller-old (entry w i j) x _ l refl) g
+
+  -- as the code sees it: the pair chosen is not below the one there
+  pub relaxed-stays : (ch : Choice) → ch ≡ smallerOf (entry w i j) x → f ≡ loweredBy (w .fraction) (ch .threshold) → isLess (ch .pair) (entry w i j) ≡ false → record { zone = w .zone; fraction = f } ≡ relaxed k i j w
+  relaxed-stays ch g h l =
+      let o = smaller-stays (entry w i j) x (subst (λ (c : Choice). isLess (c .pair) (entry w i j) ≡ false) g l) in
+      relaxed-old o (h ∙ ap (λ (c : Choice). loweredBy (w .fraction) (c .threshold)) (g ∙ sym (smaller-old (entry w i j) x _ o refl)))
+
+-- a comparison without a threshold that the entry there wins changes nothing
+still-step : (w : Work) (k i j : ℕ) → entry w i j ≼ sumOf (entry w i k) (entry w k j) → entry w i j .p ≤ sumOf (entry w i k) (entry w k j) .p → relaxed k i j w ≡ w
+still-step w k i j l p =
+    let x = sumOf (entry w i k) (entry w k j) in
+    sym (relaxed-old w k i j x (w .fraction) refl (l .kept) (lowered-none (w .fraction) (thresholdOf (entry w i j) x) (sym (ap (λ (g : Fraction). g .d) (threshold-none (entry w i j) x p)))))
+
 -- ---- the middle index's row and column stay
 module _ (w : Work) (k : ℕ) (diagonal : pos 0 ≤ℤ entry w k k .m) where
-  pub row-kept : (b : ℕ) → chosen k k b w .pair ≡ entry w k b
-  unfolding chosen
-  row-kept b =
+  row-order : (b : ℕ) → entry w k b ≼ sumOf (entry w k k) (entry w k b)
+  row-order b =
       let d = entry w k k in
       let x = entry w k b in
-      ap (λ (c : Choice). c .pair) (smaller-kept x (sumOf d x) (large (d .p + x .p) λ K big. lex-make K (omega (arith, sum-p d x)) (omega (arith, sum-at K d x, at-least-0 K d diagonal))))
+      large (d .p + x .p) λ K big. lex-make K (omega (arith, sum-p d x)) (omega (arith, sum-at K d x, at-least-0 K d diagonal))
+
+  col-order : (a : ℕ) → entry w a k ≼ sumOf (entry w a k) (entry w k k)
+  col-order a =
+      let d = entry w k k in
+      let x = entry w a k in
+      large (d .p + x .p) λ K big. lex-make K (omega (arith, sum-p x d)) (omega (arith, sum-at K x d, at-least-0 K d diagonal))
+
+  pub row-kept : (b : ℕ) → chosen k k b w .pair ≡ entry w k b
+  unfolding chosen
+  row-kept b = ap (λ (c : Choice). c .pair) (smaller-kept (entry w k b) (sumOf (entry w k k) (entry w k b)) (row-order b))
 
   pub col-kept : (a : ℕ) → chosen k a k w .pair ≡ entry w a k
   unfolding chosen
-  col-kept a =
-      let d = entry w k k in
-      let x = entry w a k in
-      ap (λ (c : Choice). c .pair) (smaller-kept x (sumOf x d) (large (d .p + x .p) λ K big. lex-make K (omega (arith, sum-p x d)) (omega (arith, sum-at K x d, at-least-0 K d diagonal))))
+  col-kept a = ap (λ (c : Choice). c .pair) (smaller-kept (entry w a k) (sumOf (entry w a k) (entry w k k)) (col-order a))
+
+  -- nor does the fraction change: the way by the diagonal has no smaller count
+  row-still : (b : ℕ) → relaxed k k b w ≡ w
+  row-still b = still-step w k k b (row-order b) (omega (arith, sum-p (entry w k k) (entry w k b)))
+
+  pub col-still : (a : ℕ) → relaxed k a k w ≡ w
+  col-still a = still-step w k a k (col-order a) (omega (arith, sum-p (entry w a k) (entry w k k)))
+
+  row-stays : (j : ℕ) → rowSteps k k j w ≡ w
+  unfolding rowSteps
+  row-stays zero = refl
+  row-stays (suc j) = ap (relaxed k k j) (row-stays j) ∙ row-still j
 
 -- ---- the first j steps of row i
 pub record RowDone (k i j : ℕ) (w s : Work) : Type 0 where
@@ -158,6 +198,14 @@ module _ (w : Work) (n k : ℕ) (n≤ : n ≤ 9) (k< : k < n) (diagonal : pos 0 
 pub row-all : (n k i : ℕ) (w : Work) {j : ℕ} {u v : Work} → j ≡ n → u ≡ rowSteps k i j v → v ≡ roundSteps n k i w → u ≡ roundSteps n k (i + 1) w
 unfolding roundSteps
 row-all n k i w {v = v} e f g = rw add-one (f ∙ ap (λ (x : ℕ). rowSteps k i x v) e ∙ ap (rowSteps k i n) g)
+
+-- row k itself
+pub row-skip : (n k i : ℕ) (w : Work) {u : Work} → n ≤ 9 → k < n → i ≡ k → pos 0 ≤ℤ entry w k k .m → length (w .zone) ≡ 81 → u ≡ roundSteps n k i w → u ≡ roundSteps n k (i + 1) w
+unfolding roundSteps
+row-skip n k i w n≤ k< e d size g =
+    let s = roundSteps n k i w in
+    let t : pos 0 ≤ℤ entry s k k .m = still w n k n≤ k< d i (omega arith) s (round-done w n k n≤ k< d size i (omega arith)) in
+    rw add-one (g ∙ sym (ap (λ (x : ℕ). rowSteps k x n s) e ∙ row-stays s k t n))
 
 pub round-all : (n k : ℕ) (w : Work) {i : ℕ} {v : Work} → i ≡ n → v ≡ roundSteps n k i w → v ≡ roundSteps n k n w
 round-all n k w e f = f ∙ ap (λ (x : ℕ). roundSteps n k x w) e

@@ -6,7 +6,6 @@ use mathlib.Core.Bool.{Bool, true, false, cond}
 use mathlib.Core.List.{List}
 use lib.Dec.{ltb}
 use lib.ListN.{getD}
-use Rattle.zones.specs.declared.containment.Containment.{Containment}
 use Rattle.zones.specs.declared.fraction.Fraction.{Fraction}
 use Rattle.zones.specs.declared.pair.Pair.{Pair}
 use Rattle.zones.specs.Fractions.{loweredBy}
@@ -23,17 +22,13 @@ withinTo n (suc k) z y = cond (ltb (k % 9) n) (cond (isLess (placeOf y k) (place
 abbrev pub within : ℕ → List Pair → List Pair → Bool
 within n z y = withinTo n (n * 9) z y
 
--- the fraction after a test that holds: z's pairs were chosen
+-- the fraction after a test that holds: z's pairs were chosen. "A containment test that fails lowers nothing", and is not asked for this
 unfoldable pub loweredTo : ℕ → ℕ → List Pair → List Pair → Fraction → Fraction
 loweredTo n zero z y f = f
 loweredTo n (suc k) z y f = cond (ltb (k % 9) n) (loweredBy (loweredTo n k z y f) (thresholdOf (placeOf z k) (placeOf y k))) (loweredTo n k z y f)
 
 abbrev pub loweredWithin : ℕ → List Pair → List Pair → Fraction → Fraction
 loweredWithin n z y f = loweredTo n (n * 9) z y f
-
--- "A containment test that fails lowers nothing."
-unfoldable pub containmentOf : ℕ → List Pair → List Pair → Fraction → Containment
-containmentOf n z y f = cond (within n z y) (record { inside = true; fraction = loweredWithin n z y f }) (record { inside = false; fraction = f })
 
 -- ---- the largest error count
 unfoldable pub larger : ℕ → ℕ → ℕ

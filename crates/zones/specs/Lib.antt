@@ -10,3 +10,4 @@ pub mod Sets
 pub mod Moves
 pub mod Ranges
 pub mod Integers
+pub mod Settled

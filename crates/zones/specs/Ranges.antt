@@ -103,15 +103,9 @@ pub record LimitsReady (b : Bounds) (lo hi : ℕ) (absent : Bool) : Type 0 where
   pub lo≤ : lo ≤ scale
   pub hi≤ : absent ≡ false → hi ≤ scale
 
--- two zones to be compared; the error counts are those after a step's last reduction
+-- the error counts after a step's last reduction
 abbrev pub lastCounts : ℕ
 lastCounts = 1000 * counts
 
 abbrev pub AllBounded : ℕ → ℕ → ℕ → List Pair → Type 0
 AllBounded C P n z = (a b : ℕ) → a < n → b < n → Bounded C P (pairAt z a b)
-
-pub record Comparable (z y : List Pair) (n : ℕ) (f : Fraction) : Type 0 where
-  pub n≤ : n ≤ 9
-  pub new : AllBounded scale lastCounts n z
-  pub old : AllBounded scale lastCounts n y
-  pub fraction : Fits32 f

@@ -1,13 +1,13 @@
 -- "A zone has a pair for each (a, b) among 0 and the clocks, bounding a − b." A zone at work is the square, nine pairs to a row, with the running fraction.
 use Prim.Native.Nat.{ℕ, zero, suc, _+_, _*_, _/_, _%_}
-use mathlib.Core.Bool.{Bool, false, cond}
+use mathlib.Core.Bool.{Bool, true, false, cond}
 use mathlib.Core.List.{List}
 use lib.ListN.{getD, set, replicate}
 use Rattle.zones.specs.declared.pair.Pair.{Pair}
 use Rattle.zones.specs.declared.zone.Bounds.{Bounds}
 use Rattle.zones.specs.declared.zone.Work.{Work}
 use Rattle.zones.specs.Fractions.{noLimit, loweredBy}
-use Rattle.zones.specs.Pairs.{zeroPair, atMost, atLeast, smallerOf}
+use Rattle.zones.specs.Pairs.{zeroPair, atMost, atLeast, isLess, smallerOf}
 
 -- entry (a, b) of a square
 unfoldable pub pairAt : List Pair → ℕ → ℕ → Pair
@@ -62,6 +62,10 @@ lowerMet lo b =
 
 unfoldable pub boundsMet : ℕ → ℕ → Bool → Bounds → Bounds
 boundsMet lo hi absent b = lowerMet lo (cond absent b (upperMet hi b))
+
+-- one of the two entries of a is below b's
+unfoldable pub boundsBelow : Bounds → Bounds → Bool
+boundsBelow a b = cond (isLess (a .upper) (b .upper)) true (isLess (a .lower) (b .lower))
 
 -- the limits of the first c clocks
 unfoldable pub meetLimits : Limits → ℕ → Work → Work

@@ -1,5 +1,4 @@
 // Pairs, fractions and zones: document 01, "Pairs and zones".
-pub mod containment;
 pub mod fraction;
 pub mod pair;
 pub mod reduction;

@@ -4,7 +4,7 @@ use crate::pair::Pair;
 ghost use mathlib.Core.Path.{_≡_};
 ghost use mathlib.Core.Bool.{false};
 ghost use Prim.Native.Nat.{_≤_, _<_};
-ghost use Rattle.zones.specs.Zones.{firstWork, upperMet, lowerMet, boundsMet, setOf, home, resetOf};
+ghost use Rattle.zones.specs.Zones.{firstWork, upperMet, lowerMet, boundsMet, boundsBelow, setOf, home, resetOf};
 ghost use Rattle.zones.specs.Ranges.{LimitsReady};
 
 // A zone at work: a square of pairs, nine to a row, and the running fraction.
@@ -24,24 +24,23 @@ impl Work {
         }
     }
 
-    // The rows and columns of the clocks that are marked become those of 0.
+    // The rows and columns of the clocks that are marked become those of 0. It works in place:
+    // an entry that is read is that of two homes, which no turn changes.
     pub fn reset(self, size: usize, marked: [bool; 9]) -> Work
         requires { ⌜ size ≤ 9 ⌝ }
         ensures { λ r. ⌜ r ≡ resetOf size (setOf marked) self ⌝ }
     {
-        let old = self.zone;
-        let fraction = self.fraction;
-        let mut z = old;
+        let mut work = self;
         let last = size * 9;
         let mut at = 0;
         while at < last {
             let a = home_of(marked, at / 9);
             let b = home_of(marked, at % 9);
-            let q = old[a * 9 + b];
-            z[at] = q;
+            let q = work.zone[a * 9 + b];
+            work.zone[at] = q;
             at += 1;
         }
-        Work { zone: z, fraction }
+        work
     }
 }
 
@@ -71,6 +70,16 @@ impl Bounds {
             return self.meet_lower(lo);
         }
         self.meet_upper(hi).meet_lower(lo)
+    }
+
+    // Whether one of the two entries is below the other's.
+    pub fn is_below(self, o: Bounds) -> bool
+        ensures { λ r. ⌜ r ≡ boundsBelow self o ⌝ }
+    {
+        if self.upper.is_less(o.upper) {
+            return true;
+        }
+        self.lower.is_less(o.lower)
     }
 
     // The smaller of (x, 0) and (hi, 1).

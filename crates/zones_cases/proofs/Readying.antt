@@ -15,7 +15,7 @@ use Rattle.zones.specs.declared.zone.Work.{Work}
 use Rattle.zones.proofs.Integers.{int, abs-within, ltZ-false, ltZ-true}
 use Rattle.zones.specs.Pairs.{zeroPair}
 use Rattle.zones.specs.Zones.{pairAt, firstWork}
-use Rattle.zones.specs.Ranges.{Bounded, Fits32, Ready, LimitsReady, Comparable, scale, counts}
+use Rattle.zones.specs.Ranges.{Bounded, Fits32, Ready, LimitsReady, scale, counts}
 use Rattle.zones_cases.specs.Loading.{LoadedAt, Loaded}
 
 -- ---- one pair
@@ -72,16 +72,6 @@ limits-ready {w} {x} l hx hl hh =
       fraction = l .fraction;
       lo≤ = hl;
       hi≤ = λ e. hh;
-    }
-
-pub comparable : {w v : Work} {n : ℕ} → Loaded w → Loaded v → n ≤ 9 → Comparable (w .zone) (v .zone) n (w .fraction)
-unfolding pairAt
-comparable {w} {v} {n} l k h =
-    record {
-      n≤ = h;
-      new = λ a b ha hb. wider (omega arith) (l .places (a * 9 + b) (omega arith) .bounded);
-      old = λ a b ha hb. wider (omega arith) (k .places (a * 9 + b) (omega arith) .bounded);
-      fraction = l .fraction;
     }
 
 -- ---- for printing: an integer below 0 and not far below

@@ -18,7 +18,8 @@ pub(crate) struct Read {
 // The pairs of a square, row by row.
 pub(crate) fn square(s: &[u8], from: usize, state: State) -> Read {
     let size = at_most(state.size, 9);
-    let mut z = state.kept;
+    let work = state.work;
+    let mut z = work.zone;
     let last = size * 9;
     let mut next = from;
     let mut at = 0;

@@ -8,9 +8,6 @@
 //     put X HI        entry (X, 0) is put to (HI, 1)
 //     reduce          it is reduced
 //     zero X Y        clocks X and Y are reset; 0 is none
-//     keep            a copy is kept
-//     inside          whether it is contained in the copy
-//     largest         its largest error count
 //     terms           its fraction in lowest terms
 mod load;
 mod operate;

@@ -5,7 +5,6 @@ use crate::state::State;
 use crate::state::at_most;
 use crate::text::Number;
 use crate::text::Three;
-use zones::containment;
 use zones::fraction::Fraction;
 use zones::pair::Pair;
 use zones::zone::Bounds;
@@ -23,9 +22,6 @@ pub(crate) fn act(state: State, letter: u8, n: Three) -> State {
         b'p' => put(state, n.a.value as usize, n.b.value),
         b'r' => reduce(state),
         b'z' => reset(state, n.a.value as usize, n.b.value as usize),
-        b'k' => state.keeping(),
-        b'i' => inside(state),
-        b'l' => largest(state),
         b't' => terms(state),
         _ => state,
     }
@@ -91,34 +87,6 @@ fn reset(state: State, x: usize, y: usize) -> State {
     show::zone(state.number, b"reset", size, work);
     show::end();
     state.with_work(work)
-}
-
-fn inside(state: State) -> State {
-    let size = at_most(state.size, 9);
-    let new = load(state.work);
-    let copy = state.kept;
-    let old = load(Work {
-        zone: copy,
-        fraction: Fraction { n: 1, d: 0 },
-    });
-    let z = new.zone;
-    let y = old.zone;
-    let r = containment::contain(z, y, size, new.fraction);
-    show::head(state.number, b"inside");
-    show::truth(b": ", r.inside);
-    show::fraction(r.fraction);
-    show::end();
-    state.with_fraction(r.fraction)
-}
-
-fn largest(state: State) -> State {
-    let size = at_most(state.size, 9);
-    let work = state.work;
-    let z = work.zone;
-    show::head(state.number, b"largest");
-    show::count(containment::largest_count(z, size));
-    show::end();
-    state
 }
 
 fn terms(state: State) -> State {

@@ -41,11 +41,6 @@ pub(crate) fn truth(before: &[u8], x: bool) {
     }
 }
 
-pub(crate) fn count(x: u64) {
-    io::write_all(1, b": ");
-    io::print_decimal(1, x);
-}
-
 pub(crate) fn end() {
     io::write_all(1, b"\n");
 }

@@ -3,34 +3,28 @@ use zones::pair::Pair;
 use zones::zone::Work;
 ghost use Prim.Native.Nat.{_≤_};
 
-// The case's number, its zone of `size` indices and the copy kept.
+// The case's number and its zone of `size` indices.
 pub(crate) struct State {
     pub number: u64,
     pub size: usize,
     pub work: Work,
-    pub kept: [Pair; 81],
 }
 
 impl State {
     // Each case begins with the first zone.
     pub(crate) fn begin(number: u64, size: usize) -> State {
-        let work = Work::first();
-        let kept = work.zone;
         State {
             number,
             size: at_most(size, 9),
-            work,
-            kept,
+            work: Work::first(),
         }
     }
 
     pub(crate) fn with_work(self, work: Work) -> State {
-        let kept = self.kept;
         State {
             number: self.number,
             size: self.size,
             work,
-            kept,
         }
     }
 
@@ -43,17 +37,6 @@ impl State {
         let work = self.work;
         let zone = work.zone;
         self.with_work(Work { zone, fraction })
-    }
-
-    pub(crate) fn keeping(self) -> State {
-        let work = self.work;
-        let kept = work.zone;
-        State {
-            number: self.number,
-            size: self.size,
-            work,
-            kept,
-        }
     }
 }
 

@@ -1,31 +1,31 @@
--- The whole search: the start is entered and offered, and then the kept zones are taken.
+-- The whole search: the first zone arrives at the start, no clock reset, and then the kept zones are taken.
 -- Assumes nothing.
 use Prim.Native.Nat.{ℕ, suc, _*_}
-use mathlib.Core.Path.{_≡_, sym, ap, _∙_, subst}
+use mathlib.Core.Path.{_≡_, refl, sym, ap, _∙_, subst}
+use mathlib.Core.Bool.{false}
 use mathlib.Core.List.{List}
-use lib.ListN.{length}
+use lib.ListN.{length, replicate}
 use Rattle.zones.specs.Ranges.{counts}
 use Rattle.zones.specs.Successors.{enterOf}
-use Rattle.zones.specs.Zones.{firstWork}
+use Rattle.zones.specs.Zones.{firstWork, setOf, resetOf}
 use Rattle.zones.proofs.Bounding.{first-sized}
+use Rattle.zones.proofs.Places.{reset-none}
+use Rattle.zones.proofs.Settling.{first-settled}
 use Rattle.search.specs.Automata.{clocks, start, invariantOf}
 use Rattle.search.specs.Exploring.{SoundResult}
 use Rattle.search.specs.Store.{capacityOf}
+use Rattle.search.proofs.Arriving.{gives-of}
 use Rattle.search.proofs.Beginning.{Begun, blank-progress, begun}
 use Rattle.search.proofs.Judging.{n≤}
+use Rattle.search.proofs.Resets.{none-reset}
 use Rattle.search.proofs.Stepping.{one-more}
 use Rattle.search.proofs.Sounding.{start-sound}
 use borrow.Author.Needs.{needs}
 use Rattle.search.proofs.exploration.explore.Statement.{statement}
 use Rattle.search.proofs.exploration.explore.Tie as tie
 
-enter-requires : tie.Need-enter-requires
-enter-requires c κs =
-    let accepted = c .before .before .before .before .before .pre in
-    ((accepted, rw (c .before .start .ensures) (accepted .start<)), rw (c .first .ensures) (first-sized (10 * counts) _ (n≤ _ accepted)))
-
--- ---- with the start entered
-module _ (c : tie.After-enter) where
+-- ---- with the first zone
+module _ (c : tie.After-first) where
   abbrev entry : tie.Start
   entry = c .before .before .before .before .before .before
 
@@ -35,23 +35,26 @@ module _ (c : tie.After-enter) where
   slots≡ : c .before .before .before .slots-of .result ≡ capacityOf (suc (clocks automaton)) (length (entry .args .store .now))
   slots≡ = c .before .before .before .slots-of .ensures ∙ ap (λ (n : ℕ). capacityOf n (length (entry .args .store .now))) (one-more (c .before .before .before .before .clocks .ensures))
 
-  first≡ : c .enter .result ≡ enterOf (clocks automaton) (invariantOf automaton (start automaton)) firstWork
-  first≡ = rw (c .before .before .start .ensures, c .before .first .ensures) at (c .enter .ensures)
+  -- what arrives is the definition's first zone
+  arrived : enterOf (clocks automaton) (invariantOf automaton (c .before .before .start .result)) (resetOf (suc (clocks automaton)) (setOf (replicate 9 false)) (c .first .result)) ≡ enterOf (clocks automaton) (invariantOf automaton (start automaton)) firstWork
+  arrived = (λ i. enterOf (clocks automaton) (invariantOf automaton (c .before .before .start .ensures i)) ((reset-none (suc (clocks automaton)) (setOf (replicate 9 false)) none-reset (c .first .result) ∙ c .first .ensures) i))
 
-offer-requires : tie.Need-offer-requires
-offer-requires c κs =
-    let accepted = entry (c .before) .pre in
-    ((accepted, rw (c .before .before .before .start .ensures) (accepted .start<)), (blank-progress accepted _ (slots≡ (c .before)), subst (SoundResult _) (sym (first≡ (c .before))) (start-sound _ accepted)))
+arrive-requires : tie.Need-arrive-requires
+arrive-requires c κs =
+    let a = entry c .pre in (
+      (a, rw (c .before .before .start .ensures) (a .start<), blank-progress a _ (slots≡ c)),
+      (rw (c .first .ensures) (first-sized (10 * counts) _ (n≤ _ a), first-settled _ (n≤ _ a)), subst (SoundResult _) (sym (arrived c)) (start-sound _ a)),
+    )
 
 -- ---- after the first offer
-offered : (c : tie.After-offer) → let e = entry (c .before .before) in Begun (automaton (c .before .before)) (c .before .before .before .before .before .slots-of .result) (e .args .store .now) (c .offer .last .1 .0) (c .offer .result)
-offered c = begun (entry (c .before .before) .pre) _ (slots≡ (c .before .before)) (first≡ (c .before .before)) (rw (c .before .before .before .before .start .ensures) at (c .offer .ensures))
+offered : (c : tie.After-arrive) → Begun (automaton (c .before)) (c .before .before .before .before .slots-of .result) (entry (c .before) .args .store .now) (c .arrive .last .1 .0) (c .arrive .result)
+offered c = begun (entry (c .before) .pre) _ (slots≡ (c .before)) refl (gives-of _ _ _ _ _ _ (c .before .before .before .start .ensures) (arrived (c .before)) (c .arrive .ensures))
 
 returns : tie.Need-returns
 returns c = offered (c .before .before .before) .stops (c .if1 .taken)
 
 take-requires : tie.Need-take-requires
-take-requires c κs = (entry (c .before .before .before .before .before .before) .pre, offered (c .before .before .before .before) .goes-on (c .before .if1 .left))
+take-requires c κs = (entry (c .before .before .before .before .before) .pre, offered (c .before .before .before .before) .goes-on (c .before .if1 .left))
 
 returns-2 : tie.Need-returns-2
 returns-2 c = offered (c .before .before .before .before .before .before) .rest (c .before .before .before .if1 .left) (c .before .take .ensures)
@@ -65,8 +68,7 @@ explore-spec =
     (λ c κs. search needs)
     (λ c κs. search needs)
     (λ c κs. search needs)
-    enter-requires
-    offer-requires
+    arrive-requires
     (λ c. search needs)
     returns
     take-requires

@@ -5,7 +5,7 @@ use mathlib.Core.Path.{_≡_, ap}
 use lib.ListN.{length}
 use native.Mathlib.Omega.{arith}
 use Rattle.search.specs.Slots.{slotLength}
-use Rattle.search.proofs.Judging.{Entered, asks-encode, asks-find, slot-within, next-within, asks-decode, asks-contain, gives-inside, gives-big, gives-full, gives-kept}
+use Rattle.search.proofs.Judging.{Entered, asks-encode, asks-find, asks-largest, slot-within, next-within, asks-lowered, gives-inside, gives-big, gives-full, gives-kept}
 use Rattle.search.proofs.Stepping.{one-more}
 use borrow.Author.Needs.{needs}
 use Rattle.search.proofs.exploration.judge.Statement.{statement}
@@ -54,63 +54,76 @@ module _ (c : tie.Then1) where
 mul-at : tie.Need-mul-at
 mul-at c = omega (arith, slot-inside c)
 
-mul-decode : tie.Need-mul-decode
-mul-decode c = omega (arith, slot-inside c)
+mul-lowered-within : tie.Need-mul-lowered-within
+mul-lowered-within c = omega (arith, slot-inside (c .before))
 
-sub-decode : tie.Need-sub-decode
-sub-decode c = omega (arith, slot-inside c)
+sub-lowered-within : tie.Need-sub-lowered-within
+sub-lowered-within c = omega (arith, slot-inside (c .before))
 
-part-decode-start : tie.Need-part-decode-start
-part-decode-start c = omega (arith, slot-inside (c .before))
+part-lowered-within-start : tie.Need-part-lowered-within-start
+part-lowered-within-start c = omega (arith, slot-inside (c .before .before))
 
-decode-requires : tie.Need-decode-requires
-decode-requires c κs =
-    let hit = c .before .before in
-    asks-decode (entered (counted (hit .before))) (hit .if1 .taken) (place≡ hit)
-
-contain-requires : tie.Need-contain-requires
-contain-requires c κs =
+lowered-within-requires : tie.Need-lowered-within-requires
+lowered-within-requires c κs =
     let hit = c .before .before .before in
-    asks-contain (entered (counted (hit .before))) (hit .if1 .taken) (place≡ hit) (c .decode .ensures)
+    let find = hit .before in
+    asks-lowered (entered (counted find)) (numbers find .encode .ensures) (find .find .ensures) (hit .if1 .taken) (place≡ hit)
 
 returns : tie.Need-returns
 returns c =
-    let hit = c .before .before .before .before .before in
+    let hit = c .before .before .before .before in
     let find = hit .before in
-    λ p. gives-inside (entered (counted find)) p (numbers find .encode .ensures) (find .find .ensures) (hit .if1 .taken) (place≡ hit) (c .before .before .decode .ensures) (c .before .contain .ensures)
+    gives-inside (entered (counted find)) (numbers find .encode .ensures) (find .find .ensures) (hit .if1 .taken) (place≡ hit)
+    (c .lowered-within .ensures)
 
 -- ---- none does
+largest-count-requires : tie.Need-largest-count-requires
+largest-count-requires c κs = let find = c .before .before in asks-largest (entered (counted find)) (numbers find .encode .ensures)
+
+module _ (c : tie.After-largest-count) where
+  abbrev alone : tie.Else1
+  alone = c .before .before
+
+  abbrev find : tie.After-find
+  find = c .before .before .before
+
 returns-2 : tie.Need-returns-2
 returns-2 c =
-    let find = c .before .before .before in
-    λ p. gives-big (entered (counted find)) p (numbers find .encode .ensures) (find .find .ensures) (c .before .before .if1 .left) (c .before .largest-count .ensures) (c .if2 .taken)
+    let last = c .before in
+    let find = find last in
+    gives-big (entered (counted find)) (numbers find .encode .ensures) (find .find .ensures) (alone last .if1 .left)
+    (last .largest-count .ensures) (c .if2 .taken)
 
 module _ (c : tie.Then3) where
-  abbrev find : tie.After-find
-  find = c .before .before .before .before
+  abbrev last : tie.After-find
+  last = find (c .before .before)
 
-  next-inside : start (counted find) .args .count * amount find .slot-length .result + slotLength (counted find .clocks .result + 1) ≤ length (start (counted find) .args .store .now)
-  next-inside = next-within (entered (counted find)) (amount find .slot-length .ensures) (c .if3 .taken)
+  next-inside : start (counted last) .args .count * amount last .slot-length .result + slotLength (counted last .clocks .result + 1) ≤ length (start (counted last) .args .store .now)
+  next-inside = next-within (entered (counted last)) (amount last .slot-length .ensures) (c .if3 .taken)
 
 mul-keep : tie.Need-mul-keep
 mul-keep c = omega (arith, next-inside (c .before))
 
 keep-requires : tie.Need-keep-requires
 keep-requires c κs =
-    let last = find (c .before .before) in
-    let e = amount last .slot-length .ensures in
-    (omega (arith, e, next-inside (c .before .before)), omega (arith, e, asks-find (entered (counted last)) (numbers last .encode .ensures) .2))
+    let find = last (c .before .before) in
+    let e = amount find .slot-length .ensures in
+    (omega (arith, e, next-inside (c .before .before)), omega (arith, e, asks-largest (entered (counted find)) (numbers find .encode .ensures) .long))
 
 returns-3 : tie.Need-returns-3
 returns-3 c =
     let room = c .before .before .before .before in
-    let last = find room in
-    λ p. gives-kept (entered (counted last)) p (numbers last .encode .ensures) (last .find .ensures) (room .before .before .before .if1 .left) (room .before .before .largest-count .ensures) (room .before .if2 .left) (room .if3 .taken) (amount last .slot-length .ensures) (c .before .keep .ensures)
+    let small = room .before in
+    let find = last room in
+    gives-kept (entered (counted find)) (numbers find .encode .ensures) (find .find .ensures) (alone (small .before) .if1 .left)
+    (small .before .largest-count .ensures) (small .if2 .left) (room .if3 .taken) (amount find .slot-length .ensures) (c .before .keep .ensures)
 
 returns-4 : tie.Need-returns-4
 returns-4 c =
-    let find = c .before .before .before .before in
-    λ p. gives-full (entered (counted find)) p (numbers find .encode .ensures) (find .find .ensures) (c .before .before .before .if1 .left) (c .before .before .largest-count .ensures) (c .before .if2 .left) (c .if3 .left)
+    let small = c .before in
+    let find = find (small .before) in
+    gives-full (entered (counted find)) (numbers find .encode .ensures) (find .find .ensures) (alone (small .before) .if1 .left)
+    (small .before .largest-count .ensures) (small .if2 .left) (c .if3 .left)
 
 pub judge-spec : {M : Type 1} → statement M
 judge-spec =
@@ -123,15 +136,18 @@ judge-spec =
     (λ c. search needs)
     find-requires
     mul-at
-    mul-decode
-    sub-decode
-    part-decode-start
     (λ c. search needs)
-    decode-requires
-    contain-requires
+    mul-lowered-within
+    sub-lowered-within
+    part-lowered-within-start
+    (λ c. search needs)
+    (λ c. search needs)
+    lowered-within-requires
     (λ c. search needs)
     returns
-    (λ c κs. search needs)
+    (λ c. search needs)
+    (λ c. search needs)
+    largest-count-requires
     (λ c. search needs)
     returns-2
     mul-keep
