@@ -1,9 +1,9 @@
 -- What a taken zone comes to along an edge: empty after the guard, or reset, entered and judged. Either way the definition's successor is
 -- what is offered.
 -- Assumes nothing.
-use Prim.Native.Nat.{ℕ, suc, _+_, _*_, _<_}
+use Prim.Native.Nat.{ℕ, suc, _*_, _<_}
 use mathlib.Core.Path.{_≡_, refl, sym, ap, _∙_, subst}
-use mathlib.Core.Bool.{Bool, true, false}
+use mathlib.Core.Bool.{true, false}
 use mathlib.Core.List.{List}
 use lib.IntN.{ℤ}
 use native.Mathlib.Omega.{arith}
@@ -11,13 +11,13 @@ use Rattle.zones.specs.declared.reduction.Reduced.{Reduced}
 use Rattle.zones.specs.declared.zone.Work.{Work}
 use Rattle.zones.specs.Ranges.{Fits32, Sized, counts}
 use Rattle.zones.specs.Settled.{Settled}
-use Rattle.zones.specs.Successors.{meetOf, enterOf, followOf}
-use Rattle.zones.specs.Zones.{setOf, resetOf}
+use Rattle.zones.specs.Successors.{meetOf}
+use Rattle.zones.specs.Zones.{setOf}
 use Rattle.search.specs.declared.automaton.Edge.{Edge}
 use Rattle.search.specs.declared.exploration.Turn.{Turn}
 use Rattle.search.specs.Accepted.{Accepted}
 use Rattle.search.specs.Automata.{clocks, edges, locations, to, guardOf, resetsOf, invariantOf}
-use Rattle.search.specs.Exploring.{Gives, SoundResult, SoundZone}
+use Rattle.search.specs.Exploring.{Gives, Offers, arrivalOf, successorOf, SoundResult, SoundZone}
 use Rattle.search.specs.Instance.{resultOf, zonesOf}
 use Rattle.search.specs.Opened.{edgeOf}
 use Rattle.search.specs.Search.{offer}
@@ -28,22 +28,18 @@ use Rattle.search.proofs.Stepping.{followed-none, followed, guard-scale
 
 -- an offer gives the same, by whatever name its location and its zone go
 pub gives-of : (b : List ℕ) (slots count : ℕ) (s s′ : List ℤ) (t : Turn) {l l′ : ℕ} {r r′ : Reduced} → l ≡ l′ → r ≡ r′ →
-    ((p : List ℕ) → Gives b slots s count (λ q. offer (systemOf b) (zonesOf b) slots q l p (resultOf r)) s′ t) →
-    (p : List ℕ) → Gives b slots s count (λ q. offer (systemOf b) (zonesOf b) slots q l′ p (resultOf r′)) s′ t
+    Offers b slots s count l r s′ t → Offers b slots s count l′ r′ s′ t
 gives-of b slots count s s′ t {l} {l′} {r} {r′} e f g p =
     subst (λ (k : ℕ). Gives b slots s count (λ q. offer (systemOf b) (zonesOf b) slots q k p (resultOf r′)) s′ t) e
     (subst (λ (x : Reduced). Gives b slots s count (λ q. offer (systemOf b) (zonesOf b) slots q l p (resultOf x)) s′ t) f (g p))
 
 module _ (b : List ℕ) (a : Accepted b) (i : ℕ) (hi : i < edges b) (w : Work) (z : SoundZone b (w .zone)) (fits : Fits32 (w .fraction)) where
-  abbrev successor : Reduced
-  successor = followOf (clocks b) (guardOf b i) (resetsOf b i) (invariantOf b (to b i)) w
-
   pub taken-sized : Sized counts (suc (clocks b)) w
   taken-sized = node-sized b a (w .zone) (w .fraction) (z .ranged) fits
 
   -- r is what the guard leaves
   module _ {r : Reduced} (e : r ≡ meetOf (clocks b) (guardOf b i) w) where
-    pub follows-none : r .empty ≡ true → (slots count : ℕ) (s : List ℤ) (p : List ℕ) → Gives b slots s count (λ q. offer (systemOf b) (zonesOf b) slots q (to b i) p (resultOf (followOf (clocks b) (guardOf b i) (resetsOf b i) (invariantOf b (to b i)) w))) s (record { count = count; fraction = r .work .fraction; code = 0 })
+    pub follows-none : r .empty ≡ true → (slots count : ℕ) (s : List ℤ) → Offers b slots s count (to b i) (successorOf b i w) s (record { count = count; fraction = r .work .fraction; code = 0 })
     follows-none f slots count s =
         gives-of b slots count s s (record { count = count; fraction = r .work .fraction; code = 0 }) refl
         (followed-none (clocks b) (a .complete .clocks≤) w refl (guardOf b i) (resetsOf b i) (invariantOf b (to b i)) e f)
@@ -61,13 +57,13 @@ module _ (b : List ℕ) (a : Accepted b) (i : ℕ) (hi : i < edges b) (w : Work)
         pub edge-to : edge .to ≡ to b i
         edge-to = ap (λ (x : Edge). x .to) f
 
-        pub follows : enterOf (clocks b) (invariantOf b (edge .to)) (resetOf (suc (clocks b)) (setOf (edge .resets)) (r .work)) ≡ followOf (clocks b) (guardOf b i) (resetsOf b i) (invariantOf b (to b i)) w
+        pub follows : arrivalOf b (edge .to) (setOf (edge .resets)) (r .work) ≡ successorOf b i w
         follows =
             let R = resets-are b a i hi (ap (λ (x : Edge). x .resets) f) in
-            (λ k. enterOf (clocks b) (invariantOf b (edge-to k)) (resetOf (suc (clocks b)) (R k) (r .work)))
+            (λ k. arrivalOf b (edge-to k) (R k) (r .work))
             ∙ followed (clocks b) (a .complete .clocks≤) w refl (guardOf b i) (resetsOf b i) (invariantOf b (to b i)) e live
 
-        pub arrives-sound : SoundResult b (enterOf (clocks b) (invariantOf b (edge .to)) (resetOf (suc (clocks b)) (setOf (edge .resets)) (r .work)))
+        pub arrives-sound : SoundResult b (arrivalOf b (edge .to) (setOf (edge .resets)) (r .work))
         arrives-sound = subst (SoundResult b) (sym follows) (follow-sound b a i hi (w .zone) (w .fraction) (z .ranged) (z .framed) fits)
 
         pub arrives-at : edge .to < locations b

@@ -13,7 +13,7 @@ use Rattle.zones.specs.Zones.{firstWork}
 use Rattle.search.specs.declared.exploration.Turn.{Turn}
 use Rattle.search.specs.Accepted.{Accepted}
 use Rattle.search.specs.Automata.{clocks, start, invariantOf}
-use Rattle.search.specs.Exploring.{SoundState, SoundResult, Stored, Shown, Gives, Continues, InProgress, Going}
+use Rattle.search.specs.Exploring.{SoundState, SoundResult, Stored, Shown, Offers, Continues, InProgress, Going}
 use Rattle.search.specs.Instance.{ZoneState, zonesOf, resultOf, entering, searchOf}
 use Rattle.search.specs.Search.{offer, begin, take-from, search}
 use Rattle.search.specs.Semantics.{systemOf}
@@ -48,7 +48,7 @@ module _ {b : List ℕ} (a : Accepted b) (s : List ℤ) {slots : ℕ} (es : slot
   blank-progress = record { base = s; state = blank; stored = blank-stored; sound = blank-sound; room = room }
 
   module _ {r : Reduced} (er : r ≡ enterOf (clocks b) (invariantOf b (start b)) firstWork) {s′ : List ℤ} {t′ : Turn}
-      (g : (p : List ℕ) → Gives b slots s 0 (λ q. offer (systemOf b) (zonesOf b) slots q (start b) p (resultOf r)) s′ t′) where
+      (g : Offers b slots s 0 (start b) r s′ t′) where
     abbrev state : ZoneState
     state = begin (systemOf b) (zonesOf b) slots
 

@@ -11,11 +11,10 @@ use native.Mathlib.Nat.{mul-le-mul-right, le-trans}
 use Rattle.zones.specs.declared.pair.Pair.{Pair}
 use Rattle.zones.specs.declared.zone.Work.{Work}
 use Rattle.zones.specs.Ranges.{Fits32}
-use Rattle.zones.specs.Successors.{followOf}
 use Rattle.search.specs.declared.exploration.Turn.{Turn}
 use Rattle.search.specs.Accepted.{Accepted}
-use Rattle.search.specs.Automata.{clocks, edges, from, to, invariantOf, guardOf, resetsOf}
-use Rattle.search.specs.Exploring.{SoundState, SoundZone, Shown, Gives, InProgress, Going}
+use Rattle.search.specs.Automata.{clocks, edges, from, to}
+use Rattle.search.specs.Exploring.{SoundState, SoundZone, Shown, Offers, successorOf, InProgress, Going}
 use Rattle.search.specs.Instance.{ZoneState, ZoneNode, workOf, resultOf, following, zonesOf}
 use Rattle.search.specs.Search.{offer, follow, expand}
 use Rattle.search.specs.Semantics.{systemOf}
@@ -82,23 +81,23 @@ module _ (b : List ℕ) (slots l : ℕ) (z : List Pair) (p : List ℕ) where
       taken-sound = subst (λ (x : Work). SoundZone b (x .zone)) (sym e) sz
 
       -- s′ and t′ are what the offer of its successor left
-      module _ (at : from b i ≡ l) (s′ : List ℤ) (t′ : Turn) (g : (p : List ℕ) → Gives b slots s (t .count) (λ q. offer (systemOf b) (zonesOf b) slots q (to b i) p (resultOf (followOf (clocks b) (guardOf b i) (resetsOf b i) (invariantOf b (to b i)) v))) s′ t′) where
+      module _ (at : from b i ≡ l) (s′ : List ℤ) (t′ : Turn) (g : Offers b slots s (t .count) (to b i) (successorOf b i v) s′ t′) where
         next : ZoneState
-        next = offer (systemOf b) (zonesOf b) slots (w .state) (to b i) (p ++ (i ∷ [])) (resultOf (followOf (clocks b) (guardOf b i) (resetsOf b i) (invariantOf b (to b i)) v))
+        next = offer (systemOf b) (zonesOf b) slots (w .state) (to b i) (p ++ (i ∷ [])) (resultOf (successorOf b i v))
 
-        shown : Shown (suc (clocks b)) s₀ (offer (systemOf b) (zonesOf b) slots (w .state) (to b i) (p ++ (i ∷ [])) (resultOf (followOf (clocks b) (guardOf b i) (resetsOf b i) (invariantOf b (to b i)) v))) s′ t′
+        shown : Shown (suc (clocks b)) s₀ (offer (systemOf b) (zonesOf b) slots (w .state) (to b i) (p ++ (i ∷ [])) (resultOf (successorOf b i v))) s′ t′
         shown = g (p ++ (i ∷ [])) .shows s₀ (w .state) (w .shown .stored) (w .sound)
 
-        followed : follow (systemOf b) (zonesOf b) slots node i (w .state) ≡ offer (systemOf b) (zonesOf b) slots (w .state) (to b i) (p ++ (i ∷ [])) (resultOf (followOf (clocks b) (guardOf b i) (resetsOf b i) (invariantOf b (to b i)) v))
+        followed : follow (systemOf b) (zonesOf b) slots node i (w .state) ≡ offer (systemOf b) (zonesOf b) slots (w .state) (to b i) (p ++ (i ∷ [])) (resultOf (successorOf b i v))
         unfolding following
         followed =
             follow-on (systemOf b) (zonesOf b) slots node i (w .state) (w .going) at
-            ∙ (λ k. offer (systemOf b) (zonesOf b) slots (w .state) (to b i) (p ++ (i ∷ [])) (resultOf (followOf (clocks b) (guardOf b i) (resetsOf b i) (invariantOf b (to b i)) (sym (e ∙ ap (workOf z) (w .shown .fraction)) k))))
+            ∙ (λ k. offer (systemOf b) (zonesOf b) slots (w .state) (to b i) (p ++ (i ∷ [])) (resultOf (successorOf b i (sym (e ∙ ap (workOf z) (w .shown .fraction)) k))))
 
-        rest : opened (edges b - (i + 1)) (i + 1) (offer (systemOf b) (zonesOf b) slots (w .state) (to b i) (p ++ (i ∷ [])) (resultOf (followOf (clocks b) (guardOf b i) (resetsOf b i) (invariantOf b (to b i)) v))) ≡ opened (edges b) 0 q₀
+        rest : opened (edges b - (i + 1)) (i + 1) (offer (systemOf b) (zonesOf b) slots (w .state) (to b i) (p ++ (i ∷ [])) (resultOf (successorOf b i v))) ≡ opened (edges b) 0 q₀
         rest = sym (one-edge i (w .state) hi ∙ ap (opened (edges b - (i + 1)) (i + 1)) followed) ∙ w .rest
 
-        sound : SoundState b slots (offer (systemOf b) (zonesOf b) slots (w .state) (to b i) (p ++ (i ∷ [])) (resultOf (followOf (clocks b) (guardOf b i) (resetsOf b i) (invariantOf b (to b i)) v)))
+        sound : SoundState b slots (offer (systemOf b) (zonesOf b) slots (w .state) (to b i) (p ++ (i ∷ [])) (resultOf (successorOf b i v)))
         sound = offer-sound b a slots (to b i) (a .to< i hi) (p ++ (i ∷ [])) (w .state) (w .sound) _ (follow-sound b a i hi (v .zone) (v .fraction) (taken-sound .ranged) (taken-sound .framed) taken-fits)
 
         pub offered-length : slots * slotLength (suc (clocks b)) ≤ length s₀ → length s′ ≡ length s₀
@@ -120,7 +119,7 @@ module _ (b : List ℕ) (slots l : ℕ) (z : List Pair) (p : List ℕ) where
         unfolding next
         stops f = go (next .code) refl
           where
-            go : (k : ℕ) → offer (systemOf b) (zonesOf b) slots (w .state) (to b i) (p ++ (i ∷ [])) (resultOf (followOf (clocks b) (guardOf b i) (resetsOf b i) (invariantOf b (to b i)) v)) .code ≡ k → Shown (suc (clocks b)) s₀ (opened (edges b) 0 q₀) s′ t′
+            go : (k : ℕ) → offer (systemOf b) (zonesOf b) slots (w .state) (to b i) (p ++ (i ∷ [])) (resultOf (successorOf b i v)) .code ≡ k → Shown (suc (clocks b)) s₀ (opened (edges b) 0 q₀) s′ t′
             go zero h = absurd (f (shown .code ∙ h))
             go (suc k) h = subst (λ (q : ZoneState). Shown (suc (clocks b)) s₀ q s′ t′) (sym (expand-later (systemOf b) (zonesOf b) slots node (edges b - (i + 1)) (i + 1) next .stopped k h) ∙ rest) shown
 

@@ -18,6 +18,7 @@ use Rattle.zones.specs.declared.fraction.Fraction.{Fraction}
 use Rattle.zones.specs.declared.pair.Pair.{Pair}
 use Rattle.zones.specs.Containment.{placeOf, withinTo, within, loweredTo, loweredWithin, countTo, largestCount}
 use Rattle.zones.specs.Integers.{up}
+use Rattle.zones.proofs.Inside.{bounded-place}
 use Rattle.zones.proofs.Integers.{le-make}
 use Rattle.zones.specs.Fractions.{loweredBy}
 use Rattle.zones.specs.Pairs.{zeroPair, atMost, isLess, thresholdOf, smallerOf}
@@ -127,10 +128,6 @@ module _ (n : ℕ) (z : List Pair) where
       go : (qs : List Pair) → pairsTo n (d + suc k) z ≡ pairsTo n k z ++ (placeOf z k ∷ qs) → Dec ((d + suc k) % 9 < n) → (qs : List Pair) × (pairsTo n (suc d + suc k) z ≡ pairsTo n k z ++ (placeOf z k ∷ qs))
       go qs s (yes p) = (qs ++ (placeOf z (d + suc k) ∷ []), rw e (pairs-in (d + suc k) p ∙ rw (s, append-assoc)))
       go qs s (no p) = (qs, rw e (pairs-out (d + suc k) (omega arith) ∙ s))
-
-pub bounded-place : (C P n : ℕ) (z : List Pair) (k : ℕ) → AllBounded C P n z → k < n * 9 → k % 9 < n → Bounded C P (placeOf z k)
-unfolding pairAt
-bounded-place C P n z k h hk c = let e : k / 9 * 9 + k % 9 ≡ k = omega arith in subst (λ (i : ℕ). Bounded C P (placeOf z i)) e (h (k / 9) (k % 9) (omega arith) c)
 
 -- ---- their numbers
 pub flat-length : (l : List Pair) → length (flat l) ≡ 2 * length l

@@ -1,18 +1,22 @@
 -- What the functions of the search ask and give. A search in progress is a state of the definition; the code has it as a turn and the store.
 use Prim.Native.Nat.{ℕ, suc, _*_, _≤_, _<_}
 use mathlib.Core.Path.{_≡_}
-use mathlib.Core.Bool.{false, true}
+use mathlib.Core.Bool.{Bool, false, true}
 use mathlib.Core.List.{List}
 use lib.IntN.{ℤ, pos}
 use lib.ListN.{length, getD, drop}
 use Rattle.zones.specs.declared.pair.Pair.{Pair}
 use Rattle.zones.specs.declared.reduction.Reduced.{Reduced}
+use Rattle.zones.specs.declared.zone.Work.{Work}
 use Rattle.zones.specs.Fractions.{noLimit}
 use Rattle.zones.specs.Ranges.{Ranged, Sized, Fits32, scale, counts, lastCounts}
+use Rattle.zones.specs.Successors.{enterOf, followOf}
+use Rattle.zones.specs.Zones.{resetOf}
 use Rattle.search.specs.declared.exploration.Turn.{Turn}
-use Rattle.search.specs.Automata.{clocks, locations}
-use Rattle.search.specs.Instance.{ZoneNode, ZoneState, workOf}
-use Rattle.search.specs.Search.{Nth}
+use Rattle.search.specs.Automata.{clocks, locations, to, guardOf, invariantOf, resetsOf}
+use Rattle.search.specs.Instance.{ZoneNode, ZoneState, workOf, resultOf, zonesOf}
+use Rattle.search.specs.Search.{Nth, offer}
+use Rattle.search.specs.Semantics.{systemOf}
 use Rattle.search.specs.Slots.{slotLength}
 use Rattle.search.specs.Decoding.{Framed}
 use Rattle.search.specs.Containing.{withinSlots}
@@ -61,6 +65,18 @@ pub record Shown (n : ℕ) (s₀ : List ℤ) (q : ZoneState) (s : List ℤ) (t :
 -- comes to, of every sound state that the store shows
 pub record Gives (b : List ℕ) (slots : ℕ) (s : List ℤ) (count : ℕ) (f : ZoneState → ZoneState) (s′ : List ℤ) (r : Turn) : Type 0 where
   pub shows : (s₀ : List ℤ) (q : ZoneState) → Stored (suc (clocks b)) s₀ q s count → SoundState b slots q → Shown (suc (clocks b)) s₀ (f q) s′ r
+
+-- the zone w after a reset of the clocks R, entered in l
+abbrev pub arrivalOf : List ℕ → ℕ → (ℕ → Bool) → Work → Reduced
+arrivalOf b l R w = enterOf (clocks b) (invariantOf b l) (resetOf (suc (clocks b)) R w)
+
+-- its successor along edge i
+abbrev pub successorOf : List ℕ → ℕ → Work → Reduced
+successorOf b i w = followOf (clocks b) (guardOf b i) (resetsOf b i) (invariantOf b (to b i)) w
+
+-- what the offer of r in l gives, whatever the edges that lead there
+abbrev pub Offers : List ℕ → ℕ → List ℤ → ℕ → ℕ → Reduced → List ℤ → Turn → Type 0
+Offers b slots s count l r s′ t = (p : List ℕ) → Gives b slots s count (λ q. offer (systemOf b) (zonesOf b) slots q l p (resultOf r)) s′ t
 
 -- a search in progress, with room for `slots` slots in the store that was lent
 pub record InProgress (b : List ℕ) (slots : ℕ) (s : List ℤ) (count : ℕ) : Type 0 where

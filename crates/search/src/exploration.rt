@@ -25,12 +25,11 @@ ghost use Prim.Native.Nat.{ℕ, suc, _+_, _*_, _≤_, _<_};
 ghost use lib.ListN.{length};
 ghost use Rattle.zones.specs.Ranges.{Fits32, Sized, counts, lastCounts};
 ghost use Rattle.zones.specs.Settled.{Settled};
-ghost use Rattle.zones.specs.Successors.{enterOf, followOf};
-ghost use Rattle.zones.specs.Zones.{setOf, resetOf};
+ghost use Rattle.zones.specs.Zones.{setOf};
 ghost use Rattle.search.specs.Accepted.{Accepted};
-ghost use Rattle.search.specs.Automata.{clocks, edges, locations, start, target, to, guardOf, invariantOf, resetsOf};
-ghost use Rattle.search.specs.Exploring.{FirstHit, Shown, SoundResult, SoundZone, Gives, Continues, InProgress, Going};
-ghost use Rattle.search.specs.Instance.{resultOf, zonesOf};
+ghost use Rattle.search.specs.Automata.{clocks, edges, locations, start, target, to};
+ghost use Rattle.search.specs.Exploring.{FirstHit, Shown, SoundResult, SoundZone, Gives, Offers, arrivalOf, successorOf, Continues, InProgress, Going};
+ghost use Rattle.search.specs.Instance.{zonesOf};
 ghost use Rattle.search.specs.Opened.{edgeOf};
 ghost use Rattle.search.specs.Search.{offer, expand, take-from, zone};
 ghost use Rattle.search.specs.Semantics.{systemOf};
@@ -128,7 +127,7 @@ fn offer(
 ) -> Turn
     requires { ⌜ Accepted (now automaton) × (l < locations (now automaton)) ⌝ }
     requires { ⌜ InProgress (now automaton) slots (now store) count × SoundResult (now automaton) r ⌝ }
-    ensures { λ t. ⌜ ((p : List ℕ) → Gives (now (automaton .entry)) slots (now (store .entry)) count (λ q. offer (systemOf (now (automaton .entry))) (zonesOf (now (automaton .entry))) slots q l p (resultOf r)) (now (store .exit)) t) ⌝ }
+    ensures { λ t. ⌜ Offers (now (automaton .entry)) slots (now (store .entry)) count l r (now (store .exit)) t ⌝ }
 {
     let work = r.work;
     let fraction = work.fraction;
@@ -149,8 +148,8 @@ fn offer(
     judge(automaton, store, count, slots, l, work)
 }
 
-// A settled zone is reset, enters l and is judged. It is called for the start and for every edge, so that the compiler keeps it
-// apart and works on one square.
+// A settled zone is reset, enters l and is judged. The start and the edges share this function, so that the compiler keeps it
+// out of the loop over the edges and gives its steps one square.
 fn arrive(
     automaton: &[u8],
     store: &mut [i32],
@@ -162,8 +161,8 @@ fn arrive(
 ) -> Turn
     requires { ⌜ Accepted (now automaton) × (l < locations (now automaton)) × InProgress (now automaton) slots (now store) count ⌝ }
     requires { ⌜ Sized (10 * counts) (suc (clocks (now automaton))) w × Settled (suc (clocks (now automaton))) w ⌝ }
-    requires { ⌜ SoundResult (now automaton) (enterOf (clocks (now automaton)) (invariantOf (now automaton) l) (resetOf (suc (clocks (now automaton))) (setOf resets) w)) ⌝ }
-    ensures { λ t. ⌜ ((p : List ℕ) → Gives (now (automaton .entry)) slots (now (store .entry)) count (λ q. offer (systemOf (now (automaton .entry))) (zonesOf (now (automaton .entry))) slots q l p (resultOf (enterOf (clocks (now (automaton .entry))) (invariantOf (now (automaton .entry)) l) (resetOf (suc (clocks (now (automaton .entry)))) (setOf resets) w)))) (now (store .exit)) t) ⌝ }
+    requires { ⌜ SoundResult (now automaton) (arrivalOf (now automaton) l (setOf resets) w) ⌝ }
+    ensures { λ t. ⌜ Offers (now (automaton .entry)) slots (now (store .entry)) count l (arrivalOf (now (automaton .entry)) l (setOf resets) w) (now (store .exit)) t ⌝ }
 {
     let cleared = w.reset(clocks(automaton) + 1, resets);
     let entered = enter(automaton, l, cleared);
@@ -182,7 +181,7 @@ fn follow(
 ) -> Turn
     requires { ⌜ Accepted (now automaton) × (i < edges (now automaton)) × (edge ≡ edgeOf (now automaton) i) ⌝ }
     requires { ⌜ InProgress (now automaton) slots (now store) count × SoundZone (now automaton) (w .zone) × Fits32 (w .fraction) ⌝ }
-    ensures { λ t. ⌜ ((p : List ℕ) → Gives (now (automaton .entry)) slots (now (store .entry)) count (λ q. offer (systemOf (now (automaton .entry))) (zonesOf (now (automaton .entry))) slots q (to (now (automaton .entry)) i) p (resultOf (followOf (clocks (now (automaton .entry))) (guardOf (now (automaton .entry)) i) (resetsOf (now (automaton .entry)) i) (invariantOf (now (automaton .entry)) (to (now (automaton .entry)) i)) w))) (now (store .exit)) t) ⌝ }
+    ensures { λ t. ⌜ Offers (now (automaton .entry)) slots (now (store .entry)) count (to (now (automaton .entry)) i) (successorOf (now (automaton .entry)) i w) (now (store .exit)) t ⌝ }
 {
     let at = edge_at(automaton, i) + 3;
     let met = narrow(automaton, at, clocks(automaton), w, false);

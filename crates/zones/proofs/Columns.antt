@@ -1,23 +1,20 @@
 -- After column 0 of a settled zone was raised, its reduction changes column 0 alone, and the zone is not empty.
 -- Assumes nothing.
-use Prim.Native.Nat.{ℕ, zero, suc, _+_, _*_, _<_, _≤_}
+use Prim.Native.Nat.{ℕ, zero, suc, _+_, _<_, _≤_}
 use mathlib.Core.Path.{_≡_, refl, sym, ap, _∙_, subst}
-use mathlib.Core.Bool.{Bool, true, false}
+use mathlib.Core.Bool.{false}
 use mathlib.Core.Logic.{⊎-elim}
-use lib.ListN.{length}
 use lib.IntN.{pos}
 use lib.Signed.{_≤ℤ_}
 use native.Mathlib.Numerals.{add-one}
 use native.Mathlib.Omega.{arith}
 use native.Mathlib.Decide.{ℕ-discrete}
-use native.Mathlib.Nat.{not-suc-le-zero}
 use Rattle.zones.specs.declared.pair.Pair.{Pair}
-use Rattle.zones.specs.declared.reduction.Reduced.{Reduced}
 use Rattle.zones.specs.declared.zone.Work.{Work}
-use Rattle.zones.proofs.Integers.{int, le-read, eq-read, sum-law}
-use Rattle.zones.specs.Pairs.{zeroPair, sumOf, isLess, smallerOf}
+use Rattle.zones.proofs.Integers.{int, eq-read, sum-law}
+use Rattle.zones.specs.Pairs.{sumOf, isLess}
 use Rattle.zones.specs.Zones.{entry, lowerAt}
-use Rattle.zones.specs.Reductions.{relaxed, rowSteps, roundSteps, emptyIn, afterMiddle, reduceSteps}
+use Rattle.zones.specs.Reductions.{relaxed, rowSteps, roundSteps, emptyIn, reduceSteps}
 use Rattle.zones.specs.Values.{valueOf, Below}
 use Rattle.zones.specs.Settled.{Settled, Raised}
 use Rattle.zones.proofs.Lowering.{lower-limits}

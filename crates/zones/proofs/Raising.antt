@@ -1,6 +1,6 @@
 -- The upper limits that were met are raised again: what entering makes of a settled zone is one with column 0 raised.
 -- Assumes nothing.
-use Prim.Native.Nat.{ℕ, zero, suc, _+_, _*_, _<_, _≤_}
+use Prim.Native.Nat.{ℕ, zero, suc, _<_, _≤_}
 use mathlib.Core.Path.{_≡_, refl, sym, subst}
 use mathlib.Core.Bool.{Bool, true, false}
 use lib.ListN.{length}

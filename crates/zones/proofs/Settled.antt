@@ -2,20 +2,18 @@
 -- Assumes nothing.
 use Prim.Native.Nat.{ℕ, zero, suc, _+_, _-_, _*_, _<_, _≤_}
 use mathlib.Core.Path.{_≡_, refl, sym, ap, _∙_, subst}
-use mathlib.Core.Bool.{Bool, true, false}
-use lib.ListN.{length}
-use lib.IntN.{pos, _-ℤ_, natAbs}
+use mathlib.Core.Bool.{false}
+use lib.IntN.{_-ℤ_, natAbs}
 use lib.Signed.{_≤ℤ_}
 use native.Mathlib.Omega.{arith}
-use native.Mathlib.Decide.{decLt, ℕ-discrete}
+use native.Mathlib.Decide.{decLt}
 use Rattle.zones.specs.declared.fraction.Fraction.{Fraction}
 use Rattle.zones.specs.declared.pair.Pair.{Pair}
-use Rattle.zones.specs.declared.reduction.Reduced.{Reduced}
 use Rattle.zones.specs.declared.zone.Work.{Work}
 use Rattle.zones.specs.Integers.{up, down}
 use Rattle.zones.proofs.Integers.{int, le-read, eq-read, sum-law, abs-gap}
 use Rattle.zones.specs.Fractions.{loweredBy}
-use Rattle.zones.specs.Pairs.{zeroPair, sumOf, isLess, thresholdOf}
+use Rattle.zones.specs.Pairs.{sumOf, isLess, thresholdOf}
 use Rattle.zones.specs.Zones.{entry}
 use Rattle.zones.specs.Reductions.{relaxed, rowSteps, roundSteps, emptyIn, afterMiddle, reduceSteps}
 use Rattle.zones.specs.Values.{valueOf, Below}

@@ -1,7 +1,7 @@
 -- Which zones are settled: what a reduction leaves, what a reset makes of a settled one, the first one, and a settled one on which limits
 -- were met that lower no entry.
 -- Assumes nothing.
-use Prim.Native.Nat.{ℕ, zero, suc, _+_, _<_, _≤_}
+use Prim.Native.Nat.{ℕ, suc, _<_, _≤_}
 use mathlib.Core.Path.{_≡_, refl, sym, ap, _∙_, subst}
 use mathlib.Core.Bool.{Bool, false}
 use mathlib.Core.List.{List}

@@ -1,13 +1,13 @@
 -- `arrive` meets its contract: what is judged is the definition's zone, reset and entered.
 -- Assumes nothing.
-use Prim.Native.Nat.{suc, _*_}
+use Prim.Native.Nat.{_*_}
 use mathlib.Core.Path.{_≡_, refl, sym, ap, _∙_, subst}
 use native.Mathlib.Omega.{arith}
 use Rattle.zones.specs.Ranges.{counts}
 use Rattle.zones.specs.Successors.{enterOf}
-use Rattle.zones.specs.Zones.{setOf, resetOf}
-use Rattle.search.specs.Automata.{clocks, invariantOf}
-use Rattle.search.specs.Exploring.{SoundResult}
+use Rattle.zones.specs.Zones.{setOf}
+use Rattle.search.specs.Automata.{clocks}
+use Rattle.search.specs.Exploring.{SoundResult, arrivalOf}
 use Rattle.search.proofs.Arriving.{gives-of}
 use Rattle.search.proofs.Stepping.{one-more, reset-is, reset-enters}
 use borrow.Author.Needs.{needs}
@@ -25,7 +25,7 @@ module _ (c : tie.After-enter) where
   abbrev start : tie.Start
   start = c .before .before .before .before
 
-  entered : c .enter .result ≡ enterOf (clocks (start .args .automaton .now)) (invariantOf (start .args .automaton .now) (start .args .l)) (resetOf (suc (clocks (start .args .automaton .now))) (setOf (start .args .resets)) (start .args .w))
+  entered : c .enter .result ≡ arrivalOf (start .args .automaton .now) (start .args .l) (setOf (start .args .resets)) (start .args .w)
   entered = c .enter .ensures ∙ ap (enterOf _ _) (reset-is _ (start .pre .0 .0 .complete .clocks≤) _ (one-more (c .before .before .clocks .ensures)) (10 * counts) (omega arith) (omega arith) _ (c .before .reset .ensures))
 
 offer-requires : tie.Need-offer-requires

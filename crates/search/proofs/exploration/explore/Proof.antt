@@ -7,12 +7,12 @@ use mathlib.Core.List.{List}
 use lib.ListN.{length, replicate}
 use Rattle.zones.specs.Ranges.{counts}
 use Rattle.zones.specs.Successors.{enterOf}
-use Rattle.zones.specs.Zones.{firstWork, setOf, resetOf}
+use Rattle.zones.specs.Zones.{firstWork, setOf}
 use Rattle.zones.proofs.Bounding.{first-sized}
 use Rattle.zones.proofs.Places.{reset-none}
 use Rattle.zones.proofs.Settling.{first-settled}
 use Rattle.search.specs.Automata.{clocks, start, invariantOf}
-use Rattle.search.specs.Exploring.{SoundResult}
+use Rattle.search.specs.Exploring.{SoundResult, arrivalOf}
 use Rattle.search.specs.Store.{capacityOf}
 use Rattle.search.proofs.Arriving.{gives-of}
 use Rattle.search.proofs.Beginning.{Begun, blank-progress, begun}
@@ -36,7 +36,7 @@ module _ (c : tie.After-first) where
   slots≡ = c .before .before .before .slots-of .ensures ∙ ap (λ (n : ℕ). capacityOf n (length (entry .args .store .now))) (one-more (c .before .before .before .before .clocks .ensures))
 
   -- what arrives is the definition's first zone
-  arrived : enterOf (clocks automaton) (invariantOf automaton (c .before .before .start .result)) (resetOf (suc (clocks automaton)) (setOf (replicate 9 false)) (c .first .result)) ≡ enterOf (clocks automaton) (invariantOf automaton (start automaton)) firstWork
+  arrived : arrivalOf automaton (c .before .before .start .result) (setOf (replicate 9 false)) (c .first .result) ≡ enterOf (clocks automaton) (invariantOf automaton (start automaton)) firstWork
   arrived = (λ i. enterOf (clocks automaton) (invariantOf automaton (c .before .before .start .ensures i)) ((reset-none (suc (clocks automaton)) (setOf (replicate 9 false)) none-reset (c .first .result) ∙ c .first .ensures) i))
 
 arrive-requires : tie.Need-arrive-requires

@@ -5,7 +5,7 @@ use mathlib.Core.Path.{_≡_, refl, _∙_}
 use mathlib.Core.Logic.{⊎-elim}
 use native.Mathlib.Omega.{arith}
 use Rattle.search.specs.Decoding.{counted}
-use Rattle.search.proofs.Slotted.{bounded-place}
+use Rattle.zones.proofs.Inside.{bounded-place}
 use Rattle.search.proofs.Turns.{encoded, few, counts-in, counts-out, encode-start, encode-in, encode-out, encode-all}
 use Rattle.search.proofs.slot.encode.Statement.{statement}
 use Rattle.search.proofs.slot.encode.Tie as tie

@@ -1,8 +1,8 @@
 -- `meet` meets its contract: what is done is the limits of the clocks passed, met one by one; while none lowered an entry, the square is as it was.
 -- Assumes nothing.
-use Prim.Native.Nat.{ℕ, _+_, _-_, _≤_, _<_}
+use Prim.Native.Nat.{_+_, _-_, _≤_, _<_}
 use mathlib.Core.Path.{_≡_, refl, sym, ap, _∙_}
-use mathlib.Core.Bool.{true, false}
+use mathlib.Core.Bool.{true}
 use mathlib.Core.Logic.{⊎-elim}
 use native.Mathlib.Omega.{arith}
 use borrow.Author.Needs.{needs}
@@ -10,6 +10,7 @@ use lib.Dec.{eqb}
 use Rattle.zones.specs.declared.zone.Work.{Work}
 use Rattle.zones.specs.Zones.{meetLimits}
 use Rattle.zones.proofs.Choices.{true-false}
+use Rattle.zones.proofs.Limits.{limits-all}
 use Rattle.search.specs.Automata.{limitsAt, noUpper}
 use Rattle.search.specs.declared.automaton.Limits.{Limits}
 use Rattle.search.proofs.Stepping.{turn-ready, turn-met, turn-same}
@@ -62,7 +63,7 @@ returns : tie.Need-returns Inv-loop μ-loop
 returns c =
     let start = c .before .before .before in
     let last : c .before .loop .x - 1 ≡ start .args .n = omega arith in
-    let all = c .before .loop .inv .2 ∙ ap (λ (k : ℕ). meetLimits (limitsAt (start .args .automaton .now) (start .args .at)) k (start .args .w)) last in
+    let all = limits-all _ _ (start .args .w) last (c .before .loop .inv .2) in
     record { work = all; same = λ e. let s = c .before .loop .inv .3 e in (s .0, ap (λ (v : Work). v .zone) (sym all) ∙ s .1) }
 
 pub meet-spec : {M : Type 1} → statement M

@@ -7,7 +7,8 @@ use borrow.Author.Needs.{needs}
 use lib.ListN.{length, length-map}
 use Rattle.zones.specs.declared.zone.Work.{Work}
 use Rattle.zones.specs.Zones.{pairAt}
-use Rattle.zones.specs.Reductions.{relaxed, rowSteps, roundSteps, reduceSteps}
+use Rattle.zones.specs.Ranges.{Fits32}
+use Rattle.zones.specs.Reductions.{rowSteps, roundSteps, reduceSteps}
 use Rattle.zones.specs.Settled.{Settled, Raised}
 use Rattle.zones.proofs.Columns.{column-step, column-first, zero-row, column-next, column-live}
 use Rattle.zones.proofs.Ranges.{TurnReady, spread-small, sum-small, turn-narrow, turn-of}
@@ -69,7 +70,8 @@ lowered-in-place-requires : tie.Need-lowered-in-place-requires Inv-loop2 μ-loop
 unfolding pairAt
 lowered-in-place-requires c κs =
     let t = turn (c .before .before .before) in
-    (t .fraction, rw (c .before .smaller .ensures, c .before .before .sum .ensures) (turn-narrow _ _ _ _ t))
+    let fits : Fits32 (c .before .smaller .result .threshold) = rw (c .before .smaller .ensures, c .before .before .sum .ensures) (turn-narrow _ _ _ _ t) in
+    search needs
 
 loop2-again : tie.Need-loop2-again Inv-loop2 μ-loop2 Inv-loop μ-loop
 unfolding pairAt
