@@ -148,7 +148,7 @@ fn offer(
     judge(automaton, store, count, slots, l, work)
 }
 
-// A settled zone is reset, enters l and is judged. The start and the edges share this function, so that the compiler keeps it
+// A settled zone enters l after a reset, and is judged. The start and the edges share this function, so that the compiler keeps it
 // out of the loop over the edges and gives its steps one square.
 fn arrive(
     automaton: &[u8],
@@ -164,8 +164,7 @@ fn arrive(
     requires { ⌜ SoundResult (now automaton) (arrivalOf (now automaton) l (setOf resets) w) ⌝ }
     ensures { λ t. ⌜ Offers (now (automaton .entry)) slots (now (store .entry)) count l (arrivalOf (now (automaton .entry)) l (setOf resets) w) (now (store .exit)) t ⌝ }
 {
-    let cleared = w.reset(clocks(automaton) + 1, resets);
-    let entered = enter(automaton, l, cleared);
+    let entered = enter(automaton, l, w, resets);
     offer(automaton, store, count, slots, l, entered)
 }
 

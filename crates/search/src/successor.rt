@@ -13,10 +13,11 @@ ghost use Prim.Native.Nat.{suc, _+_, _*_, _≤_, _<_};
 ghost use lib.ListN.{length};
 ghost use Rattle.zones.specs.Ranges.{Sized, OnScale, counts, scale, stepCounts};
 ghost use Rattle.zones.specs.Settled.{Settled};
-ghost use Rattle.zones.specs.Successors.{meetOf, enterOf};
-ghost use Rattle.zones.specs.Zones.{raiseLimits};
+ghost use Rattle.zones.specs.Successors.{meetOf};
+ghost use Rattle.zones.specs.Zones.{raiseLimits, setOf};
 ghost use Rattle.search.specs.Accepted.{Accepted};
-ghost use Rattle.search.specs.Automata.{clocks, locations, limitsAt, invariantOf};
+ghost use Rattle.search.specs.Automata.{clocks, locations, limitsAt};
+ghost use Rattle.search.specs.Exploring.{arrivalOf};
 ghost use Rattle.search.specs.Meeting.{MetBy};
 
 // A zone on which limits were met, and whether it is known to be settled.
@@ -90,15 +91,16 @@ fn raise(automaton: &[u8], at: usize, n: usize, w: Work) -> Work
     Work { zone: z, fraction }
 }
 
-// The zone, which is settled, enters location l.
-pub fn enter(automaton: &[u8], l: usize, w: Work) -> Reduced
+// The zone, which is settled, enters location l after a reset.
+pub fn enter(automaton: &[u8], l: usize, w: Work, resets: [bool; 9]) -> Reduced
     requires { ⌜ Accepted (now automaton) × (l < locations (now automaton)) ⌝ }
     requires { ⌜ Sized (10 * counts) (suc (clocks (now automaton))) w × Settled (suc (clocks (now automaton))) w ⌝ }
-    ensures { λ r. ⌜ r ≡ enterOf (clocks (now (automaton .entry))) (invariantOf (now (automaton .entry)) l) w ⌝ }
+    ensures { λ r. ⌜ r ≡ arrivalOf (now (automaton .entry)) l (setOf resets) w ⌝ }
 {
     let n = clocks(automaton);
     let at = invariant_at(automaton, l);
-    let met = narrow(automaton, at, n, w, true);
+    let cleared = w.reset(n + 1, resets);
+    let met = narrow(automaton, at, n, cleared, true);
     if met.empty {
         return met;
     }

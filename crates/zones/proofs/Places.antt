@@ -1,12 +1,12 @@
 -- What stands at each place of a square after an operation that sets places.
 -- Assumes nothing.
 use Prim.Native.Nat.{ℕ, zero, suc, _+_, _*_, _/_, _%_, _<_, _≤_}
-use mathlib.Core.Path.{_≡_, refl, ap, _∙_}
+use mathlib.Core.Path.{_≡_, refl, sym, ap, _∙_}
 use mathlib.Core.Bool.{Bool, true, false, cond}
 use mathlib.Core.List.{List}
+use mathlib.Core.Logic.{_⊎_, ⊎-elim}
 use lib.ListN.{length, getD, set, length-set, length-replicate, getD-replicate}
 use lib.Seq.{getD-set-same, getD-set-other, set-getD}
-use native.Mathlib.Numerals.{add-one}
 use native.Mathlib.Omega.{arith}
 use native.Mathlib.Decide.{ℕ-discrete, decLt}
 use native.Mathlib.Nat.{not-suc-le-zero}
@@ -180,12 +180,24 @@ home-kept R y size k h a b ha hb = go (decLt (home R a * 9 + home R b) k)
     go (no l) = d .rest (home R a * 9 + home R b) (omega arith)
 
 -- one place more, as the code counts it
-pub reset-next : (R : ℕ → Bool) (y : List Pair) (k : ℕ) → length y ≡ 81 → k < 81 → {u : List Pair} {a b : ℕ} →
-    u ≡ resetPlaces R y k y → a ≡ home R (k / 9) → b ≡ home R (k % 9) → set u k (getD u (a * 9 + b) zeroPair) ≡ resetPlaces R y (k + 1) y
+pub home-is : (R : ℕ → Bool) (i : ℕ) {a : ℕ} → ((R i ≡ true) × (a ≡ 0)) ⊎ ((R i ≡ false) × (a ≡ i)) → a ≡ home R i
+home-is R i = ⊎-elim (λ x. x .1 ∙ sym (home-goes R i (x .0))) (λ x. x .1 ∙ sym (home-stays R i (x .0)))
+
+pub reset-next : (R : ℕ → Bool) (y : List Pair) (i j : ℕ) → length y ≡ 81 → i < 9 → j < 9 → {u : List Pair} {a b : ℕ} →
+    u ≡ resetPlaces R y (i * 9 + j) y → a ≡ home R i → b ≡ home R j → set u (i * 9 + j) (getD u (a * 9 + b) zeroPair) ≡ resetPlaces R y (i * 9 + (j + 1)) y
 unfolding resetPlaces pairAt
-reset-next R y k size h e f g =
-    let kept = home-kept R y size k (omega arith) (k / 9) (k % 9) (omega arith) (omega arith) in
-    rw add-one ((λ i. set (e i) k (getD (e i) (f i * 9 + g i) zeroPair)) ∙ ap (set (resetPlaces R y k y) k) kept)
+reset-next R y i j size hi hj e f g =
+    let k = i * 9 + j in
+    let row : k / 9 ≡ i = omega arith in
+    let column : k % 9 ≡ j = omega arith in
+    let last : i * 9 + (j + 1) ≡ suc k = omega arith in
+    let kept = home-kept R y size k (omega arith) i j (omega arith) (omega arith) in
+    rw last
+    ((λ t. set (e t) k (getD (e t) (f t * 9 + g t) zeroPair)) ∙ ap (set (resetPlaces R y k y) k) kept
+    ∙ (λ t. set (resetPlaces R y k y) k (getD y (home R (sym row t) * 9 + home R (sym column t)) zeroPair)))
+
+pub reset-as : (R : ℕ → Bool) (y : List Pair) {k k′ : ℕ} {u : List Pair} → k ≡ k′ → u ≡ resetPlaces R y k y → u ≡ resetPlaces R y k′ y
+reset-as R y e f = f ∙ ap (λ (k : ℕ). resetPlaces R y k y) e
 
 pub reset-all : (n : ℕ) (R : ℕ → Bool) (w : Work) {k : ℕ} {u : Work} → k ≡ n * 9 →
     u .zone ≡ resetPlaces R (w .zone) k (w .zone) → u .fraction ≡ w .fraction → u ≡ resetOf n R w

@@ -4,7 +4,7 @@ use crate::pair::Pair;
 ghost use mathlib.Core.Path.{_≡_};
 ghost use mathlib.Core.Bool.{false};
 ghost use Prim.Native.Nat.{_≤_, _<_};
-ghost use Rattle.zones.specs.Zones.{firstWork, upperMet, lowerMet, boundsMet, boundsBelow, setOf, home, resetOf};
+ghost use Rattle.zones.specs.Zones.{firstWork, upperMet, lowerMet, boundsMet, boundsBelow, setOf, resetOf};
 ghost use Rattle.zones.specs.Ranges.{LimitsReady};
 
 // A zone at work: a square of pairs, nine to a row, and the running fraction.
@@ -24,32 +24,27 @@ impl Work {
         }
     }
 
-    // The rows and columns of the clocks that are marked become those of 0. It works in place:
-    // an entry that is read is that of two homes, which no turn changes.
+    // The rows and columns of the clocks that are marked become those of 0, in place: an entry that is read is that of two
+    // indices which keep their rows and columns, so no turn changes it.
     pub fn reset(self, size: usize, marked: [bool; 9]) -> Work
         requires { ⌜ size ≤ 9 ⌝ }
         ensures { λ r. ⌜ r ≡ resetOf size (setOf marked) self ⌝ }
     {
         let mut work = self;
-        let last = size * 9;
-        let mut at = 0;
-        while at < last {
-            let a = home_of(marked, at / 9);
-            let b = home_of(marked, at % 9);
-            let q = work.zone[a * 9 + b];
-            work.zone[at] = q;
-            at += 1;
+        let mut i = 0;
+        while i < size {
+            let a = if marked[i] { 0 } else { i };
+            let mut j = 0;
+            while j < 9 {
+                let b = if marked[j] { 0 } else { j };
+                let q = work.zone[a * 9 + b];
+                work.zone[i * 9 + j] = q;
+                j += 1;
+            }
+            i += 1;
         }
         work
     }
-}
-
-// The index whose row and column an index has after the reset.
-fn home_of(marked: [bool; 9], a: usize) -> usize
-    requires { ⌜ a < 9 ⌝ }
-    ensures { λ r. ⌜ (r ≡ home (setOf marked) a) × (r < 9) ⌝ }
-{
-    if marked[a] { 0 } else { a }
 }
 
 // A clock's entries (x, 0) and (0, x), with the running fraction. Limits are met on these,
