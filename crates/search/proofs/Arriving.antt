@@ -39,7 +39,8 @@ module _ (b : List ℕ) (a : Accepted b) (i : ℕ) (hi : i < edges b) (w : Work)
 
   -- r is what the guard leaves
   module _ {r : Reduced} (e : r ≡ meetOf (clocks b) (guardOf b i) w) where
-    pub follows-none : r .empty ≡ true → (slots count : ℕ) (s : List ℤ) → Offers b slots s count (to b i) (successorOf b i w) s (record { count = count; fraction = r .work .fraction; code = 0 })
+    pub follows-none : r .empty ≡ true → (slots count : ℕ) (s : List ℤ) →
+        Offers b slots s count (to b i) (successorOf b i w) s (record { count = count; fraction = r .work .fraction; code = 0 })
     follows-none f slots count s =
         gives-of b slots count s s (record { count = count; fraction = r .work .fraction; code = 0 }) refl
         (followed-none (clocks b) (a .complete .clocks≤) w refl (guardOf b i) (resetsOf b i) (invariantOf b (to b i)) e f)
@@ -49,7 +50,8 @@ module _ (b : List ℕ) (a : Accepted b) (i : ℕ) (hi : i < edges b) (w : Work)
       pub arrives : Sized (10 * counts) (suc (clocks b)) (r .work) × Settled (suc (clocks b)) (r .work)
       arrives = (
         met-sized (clocks b) (a .complete .clocks≤) w refl counts (omega arith) (omega arith) (guardOf b i) (guard-scale b a i hi) taken-sized e live,
-        met-settled (clocks b) (a .complete .clocks≤) w refl counts (omega arith) (omega arith) (guardOf b i) (guard-scale b a i hi) taken-sized e live,
+        met-settled (clocks b) (a .complete .clocks≤) w refl counts (omega arith) (omega arith) (guardOf b i)
+            (guard-scale b a i hi) taken-sized e live,
       )
 
       -- with the edge as it was fetched

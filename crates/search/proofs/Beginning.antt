@@ -28,7 +28,8 @@ use Rattle.search.proofs.Stores.{capacity-room}
 pub record Begun (b : List ℕ) (slots : ℕ) (s s′ : List ℤ) (t′ : Turn) : Type 0 where
   pub goes-on : t′ .code ≡ 0 → Going b slots s′ t′
   pub stops : (t′ .code ≡ 0 → ⊥) → Shown (suc (clocks b)) s (stateOf b (length s)) s′ t′
-  pub rest : t′ .code ≡ 0 → {s″ : List ℤ} {t″ : Turn} → Continues b slots s′ t′ (take-from (systemOf b) (zonesOf b) slots slots 0) s″ t″ → Shown (suc (clocks b)) s (stateOf b (length s)) s″ t″
+  pub rest : t′ .code ≡ 0 → {s″ : List ℤ} {t″ : Turn} → Continues b slots s′ t′ (take-from (systemOf b) (zonesOf b) slots slots 0) s″ t″ →
+      Shown (suc (clocks b)) s (stateOf b (length s)) s″ t″
 
 module _ {b : List ℕ} (a : Accepted b) (s : List ℤ) {slots : ℕ} (es : slots ≡ capacityOf (suc (clocks b)) (length s)) where
   abbrev blank : ZoneState
@@ -57,7 +58,9 @@ module _ {b : List ℕ} (a : Accepted b) (s : List ℤ) {slots : ℕ} (es : slot
     entered = ap resultOf er
 
     shown : Shown (suc (clocks b)) s state s′ t′
-    shown = subst (λ x. Shown (suc (clocks b)) s (offer (systemOf b) (zonesOf b) slots blank (start b) [] x) s′ t′) entered (g [] .shows s blank blank-stored blank-sound)
+    shown =
+        subst (λ x. Shown (suc (clocks b)) s (offer (systemOf b) (zonesOf b) slots blank (start b) [] x) s′ t′) entered
+        (g [] .shows s blank blank-stored blank-sound)
 
     sound : SoundState b slots state
     sound = subst (λ x. SoundState b slots (offer (systemOf b) (zonesOf b) slots blank (start b) [] x)) entered
@@ -75,11 +78,14 @@ module _ {b : List ℕ} (a : Accepted b) (s : List ℤ) {slots : ℕ} (es : slot
       where
         go : (k : ℕ) → state .code ≡ k → Shown (suc (clocks b)) s (stateOf b (length s)) s′ t′
         go zero h = absurd (e (shown .code ∙ h))
-        go (suc k) h = subst (λ (q : ZoneState). Shown (suc (clocks b)) s q s′ t′) (sym (take-later (systemOf b) (zonesOf b) slots slots 0 state .stopped k h) ∙ whole) shown
+        go (suc k) h =
+            subst (λ (q : ZoneState). Shown (suc (clocks b)) s q s′ t′)
+            (sym (take-later (systemOf b) (zonesOf b) slots slots 0 state .stopped k h) ∙ whole) shown
 
     pub begun : Begun b slots s s′ t′
     begun = record {
       goes-on = goes-on;
       stops = stops;
-      rest = λ e {s″} {t″} h. subst (λ (q : ZoneState). Shown (suc (clocks b)) s q s″ t″) whole (h .shows s state shown sound (sym (shown .code) ∙ e));
+      rest =
+          λ e {s″} {t″} h. subst (λ (q : ZoneState). Shown (suc (clocks b)) s q s″ t″) whole (h .shows s state shown sound (sym (shown .code) ∙ e));
     }

@@ -28,8 +28,11 @@ pub progress : (b : List ℕ) (slots : ℕ) (s : List ℤ) {t : Turn} → Going 
 progress b slots s g = record { base = g .base; state = g .state; stored = g .shown .stored; sound = g .sound; room = g .room }
 
 -- the length of the store stays
-pub shown-length : (b : List ℕ) → Accepted b → (slots : ℕ) (s₀ : List ℤ) (q : ZoneState) (s : List ℤ) {t : Turn} → slots * slotLength (suc (clocks b)) ≤ length s₀ → Shown (suc (clocks b)) s₀ q s t → SoundState b slots q → length s ≡ length s₀
-shown-length b a slots s₀ q s h d o = ap length (d .stored .store) ∙ store-length (suc (clocks b)) (n≤ b a) (q .kept) s₀ (le-trans (mul-le-mul-right (slotLength (suc (clocks b))) (o .most)) h)
+pub shown-length : (b : List ℕ) → Accepted b → (slots : ℕ) (s₀ : List ℤ) (q : ZoneState) (s : List ℤ) {t : Turn} →
+    slots * slotLength (suc (clocks b)) ≤ length s₀ → Shown (suc (clocks b)) s₀ q s t → SoundState b slots q → length s ≡ length s₀
+shown-length b a slots s₀ q s h d o =
+    ap length (d .stored .store)
+    ∙ store-length (suc (clocks b)) (n≤ b a) (q .kept) s₀ (le-trans (mul-le-mul-right (slotLength (suc (clocks b))) (o .most)) h)
 
 module _ (b : List ℕ) (slots l : ℕ) (z : List Pair) (p : List ℕ) where
   abbrev node : ZoneNode
@@ -44,13 +47,22 @@ module _ (b : List ℕ) (slots l : ℕ) (z : List Pair) (p : List ℕ) where
     pub shown : Shown (suc (clocks b)) s₀ state s t
     pub sound : SoundState b slots state
     pub going : state .code ≡ 0
-    pub rest : expand (systemOf b) (zonesOf b) slots (record { at = l; zone = z; path = p }) (edges b - i) i state ≡ expand (systemOf b) (zonesOf b) slots (record { at = l; zone = z; path = p }) (edges b) 0 q₀
+    pub rest : expand (systemOf b) (zonesOf b) slots (record { at = l; zone = z; path = p }) (edges b - i) i state
+        ≡ expand (systemOf b) (zonesOf b) slots (record { at = l; zone = z; path = p }) (edges b) 0 q₀
 
-  pub begins : (s₀ : List ℤ) (q₀ : ZoneState) (s : List ℤ) (t : Turn) → Shown (suc (clocks b)) s₀ q₀ s t → SoundState b slots q₀ → q₀ .code ≡ 0 → Between s₀ q₀ 0 s t
-  begins s₀ q₀ s t h o g = record { state = q₀; shown = h; sound = o; going = g; rest = let e : edges b - 0 ≡ edges b = omega arith in ap (λ (m : ℕ). opened m 0 q₀) e }
+  pub begins : (s₀ : List ℤ) (q₀ : ZoneState) (s : List ℤ) (t : Turn) → Shown (suc (clocks b)) s₀ q₀ s t → SoundState b slots q₀ → q₀ .code ≡ 0 →
+      Between s₀ q₀ 0 s t
+  begins s₀ q₀ s t h o g = record {
+    state = q₀;
+    shown = h;
+    sound = o;
+    going = g;
+    rest = let e : edges b - 0 ≡ edges b = omega arith in ap (λ (m : ℕ). opened m 0 q₀) e;
+  }
 
   -- one edge more
-  one-edge : (i : ℕ) (q : ZoneState) → i < edges b → opened (edges b - i) i q ≡ opened (edges b - (i + 1)) (i + 1) (follow (systemOf b) (zonesOf b) slots node i q)
+  one-edge : (i : ℕ) (q : ZoneState) → i < edges b →
+      opened (edges b - i) i q ≡ opened (edges b - (i + 1)) (i + 1) (follow (systemOf b) (zonesOf b) slots node i q)
   unfolding expand
   one-edge i q h =
       let e : edges b - i ≡ suc (edges b - (i + 1)) = omega arith in
@@ -85,20 +97,27 @@ module _ (b : List ℕ) (slots l : ℕ) (z : List Pair) (p : List ℕ) where
         next : ZoneState
         next = offer (systemOf b) (zonesOf b) slots (w .state) (to b i) (p ++ (i ∷ [])) (resultOf (successorOf b i v))
 
-        shown : Shown (suc (clocks b)) s₀ (offer (systemOf b) (zonesOf b) slots (w .state) (to b i) (p ++ (i ∷ [])) (resultOf (successorOf b i v))) s′ t′
+        shown : Shown (suc (clocks b)) s₀
+            (offer (systemOf b) (zonesOf b) slots (w .state) (to b i) (p ++ (i ∷ [])) (resultOf (successorOf b i v))) s′ t′
         shown = g (p ++ (i ∷ [])) .shows s₀ (w .state) (w .shown .stored) (w .sound)
 
-        followed : follow (systemOf b) (zonesOf b) slots node i (w .state) ≡ offer (systemOf b) (zonesOf b) slots (w .state) (to b i) (p ++ (i ∷ [])) (resultOf (successorOf b i v))
+        followed : follow (systemOf b) (zonesOf b) slots node i (w .state)
+            ≡ offer (systemOf b) (zonesOf b) slots (w .state) (to b i) (p ++ (i ∷ [])) (resultOf (successorOf b i v))
         unfolding following
         followed =
             follow-on (systemOf b) (zonesOf b) slots node i (w .state) (w .going) at
-            ∙ (λ k. offer (systemOf b) (zonesOf b) slots (w .state) (to b i) (p ++ (i ∷ [])) (resultOf (successorOf b i (sym (e ∙ ap (workOf z) (w .shown .fraction)) k))))
+            ∙ (λ k. offer (systemOf b) (zonesOf b) slots (w .state) (to b i) (p ++ (i ∷ []))
+            (resultOf (successorOf b i (sym (e ∙ ap (workOf z) (w .shown .fraction)) k))))
 
-        rest : opened (edges b - (i + 1)) (i + 1) (offer (systemOf b) (zonesOf b) slots (w .state) (to b i) (p ++ (i ∷ [])) (resultOf (successorOf b i v))) ≡ opened (edges b) 0 q₀
+        rest : opened (edges b - (i + 1)) (i + 1)
+            (offer (systemOf b) (zonesOf b) slots (w .state) (to b i) (p ++ (i ∷ [])) (resultOf (successorOf b i v)))
+            ≡ opened (edges b) 0 q₀
         rest = sym (one-edge i (w .state) hi ∙ ap (opened (edges b - (i + 1)) (i + 1)) followed) ∙ w .rest
 
         sound : SoundState b slots (offer (systemOf b) (zonesOf b) slots (w .state) (to b i) (p ++ (i ∷ [])) (resultOf (successorOf b i v)))
-        sound = offer-sound b a slots (to b i) (a .to< i hi) (p ++ (i ∷ [])) (w .state) (w .sound) _ (follow-sound b a i hi (v .zone) (v .fraction) (taken-sound .ranged) (taken-sound .framed) taken-fits)
+        sound =
+            offer-sound b a slots (to b i) (a .to< i hi) (p ++ (i ∷ [])) (w .state) (w .sound) _
+            (follow-sound b a i hi (v .zone) (v .fraction) (taken-sound .ranged) (taken-sound .framed) taken-fits)
 
         pub offered-length : slots * slotLength (suc (clocks b)) ≤ length s₀ → length s′ ≡ length s₀
         unfolding next
@@ -119,15 +138,20 @@ module _ (b : List ℕ) (slots l : ℕ) (z : List Pair) (p : List ℕ) where
         unfolding next
         stops f = go (next .code) refl
           where
-            go : (k : ℕ) → offer (systemOf b) (zonesOf b) slots (w .state) (to b i) (p ++ (i ∷ [])) (resultOf (successorOf b i v)) .code ≡ k → Shown (suc (clocks b)) s₀ (opened (edges b) 0 q₀) s′ t′
+            go : (k : ℕ) → offer (systemOf b) (zonesOf b) slots (w .state) (to b i) (p ++ (i ∷ [])) (resultOf (successorOf b i v)) .code ≡ k →
+                Shown (suc (clocks b)) s₀ (opened (edges b) 0 q₀) s′ t′
             go zero h = absurd (f (shown .code ∙ h))
-            go (suc k) h = subst (λ (q : ZoneState). Shown (suc (clocks b)) s₀ q s′ t′) (sym (expand-later (systemOf b) (zonesOf b) slots node (edges b - (i + 1)) (i + 1) next .stopped k h) ∙ rest) shown
+            go (suc k) h =
+                subst (λ (q : ZoneState). Shown (suc (clocks b)) s₀ q s′ t′)
+                (sym (expand-later (systemOf b) (zonesOf b) slots node (edges b - (i + 1)) (i + 1) next .stopped k h) ∙ rest) shown
 
   -- what the next call asks
-  pub between-progress : (s₀ : List ℤ) (q₀ : ZoneState) (i : ℕ) (s : List ℤ) (t : Turn) → slots * slotLength (suc (clocks b)) ≤ length s₀ → Between s₀ q₀ i s t → InProgress b slots s (t .count)
+  pub between-progress : (s₀ : List ℤ) (q₀ : ZoneState) (i : ℕ) (s : List ℤ) (t : Turn) →
+      slots * slotLength (suc (clocks b)) ≤ length s₀ → Between s₀ q₀ i s t → InProgress b slots s (t .count)
   between-progress s₀ q₀ i s t h w = record { base = s₀; state = w .state; stored = w .shown .stored; sound = w .sound; room = h }
 
-  pub ends : (s₀ : List ℤ) (q₀ : ZoneState) (i : ℕ) (s : List ℤ) (t : Turn) → edges b ≤ i → Between s₀ q₀ i s t → Shown (suc (clocks b)) s₀ (opened (edges b) 0 q₀) s t
+  pub ends : (s₀ : List ℤ) (q₀ : ZoneState) (i : ℕ) (s : List ℤ) (t : Turn) → edges b ≤ i → Between s₀ q₀ i s t →
+      Shown (suc (clocks b)) s₀ (opened (edges b) 0 q₀) s t
   unfolding expand
   ends s₀ q₀ i s t h w =
       let e : edges b - i ≡ 0 = omega arith in

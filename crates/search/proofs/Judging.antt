@@ -54,7 +54,9 @@ module _ (b : List ℕ) (a : Accepted b) where
   module _ (slots count : ℕ) (s : List ℤ) (i : InProgress b slots s count) where
     pub progress-room : slots * slotLength (suc (clocks b)) ≤ length s
     progress-room =
-        let e = ap length (i .stored .store) ∙ store-length (suc (clocks b)) n≤ (i .state .kept) (i .base) (le-trans (mul-le-mul-right (slotLength (suc (clocks b))) (i .sound .most)) (i .room)) in
+        let e = ap length (i .stored .store)
+        ∙ store-length (suc (clocks b)) n≤ (i .state .kept) (i .base)
+        (le-trans (mul-le-mul-right (slotLength (suc (clocks b))) (i .sound .most)) (i .room)) in
         omega (arith, i .room, e)
 
     pub progress-count : count ≤ slots
@@ -69,7 +71,8 @@ module _ (b : List ℕ) (a : Accepted b) where
     part = lent-part s at ∙ ap (λ (i : ℕ). drop i s) e ∙ t .same
 
     pub read-counts : (m : ℕ) → m < suc (clocks b) * suc (clocks b) → pos 0 ≤ℤ getD (take (length s - at) (drop at s)) (2 + 2 * m) (pos 0)
-    read-counts m h = subst (λ (u : List ℤ). pos 0 ≤ℤ getD u (2 + 2 * m) (pos 0)) (sym part) (slot-counts (suc (clocks b)) (k .at) (k .zone) (t .rest) n≤ m h)
+    read-counts m h =
+        subst (λ (u : List ℤ). pos 0 ≤ℤ getD u (2 + 2 * m) (pos 0)) (sym part) (slot-counts (suc (clocks b)) (k .at) (k .zone) (t .rest) n≤ m h)
 
     pub read-zone : SoundNode b k → zoneOf (suc (clocks b)) (take (length s - at) (drop at s)) ≡ k .zone
     read-zone h = ap (zoneOf (suc (clocks b))) part ∙ zone-of-slot (suc (clocks b)) (k .at) (k .zone) (t .rest) n≤ (h .ranged .size) (h .framed)
@@ -82,7 +85,9 @@ module _ (b : List ℕ) (a : Accepted b) where
     module _ (s s₀ rest : List ℤ) (q : ZoneState) (p : List ℕ) (d : Stored (suc (clocks b)) s₀ q s count) (j : ℕ)
         (h : FirstHit (suc (clocks b)) (slotOf (suc (clocks b)) l (w .zone) ++ rest) s count j) where
       first : FirstHit (suc (clocks b)) (slotOf (suc (clocks b)) l (w .zone) ++ rest) (storeOf (suc (clocks b)) (q .kept) s₀) (length (q .kept)) j
-      first = subst (λ (u : List ℤ). FirstHit (suc (clocks b)) (slotOf (suc (clocks b)) l (w .zone) ++ rest) u (length (q .kept)) j) (d .store) (subst (λ (c : ℕ). FirstHit (suc (clocks b)) (slotOf (suc (clocks b)) l (w .zone) ++ rest) s c j) (d .number) h)
+      first =
+          subst (λ (u : List ℤ). FirstHit (suc (clocks b)) (slotOf (suc (clocks b)) l (w .zone) ++ rest) u (length (q .kept)) j) (d .store)
+          (subst (λ (c : ℕ). FirstHit (suc (clocks b)) (slotOf (suc (clocks b)) l (w .zone) ++ rest) s c j) (d .number) h)
 
       abbrev offered : ZoneState
       offered = offer (systemOf b) (zonesOf b) slots q l p (zone (w .zone) (w .fraction))
@@ -127,14 +132,22 @@ module _ (b : List ℕ) (a : Accepted b) where
         unfolding overcounted
         big-no g = le-ltb counts (largestCount (suc (clocks b)) (w .zone)) g
 
-        pub judged-big : counts < largestCount (suc (clocks b)) (w .zone) → Shown (suc (clocks b)) s₀ offered s (record { count = count; fraction = w .fraction; code = 9 })
-        judged-big g = rw (comes _ (was-big (w .zone) (w .fraction) off alone (big-yes g))) (record { stored = record { number = d .number; store = d .store }; fraction = refl; code = refl })
+        pub judged-big : counts < largestCount (suc (clocks b)) (w .zone) →
+            Shown (suc (clocks b)) s₀ offered s (record { count = count; fraction = w .fraction; code = 9 })
+        judged-big g =
+            rw (comes _ (was-big (w .zone) (w .fraction) off alone (big-yes g)))
+            (record { stored = record { number = d .number; store = d .store }; fraction = refl; code = refl })
 
-        pub judged-full : largestCount (suc (clocks b)) (w .zone) ≤ counts → slots ≤ count → Shown (suc (clocks b)) s₀ offered s (record { count = count; fraction = w .fraction; code = 10 })
-        judged-full g r = rw (comes _ (was-full (w .zone) (w .fraction) off alone (big-no g) (omega (arith, d .number)))) (record { stored = record { number = d .number; store = d .store }; fraction = refl; code = refl })
+        pub judged-full : largestCount (suc (clocks b)) (w .zone) ≤ counts → slots ≤ count →
+            Shown (suc (clocks b)) s₀ offered s (record { count = count; fraction = w .fraction; code = 10 })
+        judged-full g r =
+            rw (comes _ (was-full (w .zone) (w .fraction) off alone (big-no g) (omega (arith, d .number))))
+            (record { stored = record { number = d .number; store = d .store }; fraction = refl; code = refl })
 
-        pub judged-kept : largestCount (suc (clocks b)) (w .zone) ≤ counts → count < slots → {at : ℕ} {s′ : List ℤ} → at ≡ count * slotLength (suc (clocks b)) →
-            s′ ≡ take at s ++ (take (slotLength (suc (clocks b))) (slotOf (suc (clocks b)) l (w .zone) ++ rest) ++ drop (at + slotLength (suc (clocks b))) s) →
+        pub judged-kept : largestCount (suc (clocks b)) (w .zone) ≤ counts → count < slots → {at : ℕ} {s′ : List ℤ} →
+            at ≡ count * slotLength (suc (clocks b)) →
+            s′ ≡ take at s ++ (take (slotLength (suc (clocks b))) (slotOf (suc (clocks b)) l (w .zone) ++ rest)
+            ++ drop (at + slotLength (suc (clocks b))) s) →
             Shown (suc (clocks b)) s₀ offered s′ (record { count = count + 1; fraction = w .fraction; code = 0 })
         judged-kept g r {at} e f =
             let k : ZoneNode = record { at = l; zone = w .zone; path = p } in
@@ -169,12 +182,16 @@ module _ {b : List ℕ} {l : ℕ} {w : Work} {slots count : ℕ} {s : List ℤ} 
   es = entered .size≡
 
   pub asks-encode : ((size ≤ 9) × (l < 256)) × AllBounded scale lastCounts size (w .zone)
-  asks-encode = ((omega (arith, es, n≤ b a), omega (arith, entered .location, a .complete .locations≤)), subst (λ (k : ℕ). AllBounded scale lastCounts k (w .zone)) (sym es) (entered .sized .ranged .bounded))
+  asks-encode = (
+    (omega (arith, es, n≤ b a), omega (arith, entered .location, a .complete .locations≤)),
+    subst (λ (k : ℕ). AllBounded scale lastCounts k (w .zone)) (sym es) (entered .sized .ranged .bounded),
+  )
 
   pub asks-largest : {new : List ℤ} → new ≡ slotOf size l (w .zone) ++ replicate (162 - 2 * (size * size)) (pos 0) → Readable new (size * size)
   asks-largest e = rw e (slot-readable size l (w .zone) _ (omega (arith, es, n≤ b a)))
 
-  pub asks-find : {new : List ℤ} → new ≡ slotOf size l (w .zone) ++ replicate (162 - 2 * (size * size)) (pos 0) → (size ≤ 9) × (count * slotLength size ≤ length s) × (slotLength size ≤ length new)
+  pub asks-find : {new : List ℤ} → new ≡ slotOf size l (w .zone) ++ replicate (162 - 2 * (size * size)) (pos 0) →
+      (size ≤ 9) × (count * slotLength size ≤ length s) × (slotLength size ≤ length new)
   asks-find e = (
     omega (arith, es, n≤ b a),
     subst (λ (k : ℕ). count * slotLength k ≤ length s) (sym es) (progress-slots b a slots count s i),
@@ -183,10 +200,14 @@ module _ {b : List ℕ} {l : ℕ} {w : Work} {slots count : ℕ} {s : List ℤ} 
 
   -- a slot among the first `count`, or the next one where there is room
   pub slot-within : {j amount : ℕ} → amount ≡ slotLength size → j < count → j * amount + slotLength size ≤ length s
-  slot-within {j} e h = subst (λ (x : ℕ). j * x + slotLength size ≤ length s) (sym e) (slot-fits (slotLength size) h (subst (λ (k : ℕ). count * slotLength k ≤ length s) (sym es) (progress-slots b a slots count s i)) refl)
+  slot-within {j} e h =
+      subst (λ (x : ℕ). j * x + slotLength size ≤ length s) (sym e)
+      (slot-fits (slotLength size) h (subst (λ (k : ℕ). count * slotLength k ≤ length s) (sym es) (progress-slots b a slots count s i)) refl)
 
   pub next-within : {amount : ℕ} → amount ≡ slotLength size → count < slots → count * amount + slotLength size ≤ length s
-  next-within e h = subst (λ (x : ℕ). count * x + slotLength size ≤ length s) (sym e) (slot-fits (slotLength size) h (subst (λ (k : ℕ). slots * slotLength k ≤ length s) (sym es) (progress-room b a slots count s i)) refl)
+  next-within e h =
+      subst (λ (x : ℕ). count * x + slotLength size ≤ length s) (sym e)
+      (slot-fits (slotLength size) h (subst (λ (k : ℕ). slots * slotLength k ≤ length s) (sym es) (progress-room b a slots count s i)) refl)
 
   -- what each branch gives
   module _ {new : List ℤ} (en : new ≡ slotOf size l (w .zone) ++ replicate (162 - 2 * (size * size)) (pos 0))
@@ -194,7 +215,8 @@ module _ {b : List ℕ} {l : ℕ} {w : Work} {slots count : ℕ} {s : List ℤ} 
     new≡ : new ≡ slotOf (suc (clocks b)) l (w .zone) ++ replicate (162 - 2 * (suc (clocks b) * suc (clocks b))) (pos 0)
     new≡ = en ∙ ap (λ (k : ℕ). slotOf k l (w .zone) ++ replicate (162 - 2 * (k * k)) (pos 0)) es
 
-    hits : FirstHit (suc (clocks b)) (slotOf (suc (clocks b)) l (w .zone) ++ replicate (162 - 2 * (suc (clocks b) * suc (clocks b))) (pos 0)) s count j
+    hits : FirstHit (suc (clocks b))
+        (slotOf (suc (clocks b)) l (w .zone) ++ replicate (162 - 2 * (suc (clocks b) * suc (clocks b))) (pos 0)) s count j
     hits = subst (λ (u : List ℤ). FirstHit (suc (clocks b)) u s count j) new≡ (subst (λ (k : ℕ). FirstHit k new s count j) es h)
 
     abbrev op : List ℕ → ZoneState → ZoneState
@@ -243,7 +265,8 @@ module _ {b : List ℕ} {l : ℕ} {w : Work} {slots count : ℕ} {s : List ℤ} 
       gives-kept g r {amount} e f p =
           let k = e ∙ ap slotLength es in
           record {
-            shows = λ s₀ q d o. judged-kept b a l (entered .away) w slots count s s₀ _ q p d j hits out (rw largest at g) r (ap (λ (x : ℕ). count * x) k)
+            shows =
+                λ s₀ q d o. judged-kept b a l (entered .away) w slots count s s₀ _ q p d j hits out (rw largest at g) r (ap (λ (x : ℕ). count * x) k)
                 (f ∙ (λ i. take (count * amount) s ++ (take (k i) (new≡ i) ++ drop (count * amount + k i) s)));
           }
 
@@ -255,16 +278,24 @@ module _ (b : List ℕ) (slots count : ℕ) (s : List ℤ) (l : ℕ) (r : Reduce
   pub gives-empty : r .empty ≡ true → Gives b slots s count offers s (record { count = count; fraction = r .work .fraction; code = 0 })
   unfolding resultOf
   gives-empty e = record {
-    shows = λ s₀ q d o. rw e (rw (computes (systemOf b) (zonesOf b) slots q l p (empty (r .work .fraction)) _ (was-empty (r .work .fraction))) (record { stored = record { number = d .number; store = d .store }; fraction = refl; code = refl }));
-  }
-
-  pub gives-target : r .empty ≡ false → l ≡ target b → Gives b slots s count offers s (record { count = count; fraction = r .work .fraction; code = 1 })
-  unfolding resultOf
-  gives-target e g = record {
-    shows = λ s₀ q d o. rw e (rw (computes (systemOf b) (zonesOf b) slots q l p (zone (r .work .zone) (r .work .fraction)) _ (was-target (r .work .zone) (r .work .fraction) (eq-eqb l (target b) g)))
+    shows = λ s₀ q d o. rw e
+        (rw (computes (systemOf b) (zonesOf b) slots q l p (empty (r .work .fraction)) _ (was-empty (r .work .fraction)))
         (record { stored = record { number = d .number; store = d .store }; fraction = refl; code = refl }));
   }
 
-  pub gives-judged : r .empty ≡ false → {s′ : List ℤ} {t : Turn} → ((p : List ℕ) → Gives b slots s count (λ q. offer (systemOf b) (zonesOf b) slots q l p (zone (r .work .zone) (r .work .fraction))) s′ t) → Gives b slots s count offers s′ t
+  pub gives-target : r .empty ≡ false → l ≡ target b →
+      Gives b slots s count offers s (record { count = count; fraction = r .work .fraction; code = 1 })
+  unfolding resultOf
+  gives-target e g = record {
+    shows =
+        λ s₀ q d o. rw e
+        (rw (computes (systemOf b) (zonesOf b) slots q l p (zone (r .work .zone) (r .work .fraction)) _
+        (was-target (r .work .zone) (r .work .fraction) (eq-eqb l (target b) g)))
+        (record { stored = record { number = d .number; store = d .store }; fraction = refl; code = refl }));
+  }
+
+  pub gives-judged : r .empty ≡ false → {s′ : List ℤ} {t : Turn} →
+      ((p : List ℕ) → Gives b slots s count (λ q. offer (systemOf b) (zonesOf b) slots q l p (zone (r .work .zone) (r .work .fraction))) s′ t) →
+      Gives b slots s count offers s′ t
   unfolding resultOf
   gives-judged e h = rw e (h p)

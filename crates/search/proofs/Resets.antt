@@ -39,4 +39,6 @@ none-reset x = go (decLt x 9)
   where
     go : Dec (x < 9) → getD (replicate 9 false) x false ≡ false
     go (yes h) = getD-replicate 9 x false false h
-    go (no h) = let long : length (replicate 9 false) ≤ x = omega (arith, length-replicate 9 false) in List·getD-eq-default (replicate 9 false) false long
+    go (no h) =
+        let long : length (replicate 9 false) ≤ x = omega (arith, length-replicate 9 false) in
+        List·getD-eq-default (replicate 9 false) false long

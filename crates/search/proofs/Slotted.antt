@@ -18,7 +18,6 @@ use Rattle.zones.specs.declared.fraction.Fraction.{Fraction}
 use Rattle.zones.specs.declared.pair.Pair.{Pair}
 use Rattle.zones.specs.Containment.{placeOf, withinTo, within, loweredTo, loweredWithin, countTo, largestCount}
 use Rattle.zones.specs.Integers.{up}
-use Rattle.zones.proofs.Inside.{bounded-place}
 use Rattle.zones.proofs.Integers.{le-make}
 use Rattle.zones.specs.Fractions.{loweredBy}
 use Rattle.zones.specs.Pairs.{zeroPair, atMost, isLess, thresholdOf, smallerOf}
@@ -28,6 +27,7 @@ use Rattle.zones.specs.Zones.{Limits, pairAt, entry, firstWork, lowerAt, meetLi
 use Rattle.zones.specs.declared.zone.Work.{Work}
 use Rattle.zones.proofs.Meeting.{met-ind}
 use Rattle.zones.proofs.Places.{home-stays, home-below}
+use Rattle.zones.proofs.Inside.{bounded-place}
 use Rattle.zones.proofs.Squares.{up-to}
 use Rattle.zones.proofs.Steps.{reduce-ind}
 use Rattle.search.specs.Slots.{slotLength, pairsTo, pairsOf, flat, slotOf}
@@ -113,7 +113,8 @@ module _ (n : ℕ) (z : List Pair) where
   pairs-length zero = refl
   pairs-length (suc k) = go (pairs-length k) (ltb (k % 9) n)
     where
-      go : length (pairsTo n k z) ≡ counted n k → (t : Bool) → length (cond t (pairsTo n k z ++ (placeOf z k ∷ [])) (pairsTo n k z)) ≡ cond t (suc (counted n k)) (counted n k)
+      go : length (pairsTo n k z) ≡ counted n k → (t : Bool) →
+          length (cond t (pairsTo n k z ++ (placeOf z k ∷ [])) (pairsTo n k z)) ≡ cond t (suc (counted n k)) (counted n k)
       go ih true = omega (arith, length-append (pairsTo n k z) (placeOf z k ∷ []))
       go ih false = ih
 
@@ -125,7 +126,8 @@ module _ (n : ℕ) (z : List Pair) where
       e : suc d + suc k ≡ suc (d + suc k)
       e = omega arith
 
-      go : (qs : List Pair) → pairsTo n (d + suc k) z ≡ pairsTo n k z ++ (placeOf z k ∷ qs) → Dec ((d + suc k) % 9 < n) → (qs : List Pair) × (pairsTo n (suc d + suc k) z ≡ pairsTo n k z ++ (placeOf z k ∷ qs))
+      go : (qs : List Pair) → pairsTo n (d + suc k) z ≡ pairsTo n k z ++ (placeOf z k ∷ qs) → Dec ((d + suc k) % 9 < n) →
+          (qs : List Pair) × (pairsTo n (suc d + suc k) z ≡ pairsTo n k z ++ (placeOf z k ∷ qs))
       go qs s (yes p) = (qs ++ (placeOf z (d + suc k) ∷ []), rw e (pairs-in (d + suc k) p ∙ rw (s, append-assoc)))
       go qs s (no p) = (qs, rw e (pairs-out (d + suc k) (omega arith) ∙ s))
 
@@ -140,7 +142,8 @@ unfolding flat
 flat-append [] b = refl
 flat-append (q ∷ qs) b = rw (flat-append qs b)
 
-pub flat-split : (a : List Pair) (q : Pair) (qs : List Pair) (rest : List ℤ) → flat (a ++ (q ∷ qs)) ++ rest ≡ flat a ++ (q .m ∷ pos (q .p) ∷ (flat qs ++ rest))
+pub flat-split : (a : List Pair) (q : Pair) (qs : List Pair) (rest : List ℤ) →
+    flat (a ++ (q ∷ qs)) ++ rest ≡ flat a ++ (q .m ∷ pos (q .p) ∷ (flat qs ++ rest))
 unfolding flat
 flat-split a q qs rest = rw (flat-append a (q ∷ qs), append-assoc)
 
@@ -171,7 +174,8 @@ module _ (n l : ℕ) (z : List Pair) where
         rw e (flat-counts (pairsOf n z) rest t (omega (arith, pairs-length n z (n * 9), counted-all n h)))
 
     -- the numbers of a place that counts
-    slot-split : (k : ℕ) → k < n * 9 → k % 9 < n → (qs : List Pair) × (slotOf n l z ++ rest ≡ (pos l ∷ flat (pairsTo n k z)) ++ (placeOf z k .m ∷ pos (placeOf z k .p) ∷ (flat qs ++ rest)))
+    slot-split : (k : ℕ) → k < n * 9 → k % 9 < n →
+        (qs : List Pair) × (slotOf n l z ++ rest ≡ (pos l ∷ flat (pairsTo n k z)) ++ (placeOf z k .m ∷ pos (placeOf z k .p) ∷ (flat qs ++ rest)))
     unfolding slotOf
     slot-split k h c =
         let s = pairs-split n z k (n * 9 - suc k) c in
@@ -244,7 +248,9 @@ module _ (n : ℕ) (s : List ℤ) where
 
   -- a place that counts, and one that does not
   abbrev Placed : ℕ → ℕ → Type 0
-  Placed k i = (i < k → i % 9 < n → placeOf (squareTo n k s) i ≡ slotPair s (counted n i)) × ((i < k → i % 9 < n → ⊥) → placeOf (squareTo n k s) i ≡ zeroPair)
+  Placed k i =
+      (i < k → i % 9 < n → placeOf (squareTo n k s) i ≡ slotPair s (counted n i)) ×
+      ((i < k → i % 9 < n → ⊥) → placeOf (squareTo n k s) i ≡ zeroPair)
 
   next-placed : (k i : ℕ) → k < 81 → i < 81 → Placed k i → Dec (k % 9 < n) → Dec (i ≡ k) → Placed (suc k) i
   next-placed k i h hi p (yes c) (yes e) = (
@@ -252,7 +258,8 @@ module _ (n : ℕ) (s : List ℤ) where
     λ f. absurd (f (omega arith) (rw e c)),
   )
   next-placed k i h hi p (yes c) (no e) =
-      let off : placeOf (squareTo n (suc k) s) i ≡ placeOf (squareTo n k s) i = rw (square-in k c) (getD-set-other (squareTo n k s) k i (slotPair s (counted n k)) zeroPair e) in
+      let off : placeOf (squareTo n (suc k) s) i ≡ placeOf (squareTo n k s) i =
+      rw (square-in k c) (getD-set-other (squareTo n k s) k i (slotPair s (counted n k)) zeroPair e) in
       (λ a b. off ∙ p .0 (omega arith) b, λ f. off ∙ p .1 (λ a b. f (omega arith) b))
   next-placed k i h hi p (no c) d =
       let off : placeOf (squareTo n (suc k) s) i ≡ placeOf (squareTo n k s) i = rw (square-out k (omega arith)) in
@@ -335,7 +342,9 @@ module _ (n : ℕ) where
   module _ (n≤ : n ≤ 9) where
     -- an entry (i, j) of the zone is set
     framed-entry : (z : List Pair) (i j : ℕ) (q : Pair) → i < n → j < n → Framed n z → Framed n (set z (i * 9 + j) q)
-    framed-entry z i j q hi hj = let e : (i * 9 + j) % 9 ≡ j = omega arith in framed-set z (i * 9 + j) q (λ h o. absurd (o (omega arith) (omega arith)))
+    framed-entry z i j q hi hj =
+        let e : (i * 9 + j) % 9 ≡ j = omega arith in
+        framed-set z (i * 9 + j) q (λ h o. absurd (o (omega arith) (omega arith)))
 
     pub framed-lower : (w : Work) (i j : ℕ) (q : Pair) → i < n → j < n → Framed n (w .zone) → Framed n (lowerAt i j q w .zone)
     unfolding lowerAt
@@ -343,7 +352,8 @@ module _ (n : ℕ) where
 
     pub framed-meet : (L : Limits) (c : ℕ) (w : Work) → c < n → Framed n (w .zone) → length (w .zone) ≡ 81 → Framed n (meetLimits L c w .zone)
     framed-meet L c w hc f size =
-        met-ind n L (λ v. Framed n (v .zone)) (λ x px hx o v s. framed-lower v x 0 _ hx (omega arith)) (λ x px hx v s. framed-lower v 0 x _ (omega arith) hx) w size f c hc .1
+        met-ind n L (λ v. Framed n (v .zone)) (λ x px hx o v s. framed-lower v x 0 _ hx (omega arith))
+        (λ x px hx v s. framed-lower v 0 x _ (omega arith) hx) w size f c hc .1
 
     pub framed-reduce : (w : Work) → Framed n (w .zone) → length (w .zone) ≡ 81 → Framed n (reduceOf n w .work .zone)
     framed-reduce w f size = reduce-ind n (λ v. Framed n (v .zone)) (λ k i j hk hi hj v s. framed-lower v i j _ hi hj) w size f .1
@@ -351,11 +361,13 @@ module _ (n : ℕ) where
     pub framed-raise : (L : Limits) (c : ℕ) (w : Work) → c < n → Framed n (w .zone) → Framed n (raiseLimits L c w .zone)
     unfolding raiseLimits
     framed-raise L zero w hc f = f
-    framed-raise L (suc x) w hc f = framed-entry (raiseLimits L x w .zone) (suc x) 0 (atMost (L .hi (suc x))) hc (omega arith) (framed-raise L x w (omega arith) f)
+    framed-raise L (suc x) w hc f =
+        framed-entry (raiseLimits L x w .zone) (suc x) 0 (atMost (L .hi (suc x))) hc (omega arith) (framed-raise L x w (omega arith) f)
 
     -- a place outside the columns takes its home's entry, which is outside them too
     module _ (R : ℕ → Bool) (none : (b : ℕ) → n ≤ b → R b ≡ false) where
-      home-outside : (y : List Pair) (k : ℕ) → Framed n y → k < n * 9 → (k < n * 9 → k % 9 < n → ⊥) → pairAt y (home R (k / 9)) (home R (k % 9)) ≡ zeroPair
+      home-outside : (y : List Pair) (k : ℕ) → Framed n y → k < n * 9 → (k < n * 9 → k % 9 < n → ⊥) →
+          pairAt y (home R (k / 9)) (home R (k % 9)) ≡ zeroPair
       unfolding pairAt
       home-outside y k f hk o = out (decLt (k % 9) n)
         where
@@ -373,7 +385,8 @@ module _ (n : ℕ) where
       unfolding resetPlaces
       framed-places y z f g zero h = g
       framed-places y z f g (suc k) h =
-          framed-set (resetPlaces R y k z) k (pairAt y (home R (k / 9)) (home R (k % 9))) (λ a o. home-outside y k f h o) (framed-places y z f g k (omega arith))
+          framed-set (resetPlaces R y k z) k (pairAt y (home R (k / 9)) (home R (k % 9)))
+          (λ a o. home-outside y k f h o) (framed-places y z f g k (omega arith))
 
       pub framed-reset : (w : Work) → Framed n (w .zone) → Framed n (resetOf n R w .zone)
       unfolding resetOf

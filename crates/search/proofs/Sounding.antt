@@ -55,27 +55,39 @@ module _ (c : ℕ) (n≤ : suc c ≤ 9) (P : ℕ) (P> : 0 < P) (P≤ : P ≤ ste
   reduce-left : Left (10 * P) (suc c) (reduceOf (suc c) w)
   reduce-left = record {
     fraction = reduced-fits P (suc c) P> P≤ n≤ w (h .sized) (omega arith);
-    fit = λ l. record { sized = sized-reduce P (suc c) P> P≤ n≤ w (h .sized) (omega arith) l; framed = framed-reduce (suc c) n≤ w (h .framed) (h .sized .ranged .size) };
+    fit = λ l. record {
+      sized = sized-reduce P (suc c) P> P≤ n≤ w (h .sized) (omega arith) l;
+      framed = framed-reduce (suc c) n≤ w (h .framed) (h .sized .ranged .size);
+    };
   }
 
   meet-fit : (L : Limits) → OnScale scale c L → Fit P (suc c) (meetLimits L c w)
-  meet-fit L o = record { sized = sized-meet P (suc c) P> P≤ n≤ w (h .sized) c (omega arith) L o c (omega arith); framed = framed-meet (suc c) n≤ L c w (omega arith) (h .framed) (h .sized .ranged .size) }
+  meet-fit L o = record {
+    sized = sized-meet P (suc c) P> P≤ n≤ w (h .sized) c (omega arith) L o c (omega arith);
+    framed = framed-meet (suc c) n≤ L c w (omega arith) (h .framed) (h .sized .ranged .size);
+  }
 
   raise-fit : (L : Limits) → ((x : ℕ) → 0 < x → x < suc c → L .hi x ≤ scale) → Fit P (suc c) (raiseLimits L c w)
-  raise-fit L o = record { sized = sized-raise P (suc c) P> P≤ n≤ w (h .sized) c (omega arith) L o; framed = framed-raise (suc c) n≤ L c w (omega arith) (h .framed) }
+  raise-fit L o = record {
+    sized = sized-raise P (suc c) P> P≤ n≤ w (h .sized) c (omega arith) L o;
+    framed = framed-raise (suc c) n≤ L c w (omega arith) (h .framed);
+  }
 
   reset-fit : (R : ℕ → Bool) → ((x : ℕ) → suc c ≤ x → R x ≡ false) → Fit P (suc c) (resetOf (suc c) R w)
   reset-fit R o = record { sized = sized-reset P (suc c) P> P≤ n≤ w (h .sized) (omega arith) R; framed = framed-reset (suc c) n≤ R o w (h .framed) }
 
-meet-left : (c : ℕ) → suc c ≤ 9 → (P : ℕ) → 0 < P → P ≤ stepCounts → (L : Limits) → OnScale scale c L → (w : Work) → Fit P (suc c) w → Left (10 * P) (suc c) (meetOf c L w)
+meet-left : (c : ℕ) → suc c ≤ 9 → (P : ℕ) → 0 < P → P ≤ stepCounts → (L : Limits) → OnScale scale c L → (w : Work) → Fit P (suc c) w →
+    Left (10 * P) (suc c) (meetOf c L w)
 unfolding meetOf
 meet-left c n≤ P P> P≤ L o w h = reduce-left c n≤ P P> P≤ (meetLimits L c w) (meet-fit c n≤ P P> P≤ w h L o)
 
-enter-left : (c : ℕ) → suc c ≤ 9 → (P : ℕ) → 0 < P → P ≤ 10 * counts → (I : Limits) → OnScale scale c I → ((x : ℕ) → 0 < x → x < suc c → I .hi x ≤ scale) → (w : Work) → Fit P (suc c) w → Left (10 * (10 * P)) (suc c) (enterOf c I w)
+enter-left : (c : ℕ) → suc c ≤ 9 → (P : ℕ) → 0 < P → P ≤ 10 * counts → (I : Limits) → OnScale scale c I →
+    ((x : ℕ) → 0 < x → x < suc c → I .hi x ≤ scale) → (w : Work) → Fit P (suc c) w → Left (10 * (10 * P)) (suc c) (enterOf c I w)
 unfolding enterOf
 enter-left c n≤ P P> P≤ I o k w h =
     left-then (10 * P) (10 * (10 * P)) (suc c) (meetOf c I w) (λ v. reduceOf (suc c) (raiseLimits I c v)) (meet-left c n≤ P P> (omega arith) I o w h)
-    (λ f. reduce-left c n≤ (10 * P) (omega arith) (omega arith) (raiseLimits I c (meetOf c I w .work)) (raise-fit c n≤ (10 * P) (omega arith) (omega arith) (meetOf c I w .work) f I k))
+    (λ f. reduce-left c n≤ (10 * P) (omega arith) (omega arith) (raiseLimits I c (meetOf c I w .work))
+    (raise-fit c n≤ (10 * P) (omega arith) (omega arith) (meetOf c I w .work) f I k))
 
 -- ---- the two steps of an accepted automaton
 module _ (b : List ℕ) (a : Accepted b) where
@@ -89,7 +101,12 @@ module _ (b : List ℕ) (a : Accepted b) where
   result P h r l = record {
     fraction = l .fraction;
     sized = λ e. let f = l .fit e .sized in record {
-      ranged = record { size = f .ranged .size; bounded = λ x y hx hy. record { m = f .ranged .bounded x y hx hy .m; p = omega (arith, f .ranged .bounded x y hx hy .p) }; diagonal = f .ranged .diagonal; low = f .ranged .low };
+      ranged = record {
+        size = f .ranged .size;
+        bounded = λ x y hx hy. record { m = f .ranged .bounded x y hx hy .m; p = omega (arith, f .ranged .bounded x y hx hy .p) };
+        diagonal = f .ranged .diagonal;
+        low = f .ranged .low;
+      };
       narrow = f .narrow;
     };
     framed = λ e. l .fit e .framed;
@@ -98,14 +115,17 @@ module _ (b : List ℕ) (a : Accepted b) where
   pub start-sound : SoundResult b (enterOf (clocks b) (invariantOf b (start b)) firstWork)
   start-sound =
       result (10 * (10 * counts)) (omega arith) _
-      (enter-left (clocks b) n≤ counts (omega arith) (omega arith) (invariantOf b (start b)) (invariant-scale b a (start b) (a .start<)) (his (start b) (a .start<)) firstWork
+      (enter-left (clocks b) n≤ counts (omega arith) (omega arith) (invariantOf b (start b))
+      (invariant-scale b a (start b) (a .start<)) (his (start b) (a .start<)) firstWork
       (record { sized = first-sized counts (suc (clocks b)) n≤; framed = framed-first (suc (clocks b)) }))
 
   -- a kept zone with the running fraction
-  pub node-sized : (z : List Pair) (f : Fraction) → Ranged scale counts (suc (clocks b)) (workOf z noLimit) → Fits32 f → Sized counts (suc (clocks b)) (workOf z f)
+  pub node-sized : (z : List Pair) (f : Fraction) → Ranged scale counts (suc (clocks b)) (workOf z noLimit) → Fits32 f →
+      Sized counts (suc (clocks b)) (workOf z f)
   node-sized z f r h = record { ranged = record { size = r .size; bounded = r .bounded; diagonal = r .diagonal; low = r .low }; narrow = h }
 
-  pub follow-sound : (i : ℕ) → i < edges b → (z : List Pair) (f : Fraction) → Ranged scale counts (suc (clocks b)) (workOf z noLimit) → Framed (suc (clocks b)) z → Fits32 f →
+  pub follow-sound : (i : ℕ) → i < edges b → (z : List Pair) (f : Fraction) →
+      Ranged scale counts (suc (clocks b)) (workOf z noLimit) → Framed (suc (clocks b)) z → Fits32 f →
       SoundResult b (followOf (clocks b) (guardOf b i) (resetsOf b i) (invariantOf b (to b i)) (workOf z f))
   unfolding followOf
   follow-sound i hi z f r g h =
@@ -117,18 +137,23 @@ module _ (b : List ℕ) (a : Accepted b) where
       result (10 * (10 * (10 * counts))) (omega arith) _
       (left-then (10 * counts) (10 * (10 * (10 * counts))) (suc c) (meetOf c G w) (λ v. enterOf c I (resetOf (suc c) (resetsOf b i) v))
       (meet-left c n≤ counts (omega arith) (omega arith) G (guard-scale b a i hi) w (record { sized = node-sized z f r h; framed = g }))
-      (λ k. enter-left c n≤ (10 * counts) (omega arith) (omega arith) I (invariant-scale b a (to b i) ht) (his (to b i) ht) (resetOf (suc c) (resetsOf b i) (meetOf c G w .work))
+      (λ k. enter-left c n≤ (10 * counts) (omega arith) (omega arith) I (invariant-scale b a (to b i) ht) (his (to b i) ht)
+      (resetOf (suc c) (resetsOf b i) (meetOf c G w .work))
       (reset-fit c n≤ (10 * counts) (omega arith) (omega arith) (meetOf c G w .work) k (resetsOf b i) (λ x hx. a .resets i x hi hx))))
 
   -- ---- a judged state
   -- a zone that may be kept has no error count above 65,535
-  kept-sound : (l : ℕ) → l < locations b → (z : List Pair) (f : Fraction) (p : List ℕ) → Sized lastCounts (suc (clocks b)) (workOf z f) → Framed (suc (clocks b)) z → overcounted b z ≡ false → SoundNode b (record { at = l; zone = z; path = p })
+  kept-sound : (l : ℕ) → l < locations b → (z : List Pair) (f : Fraction) (p : List ℕ) → Sized lastCounts (suc (clocks b)) (workOf z f) →
+      Framed (suc (clocks b)) z → overcounted b z ≡ false → SoundNode b (record { at = l; zone = z; path = p })
   unfolding overcounted
   kept-sound l hl z f p r g e = record {
     location = hl;
     ranged = record {
       size = r .ranged .size;
-      bounded = λ x y hx hy. record { m = r .ranged .bounded x y hx hy .m; p = omega (arith, largest-most (suc (clocks b)) z n≤ x y hx hy, ltb-false counts (largestCount (suc (clocks b)) z) e) };
+      bounded = λ x y hx hy. record {
+        m = r .ranged .bounded x y hx hy .m;
+        p = omega (arith, largest-most (suc (clocks b)) z n≤ x y hx hy, ltb-false counts (largestCount (suc (clocks b)) z) e);
+      };
       diagonal = r .ranged .diagonal;
       low = r .ranged .low;
     };
@@ -136,11 +161,14 @@ module _ (b : List ℕ) (a : Accepted b) where
   }
 
   -- what a result that is a zone has
-  zone-fit : (r : Reduced) (z : List Pair) (f : Fraction) → SoundResult b r → resultOf r ≡ zone z f → Sized lastCounts (suc (clocks b)) (workOf z f) × Framed (suc (clocks b)) z
+  zone-fit : (r : Reduced) (z : List Pair) (f : Fraction) → SoundResult b r → resultOf r ≡ zone z f →
+      Sized lastCounts (suc (clocks b)) (workOf z f) × Framed (suc (clocks b)) z
   unfolding resultOf
   zone-fit r z f h = go (r .empty) refl
     where
-      go : (t : Bool) → r .empty ≡ t → cond {A = Result (List Pair) Fraction} t (empty (r .work .fraction)) (zone (r .work .zone) (r .work .fraction)) ≡ zone z f → Sized lastCounts (suc (clocks b)) (workOf z f) × Framed (suc (clocks b)) z
+      go : (t : Bool) → r .empty ≡ t →
+          cond {A = Result (List Pair) Fraction} t (empty (r .work .fraction)) (zone (r .work .zone) (r .work .fraction)) ≡ zone z f →
+          Sized lastCounts (suc (clocks b)) (workOf z f) × Framed (suc (clocks b)) z
       go true e g = let x : _≡_ {A = ℕ} 0 1 = cc in absurd (omega arith)
       go false e g =
           let ez : r .work .zone ≡ z = cc in
@@ -151,25 +179,34 @@ module _ (b : List ℕ) (a : Accepted b) where
   unfolding resultOf
   result-fits r h x e = subst (λ (y : Result (List Pair) Fraction). Fits32 (fracOf y)) e (go (r .empty))
     where
-      go : (t : Bool) → Fits32 (fracOf (cond {A = Result (List Pair) Fraction} t (empty (r .work .fraction)) (zone (r .work .zone) (r .work .fraction))))
+      go : (t : Bool) →
+          Fits32 (fracOf (cond {A = Result (List Pair) Fraction} t (empty (r .work .fraction)) (zone (r .work .zone) (r .work .fraction))))
       go true = h .fraction
       go false = h .fraction
 
-  module _ (slots : ℕ) (l : ℕ) (hl : l < locations b) (p : List ℕ) (q : ZoneState) (sound : SoundState b slots q) (r : Reduced) (h : SoundResult b r) where
-    judged-sound : (x : Result (List Pair) Fraction) → resultOf r ≡ x → (q′ : ZoneState) → Judged (systemOf b) (zonesOf b) slots q l p x q′ → SoundState b slots q′
+  module _ (slots : ℕ) (l : ℕ) (hl : l < locations b) (p : List ℕ) (q : ZoneState)
+      (sound : SoundState b slots q) (r : Reduced) (h : SoundResult b r) where
+    judged-sound : (x : Result (List Pair) Fraction) → resultOf r ≡ x → (q′ : ZoneState) → Judged (systemOf b) (zonesOf b) slots q l p x q′ →
+        SoundState b slots q′
     judged-sound x e q′ (was-empty f) = record { nodes = sound .nodes; most = sound .most; fraction = result-fits r h x e }
     judged-sound x e q′ (was-target z f d) = record { nodes = sound .nodes; most = sound .most; fraction = result-fits r h x e }
     judged-sound x e q′ (was-inside z f k d g) =
         let i = find-inside (systemOf b) (zonesOf b) (q .kept) l z k g in
         let o = zone-fit r z f h e in
         let old = node-bounded b a k (sound .nodes (i .place) k (i .kept)) in
-        record { nodes = sound .nodes; most = sound .most; fraction = lowered-fits z (k .zone) (suc (clocks b)) (o .0 .ranged .bounded) old (i .holds) f (o .0 .narrow) (suc (clocks b) * 9) (omega arith) }
+        record {
+          nodes = sound .nodes;
+          most = sound .most;
+          fraction =
+              lowered-fits z (k .zone) (suc (clocks b)) (o .0 .ranged .bounded) old (i .holds) f (o .0 .narrow) (suc (clocks b) * 9) (omega arith);
+        }
     judged-sound x e q′ (was-big z f d g i) = record { nodes = sound .nodes; most = sound .most; fraction = result-fits r h x e }
     judged-sound x e q′ (was-kept z f d g i j) =
         let o = zone-fit r z f h e in
         let k : ZoneNode = record { at = l; zone = z; path = p } in
         record {
-          nodes = λ m y n. ⊎-elim (λ u. sound .nodes m y u) (λ u. subst (SoundNode b) u (kept-sound l hl z f p (o .0) (o .1) i)) (nth-snoc (q .kept) k m y n);
+          nodes = λ m y n. ⊎-elim (λ u. sound .nodes m y u)
+              (λ u. subst (SoundNode b) u (kept-sound l hl z f p (o .0) (o .1) i)) (nth-snoc (q .kept) k m y n);
           most = rw length-append (omega arith);
           fraction = result-fits r h x e;
         }

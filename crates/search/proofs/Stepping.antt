@@ -41,27 +41,37 @@ entries-at z x f =
     let b : 0 * 9 + x ≡ x = omega arith in
     λ i. record { upper = getD z (a i) zeroPair; lower = getD z (b i) zeroPair; fraction = f }
 
-module _ (L : Limits) (n : ℕ) (w u : Work) (n≤ : n ≤ 8) (o : OnScale scale n L) (r : Sized stepCounts (suc n) w) (x : ℕ) (px : 0 < x) (hx : x ≤ n) (e : u ≡ meetLimits L (x - 1) w) where
+module _ (L : Limits) (n : ℕ) (w u : Work) (n≤ : n ≤ 8) (o : OnScale scale n L)
+    (r : Sized stepCounts (suc n) w) (x : ℕ) (px : 0 < x) (hx : x ≤ n) (e : u ≡ meetLimits L (x - 1) w) where
   sized : Sized stepCounts (suc n) u
-  sized = subst (Sized stepCounts (suc n)) (sym e) (sized-meet stepCounts (suc n) (omega arith) (omega arith) (omega arith) w r n (omega arith) L o (x - 1) (omega arith))
+  sized =
+      subst (Sized stepCounts (suc n)) (sym e)
+      (sized-meet stepCounts (suc n) (omega arith) (omega arith) (omega arith) w r n (omega arith) L o (x - 1) (omega arith))
 
-  pub turn-ready : {lo hi : ℕ} {absent : Bool} → lo ≡ L .lo x → hi ≡ L .hi x → absent ≡ L .absent x → LimitsReady (entries (u .zone) x (u .fraction)) lo hi absent
-  turn-ready f g h = rw (f, g, h) (subst (λ (b : Bounds). LimitsReady b (L .lo x) (L .hi x) (L .absent x)) (entries-at (u .zone) x (u .fraction)) (sized-limits stepCounts (suc n) (omega arith) (omega arith) (omega arith) u sized n (omega arith) L o x px (omega arith)))
+  pub turn-ready : {lo hi : ℕ} {absent : Bool} → lo ≡ L .lo x → hi ≡ L .hi x → absent ≡ L .absent x →
+      LimitsReady (entries (u .zone) x (u .fraction)) lo hi absent
+  turn-ready f g h =
+      rw (f, g, h)
+      (subst (λ (b : Bounds). LimitsReady b (L .lo x) (L .hi x) (L .absent x)) (entries-at (u .zone) x (u .fraction))
+      (sized-limits stepCounts (suc n) (omega arith) (omega arith) (omega arith) u sized n (omega arith) L o x px (omega arith)))
 
-  pub turn-met : {lo hi : ℕ} {absent : Bool} {b : Bounds} → lo ≡ L .lo x → hi ≡ L .hi x → absent ≡ L .absent x → b ≡ boundsMet lo hi absent (entries (u .zone) x (u .fraction)) →
+  pub turn-met : {lo hi : ℕ} {absent : Bool} {b : Bounds} → lo ≡ L .lo x → hi ≡ L .hi x → absent ≡ L .absent x →
+      b ≡ boundsMet lo hi absent (entries (u .zone) x (u .fraction)) →
       record { zone = set (set (u .zone) (x * 9) (b .upper)) x (b .lower); fraction = b .fraction } ≡ meetLimits L (x + 1 - 1) w
   turn-met f g h k =
       limits-more L x w u px (omega arith) (sized .ranged .size) e
       (k ∙ (λ i. boundsMet (f i) (g i) (h i) (sym (entries-at (u .zone) x (u .fraction)) i)))
 
 -- a clock's limits that lower neither entry leave the square as it is
-pub turn-same : (z : List Pair) (x : ℕ) (f : Fraction) (lo hi : ℕ) (absent : Bool) {b : Bounds} → b ≡ boundsMet lo hi absent (entries z x f) → boundsBelow b (entries z x f) ≡ false →
+pub turn-same : (z : List Pair) (x : ℕ) (f : Fraction) (lo hi : ℕ) (absent : Bool) {b : Bounds} → b ≡ boundsMet lo hi absent (entries z x f) →
+    boundsBelow b (entries z x f) ≡ false →
     set (set z (x * 9) (b .upper)) x (b .lower) ≡ z
 turn-same z x f lo hi absent e h =
     let m = met-unlowered lo hi absent (entries z x f) (subst (λ (b : Bounds). boundsBelow b (entries z x f) ≡ false) e h) in
     let upper = ap (λ (b : Bounds). b .upper) e ∙ m .0 in
     let lower = ap (λ (b : Bounds). b .lower) e ∙ m .1 in
-    (λ i. set (set z (x * 9) (upper i)) x (lower i)) ∙ ap (λ (y : List Pair). set y x (getD z x zeroPair)) (set-getD z (x * 9) zeroPair) ∙ set-getD z x zeroPair
+    (λ i. set (set z (x * 9) (upper i)) x (lower i))
+    ∙ ap (λ (y : List Pair). set y x (getD z x zeroPair)) (set-getD z (x * 9) zeroPair) ∙ set-getD z x zeroPair
 
 -- ---- the operations of a step, as the code makes them; k is the number of indices
 module _ (c : ℕ) (c≤ : c ≤ 8) (w : Work) {k : ℕ} (k≡ : k ≡ suc c) where
@@ -71,9 +81,11 @@ module _ (c : ℕ) (c≤ : c ≤ 8) (w : Work) {k : ℕ} (k≡ : k ≡ suc c) wh
 
   pub entered-none : (I : Limits) {r : Reduced} → r ≡ meetOf c I w → r .empty ≡ true → r ≡ enterOf c I w
   unfolding enterOf
-  entered-none I {r} e f = e ∙ sym (then-empty (meetOf c I w) (λ v. reduceOf (suc c) (raiseLimits I c v)) (ap (λ (x : Reduced). x .empty) (sym e) ∙ f))
+  entered-none I {r} e f =
+      e ∙ sym (then-empty (meetOf c I w) (λ v. reduceOf (suc c) (raiseLimits I c v)) (ap (λ (x : Reduced). x .empty) (sym e) ∙ f))
 
-  pub entered : (I : Limits) {r v : Reduced} {u : Work} → r ≡ meetOf c I w → r .empty ≡ false → u ≡ raiseLimits I c (r .work) → v ≡ reduceOf k u → v ≡ enterOf c I w
+  pub entered : (I : Limits) {r v : Reduced} {u : Work} → r ≡ meetOf c I w → r .empty ≡ false → u ≡ raiseLimits I c (r .work) → v ≡ reduceOf k u →
+      v ≡ enterOf c I w
   unfolding enterOf
   entered I e f g h =
       h ∙ (λ i. reduceOf (k≡ i) (g i)) ∙ ap (λ (x : Reduced). reduceOf (suc c) (raiseLimits I c (x .work))) e
@@ -83,7 +95,8 @@ module _ (c : ℕ) (c≤ : c ≤ 8) (w : Work) {k : ℕ} (k≡ : k ≡ suc c) wh
   unfolding followOf
   followed-none G R I e f = e ∙ sym (then-empty (meetOf c G w) (λ v. enterOf c I (resetOf (suc c) R v)) (ap (λ (x : Reduced). x .empty) (sym e) ∙ f))
 
-  pub followed : (G : Limits) (R : ℕ → Bool) (I : Limits) {r : Reduced} → r ≡ meetOf c G w → r .empty ≡ false → enterOf c I (resetOf (suc c) R (r .work)) ≡ followOf c G R I w
+  pub followed : (G : Limits) (R : ℕ → Bool) (I : Limits) {r : Reduced} → r ≡ meetOf c G w → r .empty ≡ false →
+      enterOf c I (resetOf (suc c) R (r .work)) ≡ followOf c G R I w
   unfolding followOf
   followed G R I e f =
       ap (λ (x : Reduced). enterOf c I (resetOf (suc c) R (x .work))) e
@@ -93,43 +106,57 @@ module _ (c : ℕ) (c≤ : c ≤ 8) (w : Work) {k : ℕ} (k≡ : k ≡ suc c) wh
   pub met-ready : (L : Limits) → OnScale scale c L → Sized stepCounts (suc c) w → {u : Work} → u ≡ meetLimits L c w → Ready u k
   met-ready L o r {u} e =
       subst (Ready u) (sym k≡)
-      (subst (λ (v : Work). Ready v (suc c)) (sym e) (sized-ready stepCounts (suc c) (omega arith) (omega arith) (omega arith) (meetLimits L c w) (sized-meet stepCounts (suc c) (omega arith) (omega arith) (omega arith) w r c (omega arith) L o c (omega arith))))
+      (subst (λ (v : Work). Ready v (suc c)) (sym e)
+      (sized-ready stepCounts (suc c) (omega arith) (omega arith) (omega arith) (meetLimits L c w)
+      (sized-meet stepCounts (suc c) (omega arith) (omega arith) (omega arith) w r c (omega arith) L o c (omega arith))))
 
   -- which middle indices are left out: none, or of a settled zone all
   pub none-begun : (u : Work) {m : ℕ} → m ≡ 0 → Begun k m u
   unfolding reduceSteps
   none-begun u e = subst (λ (m : ℕ). Begun k m u) (sym e) (record { most = omega arith; same = refl })
 
-  pub all-begun : (L : Limits) → Settled (suc c) w → meetLimits L c w .zone ≡ w .zone → {u : Work} → u ≡ meetLimits L c w → {m : ℕ} → m ≡ k → Begun k m u
+  pub all-begun : (L : Limits) → Settled (suc c) w → meetLimits L c w .zone ≡ w .zone → {u : Work} → u ≡ meetLimits L c w → {m : ℕ} → m ≡ k →
+      Begun k m u
   all-begun L h z {u} e f =
       subst (λ (m : ℕ). Begun k m u) (sym f) (subst (λ (i : ℕ). Begun i i u) (sym k≡)
-      (subst (Begun (suc c) (suc c)) (sym e) (record { most = omega arith; same = settled-reduced (suc c) (meetLimits L c w) (limits-settled c (omega arith) L w h z) (suc c) (omega arith) })))
+      (subst (Begun (suc c) (suc c)) (sym e) (record {
+        most = omega arith;
+        same = settled-reduced (suc c) (meetLimits L c w) (limits-settled c (omega arith) L w h z) (suc c) (omega arith);
+      })))
 
   -- after the guard or the invariant, error counts are ten times larger
-  module _ (P : ℕ) (P> : 0 < P) (P≤ : P ≤ 10 * counts) (L : Limits) (o : OnScale scale c L) (r : Sized P (suc c) w) {m : Reduced} (e : m ≡ meetOf c L w) (live : m .empty ≡ false) where
+  module _ (P : ℕ) (P> : 0 < P) (P≤ : P ≤ 10 * counts) (L : Limits) (o : OnScale scale c L)
+      (r : Sized P (suc c) w) {m : Reduced} (e : m ≡ meetOf c L w) (live : m .empty ≡ false) where
     pub met-sized : Sized (10 * P) (suc c) (m .work)
     unfolding meetOf
     met-sized =
         let q = sized-meet P (suc c) P> (omega arith) (omega arith) w r c (omega arith) L o c (omega arith) in
-        subst (λ (x : Reduced). Sized (10 * P) (suc c) (x .work)) (sym e) (sized-reduce P (suc c) P> (omega arith) (omega arith) (meetLimits L c w) q (omega arith) (ap (λ (x : Reduced). x .empty) (sym e) ∙ live))
+        subst (λ (x : Reduced). Sized (10 * P) (suc c) (x .work)) (sym e)
+        (sized-reduce P (suc c) P> (omega arith) (omega arith) (meetLimits L c w) q (omega arith) (ap (λ (x : Reduced). x .empty) (sym e) ∙ live))
 
     pub raised-ready : ((x : ℕ) → 0 < x → x < suc c → L .hi x ≤ scale) → {u : Work} → u ≡ raiseLimits L c (m .work) → Ready u k
     raised-ready h {u} f =
         subst (Ready u) (sym k≡)
-        (subst (λ (v : Work). Ready v (suc c)) (sym f) (sized-ready (10 * P) (suc c) (omega arith) (omega arith) (omega arith) (raiseLimits L c (m .work)) (sized-raise (10 * P) (suc c) (omega arith) (omega arith) (omega arith) (m .work) met-sized c (omega arith) L h)))
+        (subst (λ (v : Work). Ready v (suc c)) (sym f)
+        (sized-ready (10 * P) (suc c) (omega arith) (omega arith) (omega arith) (raiseLimits L c (m .work))
+        (sized-raise (10 * P) (suc c) (omega arith) (omega arith) (omega arith) (m .work) met-sized c (omega arith) L h)))
 
     shaped : Shaped c w
     shaped = record { size = r .ranged .size; diagonal = r .ranged .diagonal }
 
     pub met-settled : Settled (suc c) (m .work)
     unfolding meetOf
-    met-settled = subst (λ (x : Reduced). Settled (suc c) (x .work)) (sym e) (reduced-settled c (omega arith) (meetLimits L c w) (meet-shaped 1 0 (omega arith) c (omega arith) L w shaped) (ap (λ (x : Reduced). x .empty) (sym e) ∙ live))
+    met-settled =
+        subst (λ (x : Reduced). Settled (suc c) (x .work)) (sym e)
+        (reduced-settled c (omega arith) (meetLimits L c w) (meet-shaped 1 0 (omega arith) c (omega arith) L w shaped)
+        (ap (λ (x : Reduced). x .empty) (sym e) ∙ live))
 
     pub raised-lifted : ((x : ℕ) → 0 < x → x < suc c → L .absent x ≡ false) → {u : Work} → u ≡ raiseLimits L c (m .work) → Lifted k u
     unfolding meetOf
     raised-lifted p {u} f =
         subst (λ (i : ℕ). Lifted i u) (sym k≡)
-        (subst (Lifted (suc c)) (sym (f ∙ ap (λ (x : Reduced). raiseLimits L c (x .work)) e)) (raise-lifted c (omega arith) L p w (r .ranged .size) (subst (λ (x : Reduced). Settled (suc c) (x .work)) e met-settled)))
+        (subst (Lifted (suc c)) (sym (f ∙ ap (λ (x : Reduced). raiseLimits L c (x .work)) e))
+        (raise-lifted c (omega arith) L p w (r .ranged .size) (subst (λ (x : Reduced). Settled (suc c) (x .work)) e met-settled)))
 
   -- a reset zone, settled before, with error counts up to P
   module _ (P : ℕ) (P> : 0 < P) (P≤ : P ≤ stepCounts) (S : ℕ → Bool) {u : Work} (e : u ≡ resetOf k S w) where
@@ -165,19 +192,24 @@ module _ (b : List ℕ) (a : Accepted b) where
     where
       at : (x : ℕ) → Dec (x < 9) → setOf (resetSet (resetByte b i)) x ≡ resetsOf b i x
       at x (yes p) = resets-at b i x p
-      at x (no p) = List·getD-eq-default (resetSet (resetByte b i)) false (omega (arith, set-length (resetByte b i))) ∙ sym (a .resets i x h (omega (arith, a .complete .clocks≤)))
+      at x (no p) =
+          List·getD-eq-default (resetSet (resetByte b i)) false (omega (arith, set-length (resetByte b i)))
+          ∙ sym (a .resets i x h (omega (arith, a .complete .clocks≤)))
 
 -- ---- the same, as the code fetches counts and places
 pub one-more : {n m : ℕ} → n ≡ m → n + 1 ≡ suc m
 one-more e = omega arith
 
-pub meets : (b : List ℕ) (w : Work) {at at′ n n′ : ℕ} {r : Reduced} → at ≡ at′ → n ≡ n′ → r ≡ meetOf n (limitsAt b at) w → r ≡ meetOf n′ (limitsAt b at′) w
+pub meets : (b : List ℕ) (w : Work) {at at′ n n′ : ℕ} {r : Reduced} → at ≡ at′ → n ≡ n′ → r ≡ meetOf n (limitsAt b at) w →
+    r ≡ meetOf n′ (limitsAt b at′) w
 meets b w e f g = g ∙ (λ i. meetOf (f i) (limitsAt b (e i)) w)
 
-pub raises : (b : List ℕ) (w : Work) {at at′ n n′ : ℕ} {u : Work} → at ≡ at′ → n ≡ n′ → u ≡ raiseLimits (limitsAt b at) n w → u ≡ raiseLimits (limitsAt b at′) n′ w
+pub raises : (b : List ℕ) (w : Work) {at at′ n n′ : ℕ} {u : Work} → at ≡ at′ → n ≡ n′ → u ≡ raiseLimits (limitsAt b at) n w →
+    u ≡ raiseLimits (limitsAt b at′) n′ w
 raises b w e f g = g ∙ (λ i. raiseLimits (limitsAt b (e i)) (f i) w)
 
 -- what `narrow` asks, of the limits at a place
-pub asks-limits : (b : List ℕ) (w : Work) {at at′ n n′ P : ℕ} → at ≡ at′ → n ≡ n′ → n′ ≤ 8 → at′ + 8 * n′ ≤ length b → OnScale scale n′ (limitsAt b at′) → P ≤ stepCounts → Sized P (suc n′) w →
+pub asks-limits : (b : List ℕ) (w : Work) {at at′ n n′ P : ℕ} → at ≡ at′ → n ≡ n′ → n′ ≤ 8 →
+    at′ + 8 * n′ ≤ length b → OnScale scale n′ (limitsAt b at′) → P ≤ stepCounts → Sized P (suc n′) w →
     ((n ≤ 8) × (at + 8 * n ≤ length b)) × (OnScale scale n (limitsAt b at) × Sized stepCounts (suc n) w)
 asks-limits b w {P = P} e f h k o p r = rw (e, f) ((h, k), (o, sized-more P stepCounts (suc _) w p r))

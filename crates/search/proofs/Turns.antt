@@ -29,7 +29,19 @@ use Rattle.zones.proofs.Ranges.{chosen-narrow, bounded-small, last-here}
 use Rattle.search.specs.Slots.{pairsTo, flat, slotOf}
 use Rattle.search.specs.Decoding.{slotPair, counted, squareTo, zoneOf}
 use Rattle.search.specs.Containing.{lessAt, withinSlots, loweredSlots, largestSlot, ComparableSlots}
-use Rattle.search.proofs.Slotted.{counted-in, counted-out, counted-all, counted-below, pairs-in, pairs-out, pairs-length, flat-length, flat-split, square-in, square-out}
+use Rattle.search.proofs.Slotted.{
+  counted-in,
+  counted-out,
+  counted-all,
+  counted-below,
+  pairs-in,
+  pairs-out,
+  pairs-length,
+  flat-length,
+  flat-split,
+  square-in,
+  square-out,
+}
 
 -- ---- `is_within`: the code compares the numbers' bits
 module _ {x y : ℤ} (hx : SFits w32 x) (hy : SFits w32 y) where
@@ -76,13 +88,16 @@ module _ (new old : List ℤ) (t : ℕ) where
     pub stops-m : (pairs : ℕ) → t < pairs → ltZ (toZ w32 (ofZ w32 oldM)) (toZ w32 (ofZ w32 newM)) ≡ true → false ≡ withinSlots new old pairs
     stops-m pairs h e = stops pairs h (rw (tested ho hn true e))
 
-    pub stops-p : (pairs : ℕ) → t < pairs → ofZ w32 oldM ≡ ofZ w32 newM → SFits w32 oldP → SFits w32 newP → ltZ (toZ w32 (ofZ w32 oldP)) (toZ w32 (ofZ w32 newP)) ≡ true → false ≡ withinSlots new old pairs
+    pub stops-p : (pairs : ℕ) → t < pairs → ofZ w32 oldM ≡ ofZ w32 newM → SFits w32 oldP → SFits w32 newP →
+        ltZ (toZ w32 (ofZ w32 oldP)) (toZ w32 (ofZ w32 newP)) ≡ true → false ≡ withinSlots new old pairs
     stops-p pairs h e fo fn g = stops pairs h (rw (same-bits ho hn e, irreflexive newM, tested fo fn true g))
 
-    pub goes-p : ofZ w32 oldM ≡ ofZ w32 newM → SFits w32 oldP → SFits w32 newP → ltZ (toZ w32 (ofZ w32 oldP)) (toZ w32 (ofZ w32 newP)) ≡ false → withinSlots new old t ≡ true → withinSlots new old (t + 1) ≡ true
+    pub goes-p : ofZ w32 oldM ≡ ofZ w32 newM → SFits w32 oldP → SFits w32 newP →
+        ltZ (toZ w32 (ofZ w32 oldP)) (toZ w32 (ofZ w32 newP)) ≡ false → withinSlots new old t ≡ true → withinSlots new old (t + 1) ≡ true
     goes-p e fo fn g = goes (rw (same-bits ho hn e, irreflexive newM, tested fo fn false g))
 
-    pub goes-m : ltZ (toZ w32 (ofZ w32 oldM)) (toZ w32 (ofZ w32 newM)) ≡ false → (ofZ w32 oldM ≡ ofZ w32 newM → ⊥) → withinSlots new old t ≡ true → withinSlots new old (t + 1) ≡ true
+    pub goes-m : ltZ (toZ w32 (ofZ w32 oldM)) (toZ w32 (ofZ w32 newM)) ≡ false → (ofZ w32 oldM ≡ ofZ w32 newM → ⊥) → withinSlots new old t ≡ true →
+        withinSlots new old (t + 1) ≡ true
     goes-m e d = goes (rw (tested ho hn false e, above (ltZ newM oldM) refl))
       where
         above : (b : Bool) → ltZ newM oldM ≡ b → ltZ newM oldM ≡ true
@@ -208,7 +223,8 @@ module _ (n l : ℕ) (z : List Pair) where
 
 -- ---- `decode`
 module _ (n : ℕ) (s : List ℤ) (k : ℕ) where
-  pub decode-in : {t : ℕ} {z : List Pair} {q : Pair} → k % 9 < n → t ≡ counted n k → q ≡ slotPair s t → z ≡ squareTo n k s → set z k q ≡ squareTo n (k + 1) s
+  pub decode-in : {t : ℕ} {z : List Pair} {q : Pair} → k % 9 < n → t ≡ counted n k → q ≡ slotPair s t → z ≡ squareTo n k s →
+      set z k q ≡ squareTo n (k + 1) s
   decode-in c e f g = rw (add-one k, square-in n s k c) (λ i. set (g i) k ((f ∙ ap (slotPair s) e) i))
 
   pub decode-out : {z : List Pair} → n ≤ k % 9 → z ≡ squareTo n k s → z ≡ squareTo n (k + 1) s

@@ -17,7 +17,8 @@ use Rattle.search.specs.Decoding.{slotPair}
 abbrev pub lessAt : List ℤ → List ℤ → ℕ → Bool
 lessAt new old t =
     cond (ltZ (getD old (1 + 2 * t) (pos 0)) (getD new (1 + 2 * t) (pos 0))) true
-    (cond (ltZ (getD new (1 + 2 * t) (pos 0)) (getD old (1 + 2 * t) (pos 0))) false (ltZ (getD old (2 + 2 * t) (pos 0)) (getD new (2 + 2 * t) (pos 0))))
+    (cond (ltZ (getD new (1 + 2 * t) (pos 0)) (getD old (1 + 2 * t) (pos 0))) false
+    (ltZ (getD old (2 + 2 * t) (pos 0)) (getD new (2 + 2 * t) (pos 0))))
 
 unfoldable pub withinSlots : List ℤ → List ℤ → ℕ → Bool
 withinSlots new old zero = true

@@ -97,7 +97,8 @@ pub record Going (b : List ℕ) (slots : ℕ) (s : List ℤ) (t : Turn) : Type 0
 
 -- what a part of the search gives from the store s and the turn t to s′ and r, of every sound state that they show and that goes on
 pub record Continues (b : List ℕ) (slots : ℕ) (s : List ℤ) (t : Turn) (f : ZoneState → ZoneState) (s′ : List ℤ) (r : Turn) : Type 0 where
-  pub shows : (s₀ : List ℤ) (q : ZoneState) → Shown (suc (clocks b)) s₀ q s t → SoundState b slots q → q .code ≡ 0 → Shown (suc (clocks b)) s₀ (f q) s′ r
+  pub shows : (s₀ : List ℤ) (q : ZoneState) → Shown (suc (clocks b)) s₀ q s t → SoundState b slots q → q .code ≡ 0 →
+      Shown (suc (clocks b)) s₀ (f q) s′ r
 
 -- the zone of a node that is taken
 pub record SoundZone (b : List ℕ) (z : List Pair) : Type 0 where

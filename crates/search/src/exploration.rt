@@ -28,7 +28,19 @@ ghost use Rattle.zones.specs.Settled.{Settled};
 ghost use Rattle.zones.specs.Zones.{setOf};
 ghost use Rattle.search.specs.Accepted.{Accepted};
 ghost use Rattle.search.specs.Automata.{clocks, edges, locations, start, target, to};
-ghost use Rattle.search.specs.Exploring.{FirstHit, Shown, SoundResult, SoundZone, Gives, Offers, arrivalOf, successorOf, Continues, InProgress, Going};
+ghost use Rattle.search.specs.Exploring.{
+  FirstHit,
+  Shown,
+  SoundResult,
+  SoundZone,
+  Gives,
+  Offers,
+  arrivalOf,
+  successorOf,
+  Continues,
+  InProgress,
+  Going,
+};
 ghost use Rattle.search.specs.Instance.{zonesOf};
 ghost use Rattle.search.specs.Opened.{edgeOf};
 ghost use Rattle.search.specs.Search.{offer, expand, take-from, zone};
@@ -77,7 +89,9 @@ fn judge(automaton: &[u8], store: &mut [i32], count: usize, slots: usize, l: usi
     requires { ⌜ Accepted (now automaton) × (l < locations (now automaton)) × (l ≡ target (now automaton) → ⊥) ⌝ }
     requires { ⌜ InProgress (now automaton) slots (now store) count ⌝ }
     requires { ⌜ Sized lastCounts (suc (clocks (now automaton))) w × Framed (suc (clocks (now automaton))) (w .zone) ⌝ }
-    ensures { λ r. ⌜ ((p : List ℕ) → Gives (now (automaton .entry)) slots (now (store .entry)) count (λ q. offer (systemOf (now (automaton .entry))) (zonesOf (now (automaton .entry))) slots q l p (zone (w .zone) (w .fraction))) (now (store .exit)) r) ⌝ }
+    ensures { λ r. ⌜ ((p : List ℕ) → Gives (now (automaton .entry)) slots (now (store .entry)) count
+        (λ q. offer (systemOf (now (automaton .entry))) (zonesOf (now (automaton .entry))) slots q l p (zone (w .zone) (w .fraction)))
+        (now (store .exit)) r) ⌝ }
 {
     let size = clocks(automaton) + 1;
     let z = w.zone;
@@ -162,7 +176,8 @@ fn arrive(
     requires { ⌜ Accepted (now automaton) × (l < locations (now automaton)) × InProgress (now automaton) slots (now store) count ⌝ }
     requires { ⌜ Sized (10 * counts) (suc (clocks (now automaton))) w × Settled (suc (clocks (now automaton))) w ⌝ }
     requires { ⌜ SoundResult (now automaton) (arrivalOf (now automaton) l (setOf resets) w) ⌝ }
-    ensures { λ t. ⌜ Offers (now (automaton .entry)) slots (now (store .entry)) count l (arrivalOf (now (automaton .entry)) l (setOf resets) w) (now (store .exit)) t ⌝ }
+    ensures { λ t. ⌜ Offers (now (automaton .entry)) slots (now (store .entry)) count l
+        (arrivalOf (now (automaton .entry)) l (setOf resets) w) (now (store .exit)) t ⌝ }
 {
     let entered = enter(automaton, l, w, resets);
     offer(automaton, store, count, slots, l, entered)
@@ -180,7 +195,8 @@ fn follow(
 ) -> Turn
     requires { ⌜ Accepted (now automaton) × (i < edges (now automaton)) × (edge ≡ edgeOf (now automaton) i) ⌝ }
     requires { ⌜ InProgress (now automaton) slots (now store) count × SoundZone (now automaton) (w .zone) × Fits32 (w .fraction) ⌝ }
-    ensures { λ t. ⌜ Offers (now (automaton .entry)) slots (now (store .entry)) count (to (now (automaton .entry)) i) (successorOf (now (automaton .entry)) i w) (now (store .exit)) t ⌝ }
+    ensures { λ t. ⌜ Offers (now (automaton .entry)) slots (now (store .entry)) count (to (now (automaton .entry)) i)
+        (successorOf (now (automaton .entry)) i w) (now (store .exit)) t ⌝ }
 {
     let at = edge_at(automaton, i) + 3;
     let met = narrow(automaton, at, clocks(automaton), w, false);
@@ -207,7 +223,9 @@ fn expand(
     z: [Pair; 81],
 ) -> Turn
     requires { ⌜ Accepted (now automaton) × Going (now automaton) slots (now store) turn × SoundZone (now automaton) z ⌝ }
-    ensures { λ r. ⌜ ((p : List ℕ) → Continues (now (automaton .entry)) slots (now (store .entry)) turn (expand (systemOf (now (automaton .entry))) (zonesOf (now (automaton .entry))) slots (record { at = l; zone = z; path = p }) (edges (now (automaton .entry))) 0) (now (store .exit)) r) ⌝ }
+    ensures { λ r. ⌜ ((p : List ℕ) → Continues (now (automaton .entry)) slots (now (store .entry)) turn
+        (expand (systemOf (now (automaton .entry))) (zonesOf (now (automaton .entry))) slots (record { at = l; zone = z; path = p })
+        (edges (now (automaton .entry))) 0) (now (store .exit)) r) ⌝ }
 {
     let mut t = turn;
     let first = t.fraction;
@@ -235,7 +253,8 @@ fn expand(
 // The kept zones, oldest first, each once, until nothing is left to take.
 fn take(automaton: &[u8], store: &mut [i32], turn: Turn, slots: usize) -> Turn
     requires { ⌜ Accepted (now automaton) × Going (now automaton) slots (now store) turn ⌝ }
-    ensures { λ r. ⌜ Continues (now (automaton .entry)) slots (now (store .entry)) turn (take-from (systemOf (now (automaton .entry))) (zonesOf (now (automaton .entry))) slots slots 0) (now (store .exit)) r ⌝ }
+    ensures { λ r. ⌜ Continues (now (automaton .entry)) slots (now (store .entry)) turn
+        (take-from (systemOf (now (automaton .entry))) (zonesOf (now (automaton .entry))) slots slots 0) (now (store .exit)) r ⌝ }
 {
     let size = clocks(automaton) + 1;
     let amount = slot_length(size);
@@ -266,7 +285,8 @@ fn slots_of(numbers: usize, size: usize) -> usize
 // The whole search of an accepted automaton.
 pub fn explore(automaton: &[u8], store: &mut [i32]) -> Turn
     requires { ⌜ Accepted (now automaton) ⌝ }
-    ensures { λ r. ⌜ Shown (suc (clocks (now (automaton .entry)))) (now (store .entry)) (stateOf (now (automaton .entry)) (length (now (store .entry)))) (now (store .exit)) r ⌝ }
+    ensures { λ r. ⌜ Shown (suc (clocks (now (automaton .entry)))) (now (store .entry))
+        (stateOf (now (automaton .entry)) (length (now (store .entry)))) (now (store .exit)) r ⌝ }
 {
     let slots = slots_of(store.len(), clocks(automaton) + 1);
     let l = start(automaton);

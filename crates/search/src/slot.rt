@@ -93,7 +93,8 @@ pub fn copy(slot: &mut [i32], numbers: &[i32], amount: usize)
 // The slot at `at` of the store becomes the numbers given: it is lent to the copy as a part.
 pub fn keep(store: &mut [i32], at: usize, numbers: &[i32], amount: usize)
     requires { ⌜ (at + amount ≤ length (now store)) × (amount ≤ length (now numbers)) ⌝ }
-    ensures { λ _. ⌜ now (store .exit) ≡ take at (now (store .entry)) ++ (take amount (now (numbers .entry)) ++ drop (at + amount) (now (store .entry))) ⌝ }
+    ensures { λ _. ⌜ now (store .exit) ≡
+        take at (now (store .entry)) ++ (take amount (now (numbers .entry)) ++ drop (at + amount) (now (store .entry))) ⌝ }
 {
     copy(&mut store[at..], numbers, amount);
 }

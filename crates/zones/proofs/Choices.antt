@@ -43,7 +43,8 @@ pub less-shows : (a b : Pair) → isLess a b ≡ true → (a .m ≤ℤ b .m) × 
 unfolding isLess
 less-shows a b e = go (ltZ (a .m) (b .m)) (ltZ (b .m) (a .m)) refl refl e
   where
-    go : (s t : Bool) → ltZ (a .m) (b .m) ≡ s → ltZ (b .m) (a .m) ≡ t → cond s true (cond t false (ltb (a .p) (b .p))) ≡ true → (a .m ≤ℤ b .m) × (b .p ≤ a .p → a .m <ℤ b .m)
+    go : (s t : Bool) → ltZ (a .m) (b .m) ≡ s → ltZ (b .m) (a .m) ≡ t → cond s true (cond t false (ltb (a .p) (b .p))) ≡ true →
+        (a .m ≤ℤ b .m) × (b .p ≤ a .p → a .m <ℤ b .m)
     go true t f g h = let l = ltZ-true (a .m) (b .m) f in (omega (arith, int), λ k. l)
     go false true f g h = true-false (sym h)
     go false false f g h = (ltZ-false (b .m) (a .m) g, λ k. absurd (omega (arith, ltb-true (a .p) (b .p) h)))
@@ -52,7 +53,8 @@ pub not-less-shows : (a b : Pair) → isLess b a ≡ false → (a .m ≤ℤ b .m
 unfolding isLess
 not-less-shows a b e = go (ltZ (b .m) (a .m)) (ltZ (a .m) (b .m)) refl refl e
   where
-    go : (s t : Bool) → ltZ (b .m) (a .m) ≡ s → ltZ (a .m) (b .m) ≡ t → cond s true (cond t false (ltb (b .p) (a .p))) ≡ false → (a .m ≤ℤ b .m) × (b .p < a .p → a .m <ℤ b .m)
+    go : (s t : Bool) → ltZ (b .m) (a .m) ≡ s → ltZ (a .m) (b .m) ≡ t → cond s true (cond t false (ltb (b .p) (a .p))) ≡ false →
+        (a .m ≤ℤ b .m) × (b .p < a .p → a .m <ℤ b .m)
     go true t f g h = true-false h
     go false true f g h = let l = ltZ-true (a .m) (b .m) g in (omega (arith, int), λ k. l)
     go false false f g h = (ltZ-false (b .m) (a .m) f, λ k. absurd (omega (arith, ltb-false (b .p) (a .p) h)))
@@ -66,7 +68,8 @@ pub threshold-none : (a b : Pair) → a .p ≤ b .p → noLimit ≡ thresholdOf 
 unfolding thresholdOf
 threshold-none a b h = rw (le-ltb (b .p) (a .p) h)
 
-pub threshold-cases : (a b : Pair) (P : Fraction → Type 0) → (b .p < a .p → P (record { n = natAbs (b .m -ℤ a .m); d = a .p - b .p })) → (a .p ≤ b .p → P noLimit) → P (thresholdOf a b)
+pub threshold-cases : (a b : Pair) (P : Fraction → Type 0) →
+    (b .p < a .p → P (record { n = natAbs (b .m -ℤ a .m); d = a .p - b .p })) → (a .p ≤ b .p → P noLimit) → P (thresholdOf a b)
 unfolding thresholdOf
 threshold-cases a b P f g = go (ltb (b .p) (a .p)) refl
   where
@@ -83,11 +86,13 @@ pub smaller-old : (a b : Pair) (f : Fraction) → isLess b a ≡ false → f ≡
 unfolding smallerOf
 smaller-old a b f e g = rw e (λ i. record { pair = a; threshold = g i })
 
-pub smaller-cases : (a b : Pair) (P : Choice → Type 0) → (isLess b a ≡ true → P (record { pair = b; threshold = thresholdOf b a })) → (isLess b a ≡ false → P (record { pair = a; threshold = thresholdOf a b })) → P (smallerOf a b)
+pub smaller-cases : (a b : Pair) (P : Choice → Type 0) → (isLess b a ≡ true → P (record { pair = b; threshold = thresholdOf b a })) →
+    (isLess b a ≡ false → P (record { pair = a; threshold = thresholdOf a b })) → P (smallerOf a b)
 unfolding smallerOf
 smaller-cases a b P f g = go (isLess b a) refl
   where
-    go : (t : Bool) → isLess b a ≡ t → P (cond t (record { pair = b; threshold = thresholdOf b a }) (record { pair = a; threshold = thresholdOf a b }))
+    go : (t : Bool) → isLess b a ≡ t →
+        P (cond t (record { pair = b; threshold = thresholdOf b a }) (record { pair = a; threshold = thresholdOf a b }))
     go true e = f e
     go false e = g e
 
@@ -110,7 +115,8 @@ lowered-old f g h = rw (le-ltb (g .n * f .d) (f .n * g .d) h)
 pub lowered-none : (f g : Fraction) → g .d ≡ 0 → f ≡ loweredBy f g
 lowered-none f g e = lowered-old f g (rw e (omega arith))
 
-pub lowered-cases : (f g : Fraction) (P : Fraction → Type 0) → (g .n * f .d < f .n * g .d → P g) → (f .n * g .d ≤ g .n * f .d → P f) → P (loweredBy f g)
+pub lowered-cases : (f g : Fraction) (P : Fraction → Type 0) → (g .n * f .d < f .n * g .d → P g) → (f .n * g .d ≤ g .n * f .d → P f) →
+    P (loweredBy f g)
 unfolding loweredBy
 lowered-cases f g P h k = go (ltb (g .n * f .d) (f .n * g .d)) refl
   where

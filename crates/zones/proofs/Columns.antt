@@ -35,7 +35,8 @@ module _ (n : ℕ) (n≤ : n ≤ 9) (w : Work) (h : Settled n w) where
     module _ (s e : ℕ) (s> : 0 < s) (t : Below s e (v .fraction)) where
       above : (a b : ℕ) → a < n → b < n → valueOf s e (entry w a b) ≤ℤ valueOf s e (entry v a b)
       above a zero ha hb = r .values s e s> t a ha
-      above a (suc b) ha hb = subst (λ (x : Pair). valueOf s e (entry w a (suc b)) ≤ℤ valueOf s e x) (sym (r .same a (suc b) ha hb (omega arith))) (omega (arith, int))
+      above a (suc b) ha hb =
+          subst (λ (x : Pair). valueOf s e (entry w a (suc b)) ≤ℤ valueOf s e x) (sym (r .same a (suc b) ha hb (omega arith))) (omega (arith, int))
 
       -- nor a way
       way-above : (k i j : ℕ) → k < n → i < n → j < n → valueOf s e (entry w i j) ≤ℤ valueOf s e (sumOf (entry v i k) (entry v k j))
@@ -43,7 +44,14 @@ module _ (n : ℕ) (n≤ : n ≤ 9) (w : Work) (h : Settled n w) where
           let x = way-at-most s e (entry w i j) (entry w i k) (entry w k j) (h .values s e s> (r .before s e s> t) k i j hk hi hj) in
           let a = above i k hi hk in
           let b = above k j hk hj in
-          omega (arith, int, eq-read (value-sum s e (entry w i k) (entry w k j)), eq-read (value-sum s e (entry v i k) (entry v k j)), sum-law (valueOf s e (entry w i k)) (valueOf s e (entry w k j)), sum-law (valueOf s e (entry v i k)) (valueOf s e (entry v k j)))
+          omega (
+            arith,
+            int,
+            eq-read (value-sum s e (entry w i k) (entry w k j)),
+            eq-read (value-sum s e (entry v i k) (entry v k j)),
+            sum-law (valueOf s e (entry w i k)) (valueOf s e (entry w k j)),
+            sum-law (valueOf s e (entry v i k)) (valueOf s e (entry v k j)),
+          )
 
     way-over : (k i j : ℕ) → k < n → i < n → j < n → entry w i j ≼ sumOf (entry v i k) (entry v k j)
     way-over k i j hk hi hj = ≼-trans (record { kept = h .pairs k i j hk hi hj }) (≼-sum (over i k hi hk) (over k j hk hj))
@@ -52,7 +60,8 @@ module _ (n : ℕ) (n≤ : n ≤ 9) (w : Work) (h : Settled n w) where
     stays : (k i j : ℕ) → k < n → i < n → j < n → entry v i j ≡ entry w i j → relaxed k i j v ≡ v
     stays k i j hk hi hj e =
         relaxed-follows v k i j (subst (λ (x : Pair). isLess (sumOf (entry v i k) (entry v k j)) x ≡ false) (sym e) (way-over k i j hk hi hj .kept))
-        (λ s f s> t. subst (λ (x : Pair). valueOf s f x ≤ℤ valueOf s f (sumOf (entry v i k) (entry v k j))) (sym e) (way-above s f s> t k i j hk hi hj))
+        (λ s f s> t. subst (λ (x : Pair). valueOf s f x ≤ℤ valueOf s f (sumOf (entry v i k) (entry v k j))) (sym e)
+        (way-above s f s> t k i j hk hi hj))
 
     -- one in column 0 stays at or above the settled one
     pub column-step : (k i : ℕ) → k < n → i < n → Raised n w (relaxed k i 0 v)
@@ -65,13 +74,15 @@ module _ (n : ℕ) (n≤ : n ≤ 9) (w : Work) (h : Settled n w) where
       before = λ s e s> t. r .before s e s> (lower-limits s e s> v i 0 q t .0);
       values = λ s e s> t a ha.
           let u = lower-limits s e s> v i 0 q t .0 in
-          place (λ x p. valueOf s e (entry w x 0) ≤ℤ valueOf s e p) a (r .values s e s> u a ha) (way-above s e s> u k i 0 hk hi (omega arith)) (ℕ-discrete a i);
+          place (λ x p. valueOf s e (entry w x 0) ≤ℤ valueOf s e p) a (r .values s e s> u a ha)
+          (way-above s e s> u k i 0 hk hi (omega arith)) (ℕ-discrete a i);
     }
       where
         q : Pair
         q = sumOf (entry v i k) (entry v k 0)
 
-        place : (P : ℕ → Pair → Type 0) (a : ℕ) → P a (entry v a 0) → P i (sumOf (entry v i k) (entry v k 0)) → Dec (a ≡ i) → P a (entry (lowerAt i 0 (sumOf (entry v i k) (entry v k 0)) v) a 0)
+        place : (P : ℕ → Pair → Type 0) (a : ℕ) → P a (entry v a 0) → P i (sumOf (entry v i k) (entry v k 0)) → Dec (a ≡ i) →
+            P a (entry (lowerAt i 0 (sumOf (entry v i k) (entry v k 0)) v) a 0)
         place P a x y (yes z) =
             subst (λ (c : ℕ). P c (entry (lowerAt i 0 q v) c 0)) (sym z) (subst (P i) (sym (lower-at v i 0 q (r .size) (omega arith) (omega arith)))
             (⊎-elim (λ f. subst (P i) (sym f) (subst (λ (c : ℕ). P c (entry v c 0)) z x)) (λ f. subst (P i) (sym f) y) (smaller-or (entry v i 0) q)))
@@ -111,7 +122,8 @@ module _ (n : ℕ) (n≤ : n ≤ 9) (w : Work) (h : Settled n w) where
   zero-round : (v : Work) → Raised n w v → 0 < n → (i : ℕ) → i ≤ n → roundSteps n 0 i v ≡ v
   unfolding roundSteps
   zero-round v r p zero hi = refl
-  zero-round v r p (suc i) hi = ap (rowSteps 0 i n) (zero-round v r p i (omega arith)) ∙ whole-row v r 0 i p hi ∙ col-still v 0 (column-diagonal v r 0 p) i
+  zero-round v r p (suc i) hi =
+      ap (rowSteps 0 i n) (zero-round v r p i (omega arith)) ∙ whole-row v r 0 i p hi ∙ col-still v 0 (column-diagonal v r 0 p) i
 
   pub zero-row : (v : Work) → Raised n w v → (k : ℕ) → k < n → v ≡ roundSteps n k 1 v
   unfolding roundSteps
@@ -122,7 +134,8 @@ module _ (n : ℕ) (n≤ : n ≤ 9) (w : Work) (h : Settled n w) where
   unfolding reduceSteps
   column-first v r p =
       let e = zero-round v r p n (omega arith) in
-      after-live n 0 (record { work = v; empty = false }) refl ∙ (λ t. record { work = e t; empty = (ap (emptyIn n) e ∙ live-all n v (column-diagonal v r)) t })
+      after-live n 0 (record { work = v; empty = false }) refl
+      ∙ (λ t. record { work = e t; empty = (ap (emptyIn n) e ∙ live-all n v (column-diagonal v r)) t })
 
   pub column-next : (v u : Work) → Raised n w u → (k i : ℕ) → k < n → i < n → u ≡ roundSteps n k i v → relaxed k i 0 u ≡ roundSteps n k (i + 1) v
   unfolding roundSteps

@@ -20,7 +20,8 @@ use Rattle.zones.proofs.Choices.{true-false, not-less-shows}
 use Rattle.zones.proofs.Ranges.{lowered-narrow, chosen-narrow, last-here}
 
 -- entry (a, b) stands at place a × 9 + b
-pub at-place : (P : Pair → Type 0) (z : List Pair) (n a b : ℕ) → n ≤ 9 → a < n → b < n → ((k : ℕ) → k < n * 9 → k % 9 < n → P (placeOf z k)) → P (pairAt z a b)
+pub at-place : (P : Pair → Type 0) (z : List Pair) (n a b : ℕ) → n ≤ 9 → a < n → b < n → ((k : ℕ) → k < n * 9 → k % 9 < n → P (placeOf z k)) →
+    P (pairAt z a b)
 unfolding pairAt
 at-place P z n a b h ha hb f = let e : (a * 9 + b) % 9 ≡ b = omega arith in f (a * 9 + b) (omega arith) (omega arith)
 
@@ -28,7 +29,8 @@ at-place P z n a b h ha hb f = let e : (a * 9 + b) % 9 ≡ b = omega arith in f 
 module _ (n : ℕ) (z y : List Pair) where
   -- a test that holds shows that no pair of y is smaller
   next-shows : (k : ℕ) → (withinTo n k z y ≡ true → (m : ℕ) → m < k → m % 9 < n → isLess (placeOf y m) (placeOf z m) ≡ false) →
-      (s t : Bool) → ltb (k % 9) n ≡ s → isLess (placeOf y k) (placeOf z k) ≡ t → cond s (cond t false (withinTo n k z y)) (withinTo n k z y) ≡ true → (m : ℕ) → m < suc k → m % 9 < n → Dec (m ≡ k) → isLess (placeOf y m) (placeOf z m) ≡ false
+      (s t : Bool) → ltb (k % 9) n ≡ s → isLess (placeOf y k) (placeOf z k) ≡ t → cond s (cond t false (withinTo n k z y)) (withinTo n k z y) ≡ true →
+      (m : ℕ) → m < suc k → m % 9 < n → Dec (m ≡ k) → isLess (placeOf y m) (placeOf z m) ≡ false
   next-shows k ih true true e f g m hm c d = true-false (sym g)
   next-shows k ih true false e f g m hm c (yes q) = rw q f
   next-shows k ih true false e f g m hm c (no q) = ih g m (omega arith) c
@@ -38,15 +40,19 @@ module _ (n : ℕ) (z y : List Pair) where
   pub within-shows : (k : ℕ) → withinTo n k z y ≡ true → (m : ℕ) → m < k → m % 9 < n → isLess (placeOf y m) (placeOf z m) ≡ false
   unfolding withinTo
   within-shows zero e m hm c = absurd (not-suc-le-zero hm)
-  within-shows (suc k) e m hm c = next-shows k (within-shows k) (ltb (k % 9) n) (isLess (placeOf y k) (placeOf z k)) refl refl e m hm c (ℕ-discrete m k)
+  within-shows (suc k) e m hm c =
+      next-shows k (within-shows k) (ltb (k % 9) n) (isLess (placeOf y k) (placeOf z k)) refl refl e m hm c (ℕ-discrete m k)
 
   -- what each lowering keeps, they all keep
-  pub lowered-ind : (P : Fraction → Type 0) (f : Fraction) (K : ℕ) → ((k : ℕ) (g : Fraction) → k < K → k % 9 < n → P g → P (loweredBy g (thresholdOf (placeOf z k) (placeOf y k)))) → P f → (k : ℕ) → k ≤ K → P (loweredTo n k z y f)
+  pub lowered-ind : (P : Fraction → Type 0) (f : Fraction) (K : ℕ) →
+      ((k : ℕ) (g : Fraction) → k < K → k % 9 < n → P g → P (loweredBy g (thresholdOf (placeOf z k) (placeOf y k)))) → P f → (k : ℕ) → k ≤ K →
+      P (loweredTo n k z y f)
   unfolding loweredTo
   lowered-ind P f K s p zero h = p
   lowered-ind P f K s p (suc k) h = go (lowered-ind P f K s p k (omega arith)) (ltb (k % 9) n) refl
     where
-      go : P (loweredTo n k z y f) → (t : Bool) → ltb (k % 9) n ≡ t → P (cond t (loweredBy (loweredTo n k z y f) (thresholdOf (placeOf z k) (placeOf y k))) (loweredTo n k z y f))
+      go : P (loweredTo n k z y f) → (t : Bool) → ltb (k % 9) n ≡ t →
+          P (cond t (loweredBy (loweredTo n k z y f) (thresholdOf (placeOf z k) (placeOf y k))) (loweredTo n k z y f))
       go q true e = s k (loweredTo n k z y f) h (ltb-true (k % 9) n e) q
       go q false e = q
 
@@ -60,7 +66,8 @@ module _ (n : ℕ) (z : List Pair) where
       go true e = omega (arith, ltb-true a b e)
       go false e = omega (arith, ltb-false a b e)
 
-  next-count : (k : ℕ) (t : Bool) → ltb (k % 9) n ≡ t → ((m : ℕ) → m < k → m % 9 < n → placeOf z m .p ≤ countTo n k z) → (m : ℕ) → m < suc k → m % 9 < n → Dec (m ≡ k) → placeOf z m .p ≤ cond t (larger (countTo n k z) (placeOf z k .p)) (countTo n k z)
+  next-count : (k : ℕ) (t : Bool) → ltb (k % 9) n ≡ t → ((m : ℕ) → m < k → m % 9 < n → placeOf z m .p ≤ countTo n k z) → (m : ℕ) →
+      m < suc k → m % 9 < n → Dec (m ≡ k) → placeOf z m .p ≤ cond t (larger (countTo n k z) (placeOf z k .p)) (countTo n k z)
   next-count k true e ih m hm c (yes q) = rw q (larger-le (countTo n k z) (placeOf z k .p) .1)
   next-count k true e ih m hm c (no q) = omega (arith, ih m (omega arith) c, larger-le (countTo n k z) (placeOf z k .p) .0)
   next-count k false e ih m hm c (yes q) = absurd (omega (arith, ltb-false (k % 9) n e, rw q at c))

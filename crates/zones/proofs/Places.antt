@@ -49,7 +49,8 @@ module _ (w : Work) (i j : ℕ) (q : Pair) (size : length (w .zone) ≡ 81) wher
   lower-off a b hb hj f = set-off (w .zone) i j (smallerOf (entry w i j) q .pair) hj a b hb f
 
   -- what holds of the entry that is lowered and of every other holds of each
-  pub lower-place : i < 9 → j < 9 → (P : ℕ → ℕ → Pair → Type 0) → P i j (smallerOf (entry w i j) q .pair) → (a b : ℕ) → b < 9 → P a b (entry w a b) → P a b (entry (lowerAt i j q w) a b)
+  pub lower-place : i < 9 → j < 9 → (P : ℕ → ℕ → Pair → Type 0) → P i j (smallerOf (entry w i j) q .pair) → (a b : ℕ) → b < 9 → P a b (entry w a b) →
+      P a b (entry (lowerAt i j q w) a b)
   lower-place hi hj P p a b hb o = go (ℕ-discrete a i) (ℕ-discrete b j)
     where
       off : (a ≡ i → b ≡ j → ⊥) → P a b (entry (lowerAt i j q w) a b)
@@ -67,12 +68,14 @@ pub record RaisedBy (c : ℕ) (L : Limits) (w w′ : Work) : Type 0 where
   pub column : (x : ℕ) → 0 < x → x < suc c → entry w′ x 0 ≡ atMost (L .hi x)
   pub rest : (a b : ℕ) → b < 9 → (0 < a → a < suc c → 0 < b) → entry w′ a b ≡ entry w a b
 
-raised-next : (L : Limits) (c : ℕ) (w u : Work) → suc c < 9 → RaisedBy c L w u → RaisedBy (suc c) L w (record { zone = set (u .zone) (suc c * 9 + 0) (atMost (L .hi (suc c))); fraction = u .fraction })
+raised-next : (L : Limits) (c : ℕ) (w u : Work) → suc c < 9 → RaisedBy c L w u →
+    RaisedBy (suc c) L w (record { zone = set (u .zone) (suc c * 9 + 0) (atMost (L .hi (suc c))); fraction = u .fraction })
 raised-next L c w u h r = record {
   size = length-set (u .zone) (suc c * 9 + 0) q ∙ r .size;
   fraction = r .fraction;
   column = λ x px hx. at x px hx (ℕ-discrete x (suc c));
-  rest = λ a b hb f. set-off (u .zone) (suc c) 0 q (omega arith) a b hb (λ e g. absurd (omega (arith, f (omega arith) (omega arith)))) ∙ r .rest a b hb (λ p g. f p (omega arith));
+  rest = λ a b hb f. set-off (u .zone) (suc c) 0 q (omega arith) a b hb (λ e g. absurd (omega (arith, f (omega arith) (omega arith))))
+      ∙ r .rest a b hb (λ p g. f p (omega arith));
 }
   where
     q : Pair
@@ -131,7 +134,8 @@ record PlacesDone (R : ℕ → Bool) (y : List Pair) (k : ℕ) (z : List Pair) :
   done : (m : ℕ) → m < k → getD z m zeroPair ≡ pairAt y (home R (m / 9)) (home R (m % 9))
   rest : (m : ℕ) → k ≤ m → getD z m zeroPair ≡ getD y m zeroPair
 
-places-next : (R : ℕ → Bool) (y : List Pair) (k : ℕ) (u : List Pair) → k < 81 → PlacesDone R y k u → PlacesDone R y (suc k) (set u k (pairAt y (home R (k / 9)) (home R (k % 9))))
+places-next : (R : ℕ → Bool) (y : List Pair) (k : ℕ) (u : List Pair) → k < 81 → PlacesDone R y k u →
+    PlacesDone R y (suc k) (set u k (pairAt y (home R (k / 9)) (home R (k % 9))))
 places-next R y k u h d = record {
   size = length-set u k q ∙ d .size;
   done = λ m hm. at m hm (ℕ-discrete m k);
@@ -141,7 +145,8 @@ places-next R y k u h d = record {
     q : Pair
     q = pairAt y (home R (k / 9)) (home R (k % 9))
 
-    at : (m : ℕ) → m < suc k → Dec (m ≡ k) → getD (set u k (pairAt y (home R (k / 9)) (home R (k % 9)))) m zeroPair ≡ pairAt y (home R (m / 9)) (home R (m % 9))
+    at : (m : ℕ) → m < suc k → Dec (m ≡ k) →
+        getD (set u k (pairAt y (home R (k / 9)) (home R (k % 9)))) m zeroPair ≡ pairAt y (home R (m / 9)) (home R (m % 9))
     at m hm (yes e) = rw e (getD-set-same u k q zeroPair (omega (arith, d .size)))
     at m hm (no f) = getD-set-other u k m q zeroPair f ∙ d .done m (omega arith)
 
@@ -184,7 +189,8 @@ pub home-is : (R : ℕ → Bool) (i : ℕ) {a : ℕ} → ((R i ≡ true) × (a �
 home-is R i = ⊎-elim (λ x. x .1 ∙ sym (home-goes R i (x .0))) (λ x. x .1 ∙ sym (home-stays R i (x .0)))
 
 pub reset-next : (R : ℕ → Bool) (y : List Pair) (i j : ℕ) → length y ≡ 81 → i < 9 → j < 9 → {u : List Pair} {a b : ℕ} →
-    u ≡ resetPlaces R y (i * 9 + j) y → a ≡ home R i → b ≡ home R j → set u (i * 9 + j) (getD u (a * 9 + b) zeroPair) ≡ resetPlaces R y (i * 9 + (j + 1)) y
+    u ≡ resetPlaces R y (i * 9 + j) y → a ≡ home R i → b ≡ home R j →
+    set u (i * 9 + j) (getD u (a * 9 + b) zeroPair) ≡ resetPlaces R y (i * 9 + (j + 1)) y
 unfolding resetPlaces pairAt
 reset-next R y i j size hi hj e f g =
     let k = i * 9 + j in

@@ -40,7 +40,8 @@ unfolding emptyIn
 diagonals zero w e a h = absurd (not-suc-le-zero h)
 diagonals (suc n) w e a h = go (λ f g. diagonals n w f a g) (ltZ (entry w n n .m) (pos 0)) refl e (ℕ-discrete a n)
   where
-    go : (emptyIn n w ≡ false → a < n → pos 0 ≤ℤ entry w a a .m) → (t : Bool) → ltZ (entry w n n .m) (pos 0) ≡ t → cond t true (emptyIn n w) ≡ false → Dec (a ≡ n) → pos 0 ≤ℤ entry w a a .m
+    go : (emptyIn n w ≡ false → a < n → pos 0 ≤ℤ entry w a a .m) → (t : Bool) →
+        ltZ (entry w n n .m) (pos 0) ≡ t → cond t true (emptyIn n w) ≡ false → Dec (a ≡ n) → pos 0 ≤ℤ entry w a a .m
     go ih true f g d = true-false g
     go ih false f g (yes q) = rw q (ltZ-false (entry w n n .m) (pos 0) f)
     go ih false f g (no q) = ih g (omega arith)
@@ -51,7 +52,8 @@ live-all zero w h = refl
 live-all (suc n) w h = rw (le-ltZ (entry w n n .m) (pos 0) (h n (omega arith))) (live-all n w (λ a ha. h a (omega arith)))
 
 -- ---- where it stops
-pub after-live : (n k : ℕ) (r : Reduced) → r .empty ≡ false → afterMiddle n k r ≡ record { work = roundSteps n k n (r .work); empty = emptyIn n (roundSteps n k n (r .work)) }
+pub after-live : (n k : ℕ) (r : Reduced) → r .empty ≡ false →
+    afterMiddle n k r ≡ record { work = roundSteps n k n (r .work); empty = emptyIn n (roundSteps n k n (r .work)) }
 unfolding afterMiddle
 after-live n k r e = rw e
 
@@ -82,7 +84,8 @@ alive-round n k w h g l i = round-done w n k h g (l .diagonal k g) (l .size) i
 -- what holds of the zone at the start, and after each round that leaves it not empty, holds while it is not empty
 module _ (n : ℕ) (w : Work) (n≤ : n ≤ 9) (start : Alive n w) where
   pub along : (Q : ℕ → Work → Type 0) → Q 0 w →
-      ((k : ℕ) (v : Work) → k < n → Alive n v → Alive n (roundSteps n k n v) → RoundDone n k n v (roundSteps n k n v) → Q k v → Q (suc k) (roundSteps n k n v)) →
+      ((k : ℕ) (v : Work) → k < n → Alive n v → Alive n (roundSteps n k n v) → RoundDone n k n v (roundSteps n k n v) → Q k v →
+      Q (suc k) (roundSteps n k n v)) →
       (k : ℕ) → k ≤ n → reduceSteps n k w .empty ≡ false → Alive n (reduceSteps n k w .work) × Q k (reduceSteps n k w .work)
   unfolding reduceSteps
   along Q q f zero h e = (start, q)
@@ -92,7 +95,8 @@ module _ (n : ℕ) (w : Work) (n≤ : n ≤ 9) (start : Alive n w) where
       let i = along Q q f k (omega arith) g in
       let a = after-live n k r g in
       let d = alive-round n k (r .work) n≤ h (i .0) n (omega arith) in
-      let z : Alive n (roundSteps n k n (r .work)) = record { size = d .size; diagonal = diagonals n (roundSteps n k n (r .work)) (sym (ap (λ (x : Reduced). x .empty) a) ∙ e) } in
+      let z : Alive n (roundSteps n k n (r .work)) =
+      record { size = d .size; diagonal = diagonals n (roundSteps n k n (r .work)) (sym (ap (λ (x : Reduced). x .empty) a) ∙ e) } in
       subst (λ (x : Reduced). Alive n (x .work) × Q (suc k) (x .work)) (sym a) (z, f k (r .work) h (i .0) z d (i .1))
 
 -- ---- as the code counts: w is the zone after k middle indices

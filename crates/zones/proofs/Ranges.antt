@@ -19,7 +19,21 @@ use Rattle.zones.specs.Fractions.{loweredBy}
 use Rattle.zones.specs.Pairs.{atMost, atLeast, sumOf, smallerOf, thresholdOf}
 use Rattle.zones.specs.Zones.{entry, lowerAt, upperMet}
 use Rattle.zones.specs.Reductions.{relaxed, rowSteps, roundSteps, afterMiddle, reduceSteps}
-use Rattle.zones.specs.Ranges.{Bounded, Narrow, Small, Fits32, Spread, Room, scale, stepCounts, lastCounts, widest, Ready, RoundReady, LimitsReady}
+use Rattle.zones.specs.Ranges.{
+  Bounded,
+  Narrow,
+  Small,
+  Fits32,
+  Spread,
+  Room,
+  scale,
+  stepCounts,
+  lastCounts,
+  widest,
+  Ready,
+  RoundReady,
+  LimitsReady,
+}
 use Rattle.zones.proofs.Choices.{less-shows, not-less-shows, threshold-cases, smaller-cases, lowered-cases}
 use Rattle.zones.proofs.Rounds.{RowDone, row-done, reads-at, reads-to, reads-from, RoundDone, round-done, middle, still, row-skip}
 use Rattle.zones.proofs.Progress.{Alive, along, after-live, after-empty}
@@ -33,7 +47,8 @@ lowered-narrow N D f g h k = lowered-cases f g (Narrow N D) (λ l. k) (λ l. h)
 -- the chosen pair a, whose m is not above b's
 pub threshold-narrow : (N D : ℕ) (a b : Pair) → 0 < N → a .m ≤ℤ b .m → up (b .m) + down (a .m) ≤ N → a .p ≤ D → Narrow N D (thresholdOf a b)
 threshold-narrow N D a b z l h k =
-    threshold-cases a b (Narrow N D) (λ t. record { n = omega (arith, abs-gap (a .m) (b .m) l); d = omega arith }) (λ t. record { n = z; d = omega arith })
+    threshold-cases a b (Narrow N D)
+    (λ t. record { n = omega (arith, abs-gap (a .m) (b .m) l); d = omega arith }) (λ t. record { n = z; d = omega arith })
 
 pub smaller-bounded : (C P : ℕ) (a b : Pair) → Bounded C P a → Bounded C P b → Bounded C P (smallerOf a b .pair)
 smaller-bounded C P a b h k = smaller-cases a b (λ c. Bounded C P (c .pair)) (λ e. k) (λ e. h)
@@ -44,7 +59,8 @@ bounded-spread C P {a} h = record { high = omega (arith, h .m, abs-law (a .m)); 
 module _ (N D C P : ℕ) (room : Room N D C P) where
   pub chosen-narrow : (a b : Pair) → Bounded C P a → Bounded C P b → a .m ≤ℤ b .m → Narrow N D (thresholdOf a b)
   chosen-narrow a b h k l =
-      threshold-narrow N D a b (omega (arith, room .n, room .one)) l (omega (arith, room .n, h .m, k .m, abs-law (a .m), abs-law (b .m))) (omega (arith, room .d, h .p))
+      threshold-narrow N D a b (omega (arith, room .n, room .one)) l
+      (omega (arith, room .n, h .m, k .m, abs-law (a .m), abs-law (b .m))) (omega (arith, room .d, h .p))
 
   pub choice-narrow : (a x y : Pair) → Spread C P 9 a → Spread C P 9 x → Spread C P 9 y → Narrow N D (smallerOf a (sumOf x y) .threshold)
   choice-narrow a x y h k l =
@@ -52,12 +68,16 @@ module _ (N D C P : ℕ) (room : Room N D C P) where
       let v = sum-down x y in
       let c = sum-p x y in
       smaller-cases a (sumOf x y) (λ c. Narrow N D (c .threshold))
-      (λ e. threshold-narrow N D (sumOf x y) a (omega (arith, room .n, room .one)) (less-shows (sumOf x y) a e .0) (omega (arith, room .n)) (omega (arith, room .d)))
-      (λ e. threshold-narrow N D a (sumOf x y) (omega (arith, room .n, room .one)) (not-less-shows a (sumOf x y) e .0) (omega (arith, room .n)) (omega (arith, room .d)))
+      (λ e. threshold-narrow N D (sumOf x y) a (omega (arith, room .n, room .one))
+      (less-shows (sumOf x y) a e .0) (omega (arith, room .n)) (omega (arith, room .d)))
+      (λ e. threshold-narrow N D a (sumOf x y) (omega (arith, room .n, room .one))
+      (not-less-shows a (sumOf x y) e .0) (omega (arith, room .n)) (omega (arith, room .d)))
 
   -- two pairs of a square, or a limit
   pub both-narrow : (a b : Pair) → Bounded C P a → Bounded C P b → Narrow N D (smallerOf a b .threshold)
-  both-narrow a b h k = smaller-cases a b (λ c. Narrow N D (c .threshold)) (λ e. chosen-narrow b a k h (less-shows b a e .0)) (λ e. chosen-narrow a b h k (not-less-shows a b e .0))
+  both-narrow a b h k =
+      smaller-cases a b (λ c. Narrow N D (c .threshold)) (λ e. chosen-narrow b a k h (less-shows b a e .0))
+      (λ e. chosen-narrow a b h k (not-less-shows a b e .0))
 
   -- ---- a round: what its steps read is as it was when it began
   module _ (n k : ℕ) (w : Work) (size : length (w .zone) ≡ 81) (n≤ : n ≤ 9) (k< : k < n) (diagonal : pos 0 ≤ℤ entry w k k .m)
@@ -76,19 +96,33 @@ module _ (N D C P : ℕ) (room : Room N D C P) where
       row = row-done (roundSteps n k i w) k i (omega arith) (omega arith) dv (done .size) j (omega arith)
 
       pub at-small : Spread C P 9 (entry (rowSteps k i j (roundSteps n k i w)) i j)
-      at-small = rw (reads-at (roundSteps n k i w) k i (omega arith) (omega arith) dv j (omega arith) s row, done .rest i j (omega arith) (λ h g. omega arith)) (spread i j i< j<)
+      at-small =
+          rw (
+            reads-at (roundSteps n k i w) k i (omega arith) (omega arith) dv j (omega arith) s row,
+            done .rest i j (omega arith) (λ h g. omega arith),
+          ) (spread i j i< j<)
 
       pub to-small : Spread C P 9 (entry (rowSteps k i j (roundSteps n k i w)) i k)
-      to-small = rw (reads-to (roundSteps n k i w) k i (omega arith) (omega arith) dv j (omega arith) s row, done .rest i k (omega arith) (λ h g. omega arith)) (spread i k i< k<)
+      to-small =
+          rw (
+            reads-to (roundSteps n k i w) k i (omega arith) (omega arith) dv j (omega arith) s row,
+            done .rest i k (omega arith) (λ h g. omega arith),
+          ) (spread i k i< k<)
 
       pub from-small : Spread C P 9 (entry (rowSteps k i j (roundSteps n k i w)) k j)
-      from-small = rw (reads-from (roundSteps n k i w) k i (omega arith) (omega arith) dv j (omega arith) s row, middle w n k n≤ k< diagonal i (omega arith) (roundSteps n k i w) done j j<) (spread k j k< j<)
+      from-small =
+          rw (
+            reads-from (roundSteps n k i w) k i (omega arith) (omega arith) dv j (omega arith) s row,
+            middle w n k n≤ k< diagonal i (omega arith) (roundSteps n k i w) done j j<,
+          ) (spread k j k< j<)
 
-      step-narrow : Narrow N D (rowSteps k i j (roundSteps n k i w) .fraction) → Narrow N D (relaxed k i j (rowSteps k i j (roundSteps n k i w)) .fraction)
+      step-narrow : Narrow N D (rowSteps k i j (roundSteps n k i w) .fraction) →
+          Narrow N D (relaxed k i j (rowSteps k i j (roundSteps n k i w)) .fraction)
       unfolding relaxed lowerAt
       step-narrow h = lowered-narrow N D _ _ h (choice-narrow _ _ _ at-small to-small from-small)
 
-    row-narrow : (i : ℕ) → i < n → Narrow N D (roundSteps n k i w .fraction) → (j : ℕ) → j ≤ n → Narrow N D (rowSteps k i j (roundSteps n k i w) .fraction)
+    row-narrow : (i : ℕ) → i < n → Narrow N D (roundSteps n k i w .fraction) → (j : ℕ) → j ≤ n →
+        Narrow N D (rowSteps k i j (roundSteps n k i w) .fraction)
     unfolding rowSteps
     row-narrow i hi h zero hj = h
     row-narrow i hi h (suc j) hj = step-narrow i j hi hj (row-narrow i hi h j (omega arith))
@@ -110,7 +144,8 @@ module _ (N D C P : ℕ) (room : Room N D C P) where
     alive-at : (k : ℕ) → k ≤ n → reduceSteps n k w .empty ≡ false → Alive n (reduceSteps n k w .work)
     alive-at k h e = along n w n≤ start (λ k v. Unit {0}) tt (λ k v k< a b d q. tt) k h e .0
 
-    pub spread-at : (k : ℕ) → k < n → reduceSteps n k w .empty ≡ false → (a b : ℕ) → a < n → b < n → Spread C P 9 (entry (reduceSteps n k w .work) a b)
+    pub spread-at : (k : ℕ) → k < n → reduceSteps n k w .empty ≡ false → (a b : ℕ) → a < n → b < n →
+        Spread C P 9 (entry (reduceSteps n k w .work) a b)
     spread-at k h e a b ha hb =
         let s = reduce-spread C P n w n≤ start (λ i j hi hj. bounded-spread C P (bounded i j hi hj)) k (omega arith) e a b ha hb in
         let k9 : k + 1 ≤ 9 = omega arith in
@@ -124,7 +159,8 @@ module _ (N D C P : ℕ) (room : Room N D C P) where
         r : Reduced
         r = reduceSteps n k w
 
-        go : (t : Bool) → reduceSteps n k w .empty ≡ t → Narrow N D (reduceSteps n k w .work .fraction) → Narrow N D (afterMiddle n k (reduceSteps n k w) .work .fraction)
+        go : (t : Bool) → reduceSteps n k w .empty ≡ t → Narrow N D (reduceSteps n k w .work .fraction) →
+            Narrow N D (afterMiddle n k (reduceSteps n k w) .work .fraction)
         go true e q = rw (after-empty n k r e) q
         go false e q =
             let a = alive-at k (omega arith) e in
@@ -164,7 +200,8 @@ unfolding upperMet
 upper-ready b lo hi absent r e = record {
   upper = smaller-bounded scale stepCounts (b .upper) (atMost hi) (r .upper) (most-bounded hi (r .hi≤ e));
   lower = r .lower;
-  fraction = lowered-narrow widest widest _ _ (r .fraction) (both-narrow widest widest scale stepCounts here (b .upper) (atMost hi) (r .upper) (most-bounded hi (r .hi≤ e)));
+  fraction = lowered-narrow widest widest _ _ (r .fraction)
+      (both-narrow widest widest scale stepCounts here (b .upper) (atMost hi) (r .upper) (most-bounded hi (r .hi≤ e)));
   lo≤ = r .lo≤;
   hi≤ = λ z. omega arith;
 }
@@ -192,26 +229,30 @@ pub record TurnReady (s : Work) (k i j : ℕ) : Type 0 where
   pub from : Spread scale stepCounts 9 (entry s k j)
   pub fraction : Fits32 (s .fraction)
 
-pub turn-ready : (n k : ℕ) (w : Work) → length (w .zone) ≡ 81 → RoundReady w n k → (i j : ℕ) → i < n → j < n → (v s : Work) → v ≡ roundSteps n k i w → s ≡ rowSteps k i j v → TurnReady s k i j
+pub turn-ready : (n k : ℕ) (w : Work) → length (w .zone) ≡ 81 → RoundReady w n k → (i j : ℕ) →
+    i < n → j < n → (v s : Work) → v ≡ roundSteps n k i w → s ≡ rowSteps k i j v → TurnReady s k i j
 turn-ready n k w size r i j hi hj v s e g =
     subst (λ (x : Work). TurnReady x k i j) (sym (g ∙ ap (rowSteps k i j) e)) (record {
       at = at-small widest widest scale stepCounts here n k w size (r .n≤) (r .k<) (r .diagonal) (r .spread) i j hi hj;
       to = to-small widest widest scale stepCounts here n k w size (r .n≤) (r .k<) (r .diagonal) (r .spread) i j hi hj;
       from = from-small widest widest scale stepCounts here n k w size (r .n≤) (r .k<) (r .diagonal) (r .spread) i j hi hj;
-      fraction = inside-narrow widest widest scale stepCounts here n k w size (r .n≤) (r .k<) (r .diagonal) (r .spread) (r .fraction) i j hi (omega arith);
+      fraction =
+          inside-narrow widest widest scale stepCounts here n k w size (r .n≤) (r .k<) (r .diagonal) (r .spread) (r .fraction) i j hi (omega arith);
     })
 
 pub turn-narrow : (s : Work) (k i j : ℕ) → TurnReady s k i j → Fits32 (smallerOf (entry s i j) (sumOf (entry s i k) (entry s k j)) .threshold)
 turn-narrow s k i j t = choice-narrow widest widest scale stepCounts here _ _ _ (t .at) (t .to) (t .from)
 
 -- ---- in the reduction of w: what its loops ask, v being the zone after k middle indices
-module _ (n : ℕ) (w : Work) (size : length (w .zone) ≡ 81) (r : Ready w n) (k : ℕ) (v : Work) (k< : k < n) (e : reduceSteps n k w ≡ record { work = v; empty = false }) where
+module _ (n : ℕ) (w : Work) (size : length (w .zone) ≡ 81) (r : Ready w n) (k : ℕ) (v : Work) (k< : k < n)
+    (e : reduceSteps n k w ≡ record { work = v; empty = false }) where
   ready : RoundReady v n k
   ready = round-ready n w size r k v k< e
 
   long : length (v .zone) ≡ 81
   long = subst (λ (x : Reduced). length (x .work .zone) ≡ 81) e
-      (alive-at widest widest scale stepCounts here n w (r .n≤) (record { size = size; diagonal = r .diagonal }) (r .bounded) k (omega arith) (ap (λ (x : Reduced). x .empty) e) .size)
+      (alive-at widest widest scale stepCounts here n w (r .n≤)
+      (record { size = size; diagonal = r .diagonal }) (r .bounded) k (omega arith) (ap (λ (x : Reduced). x .empty) e) .size)
 
   pub turn-of : (i j : ℕ) → i < n → j < n → (u s : Work) → u ≡ roundSteps n k i v → s ≡ rowSteps k i j u → TurnReady s k i j
   turn-of = turn-ready n k v long ready

@@ -55,21 +55,27 @@ relaxed-is w k i j x ch f e g h =
 
 -- where the way x through k is not the smaller, the square stays
 module _ (w : Work) (k i j : ℕ) (x : Pair) (f : Fraction) (e : x ≡ sumOf (entry w i k) (entry w k j)) where
-  pub relaxed-old : isLess x (entry w i j) ≡ false → f ≡ loweredBy (w .fraction) (thresholdOf (entry w i j) x) → record { zone = w .zone; fraction = f } ≡ relaxed k i j w
+  pub relaxed-old : isLess x (entry w i j) ≡ false → f ≡ loweredBy (w .fraction) (thresholdOf (entry w i j) x) →
+      record { zone = w .zone; fraction = f } ≡ relaxed k i j w
   unfolding pairAt
-  relaxed-old l g = ap (λ (z : List Pair). record { zone = z; fraction = f }) (sym (set-getD (w .zone) (i * 9 + j) zeroPair)) ∙ relaxed-is w k i j x _ f e (smaller-old (entry w i j) x _ l refl) g
+  relaxed-old l g =
+      ap (λ (z : List Pair). record { zone = z; fraction = f }) (sym (set-getD (w .zone) (i * 9 + j) zeroPair))
+      ∙ relaxed-is w k i j x _ f e (smaller-old (entry w i j) x _ l refl) g
 
   -- as the code sees it: the pair chosen is not below the one there
-  pub relaxed-stays : (ch : Choice) → ch ≡ smallerOf (entry w i j) x → f ≡ loweredBy (w .fraction) (ch .threshold) → isLess (ch .pair) (entry w i j) ≡ false → record { zone = w .zone; fraction = f } ≡ relaxed k i j w
+  pub relaxed-stays : (ch : Choice) → ch ≡ smallerOf (entry w i j) x → f ≡ loweredBy (w .fraction) (ch .threshold) →
+      isLess (ch .pair) (entry w i j) ≡ false → record { zone = w .zone; fraction = f } ≡ relaxed k i j w
   relaxed-stays ch g h l =
       let o = smaller-stays (entry w i j) x (subst (λ (c : Choice). isLess (c .pair) (entry w i j) ≡ false) g l) in
       relaxed-old o (h ∙ ap (λ (c : Choice). loweredBy (w .fraction) (c .threshold)) (g ∙ sym (smaller-old (entry w i j) x _ o refl)))
 
 -- a comparison without a threshold that the entry there wins changes nothing
-still-step : (w : Work) (k i j : ℕ) → entry w i j ≼ sumOf (entry w i k) (entry w k j) → entry w i j .p ≤ sumOf (entry w i k) (entry w k j) .p → relaxed k i j w ≡ w
+still-step : (w : Work) (k i j : ℕ) → entry w i j ≼ sumOf (entry w i k) (entry w k j) → entry w i j .p ≤ sumOf (entry w i k) (entry w k j) .p →
+    relaxed k i j w ≡ w
 still-step w k i j l p =
     let x = sumOf (entry w i k) (entry w k j) in
-    sym (relaxed-old w k i j x (w .fraction) refl (l .kept) (lowered-none (w .fraction) (thresholdOf (entry w i j) x) (sym (ap (λ (g : Fraction). g .d) (threshold-none (entry w i j) x p)))))
+    sym (relaxed-old w k i j x (w .fraction) refl (l .kept)
+    (lowered-none (w .fraction) (thresholdOf (entry w i j) x) (sym (ap (λ (g : Fraction). g .d) (threshold-none (entry w i j) x p)))))
 
 -- ---- the middle index's row and column stay
 module _ (w : Work) (k : ℕ) (diagonal : pos 0 ≤ℤ entry w k k .m) where
@@ -139,7 +145,9 @@ module _ (w : Work) (k i : ℕ) (k< : k < 9) (i< : i < 9) (diagonal : pos 0 ≤�
     }
       where
         go : (b : ℕ) → b < suc j → Dec (b ≡ j) → entry (relaxed k i j s) i b ≡ chosen k i b w .pair
-        go b h (yes e) = subst (λ (x : ℕ). entry (relaxed k i j s) i x ≡ chosen k i x w .pair) (sym e) (relaxed-at s k i j (d .size) i< j< ∙ ap (λ (c : Choice). c .pair) row-same)
+        go b h (yes e) =
+            subst (λ (x : ℕ). entry (relaxed k i j s) i x ≡ chosen k i x w .pair) (sym e)
+            (relaxed-at s k i j (d .size) i< j< ∙ ap (λ (c : Choice). c .pair) row-same)
         go b h (no f) = relaxed-off s k i j (d .size) i b (omega arith) j< (λ e g. f g) ∙ d .done b (omega arith)
 
   pub row-done : length (w .zone) ≡ 81 → (j : ℕ) → j ≤ 9 → RowDone k i j w (rowSteps k i j w)
@@ -183,7 +191,8 @@ module _ (w : Work) (n k : ℕ) (n≤ : n ≤ 9) (k< : k < n) (diagonal : pos 0 
     }
       where
         go : (a b : ℕ) → a < suc i → b < n → Dec (a ≡ i) → entry t a b ≡ chosen k a b w .pair
-        go a b h hb (yes e) = subst (λ (x : ℕ). entry t x b ≡ chosen k x b w .pair) (sym e) (r .done b hb ∙ ap (λ (c : Choice). c .pair) (round-same b hb))
+        go a b h hb (yes e) =
+            subst (λ (x : ℕ). entry t x b ≡ chosen k x b w .pair) (sym e) (r .done b hb ∙ ap (λ (c : Choice). c .pair) (round-same b hb))
         go a b h hb (no f) = r .rest a b (omega arith) (λ e g. f e) ∙ d .done a b (omega arith) hb
 
   pub round-done : length (w .zone) ≡ 81 → (i : ℕ) → i ≤ n → RoundDone n k i w (roundSteps n k i w)
@@ -200,7 +209,8 @@ unfolding roundSteps
 row-all n k i w {v = v} e f g = rw add-one (f ∙ ap (λ (x : ℕ). rowSteps k i x v) e ∙ ap (rowSteps k i n) g)
 
 -- row k itself
-pub row-skip : (n k i : ℕ) (w : Work) {u : Work} → n ≤ 9 → k < n → i ≡ k → pos 0 ≤ℤ entry w k k .m → length (w .zone) ≡ 81 → u ≡ roundSteps n k i w → u ≡ roundSteps n k (i + 1) w
+pub row-skip : (n k i : ℕ) (w : Work) {u : Work} → n ≤ 9 → k < n → i ≡ k → pos 0 ≤ℤ entry w k k .m → length (w .zone) ≡ 81 → u ≡ roundSteps n k i w →
+    u ≡ roundSteps n k (i + 1) w
 unfolding roundSteps
 row-skip n k i w n≤ k< e d size g =
     let s = roundSteps n k i w in

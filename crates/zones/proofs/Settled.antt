@@ -28,7 +28,8 @@ use Rattle.zones.proofs.Thresholds.{value-law, value-sum}
 
 -- ---- a threshold at or above the running fraction
 -- the value of a is not above that of b: so the error is not above the threshold
-gap-at : (s e : ℕ) (a b : Pair) (d n : ℕ) → d + b .p ≡ a .p → n + (up (a .m) + down (b .m)) ≡ up (b .m) + down (a .m) → valueOf s e a ≤ℤ valueOf s e b → e * d ≤ n * s
+gap-at : (s e : ℕ) (a b : Pair) (d n : ℕ) → d + b .p ≡ a .p →
+    n + (up (a .m) + down (b .m)) ≡ up (b .m) + down (a .m) → valueOf s e a ≤ℤ valueOf s e b → e * d ≤ n * s
 gap-at s e a b d n g f l = omega (arith, le-read l, value-law s e a, value-law s e b, ap (λ (x : ℕ). x * s) f, ap (λ (x : ℕ). x * e) g)
 
 -- a is at most b in value at every error below n/d: then the threshold t/u of choosing a is not below n/d. Else the error (t + n)/(u + d)
@@ -50,14 +51,16 @@ threshold-late f a b l h = threshold-cases a b (λ g. f .n * g .d ≤ g .n * f .
     late q =
         let t = natAbs (b .m -ℤ a .m) in
         let u = a .p - b .p in
-        between (f .n) (f .d) t u (λ r. gap-at (u + f .d) (t + f .n) a b u t (omega arith) (abs-gap (a .m) (b .m) l) (h (u + f .d) (t + f .n) (omega arith) r))
+        between (f .n) (f .d) t u
+        (λ r. gap-at (u + f .d) (t + f .n) a b u t (omega arith) (abs-gap (a .m) (b .m) l) (h (u + f .d) (t + f .n) (omega arith) r))
 
 -- so it lowers nothing
 pub lowered-late : (f : Fraction) (a b : Pair) → a .m ≤ℤ b .m → AtMost f a b → f ≡ loweredBy f (thresholdOf a b)
 lowered-late f a b l h = lowered-old f (thresholdOf a b) (threshold-late f a b l h)
 
 -- ---- a comparison that follows
-pub relaxed-follows : (w : Work) (k i j : ℕ) → isLess (sumOf (entry w i k) (entry w k j)) (entry w i j) ≡ false → AtMost (w .fraction) (entry w i j) (sumOf (entry w i k) (entry w k j)) → relaxed k i j w ≡ w
+pub relaxed-follows : (w : Work) (k i j : ℕ) → isLess (sumOf (entry w i k) (entry w k j)) (entry w i j) ≡ false →
+    AtMost (w .fraction) (entry w i j) (sumOf (entry w i k) (entry w k j)) → relaxed k i j w ≡ w
 relaxed-follows w k i j l h =
     let x = sumOf (entry w i k) (entry w k j) in
     sym (relaxed-old w k i j x (w .fraction) refl l (lowered-late (w .fraction) (entry w i j) x (not-less-shows (entry w i j) x l .0) h))
@@ -73,7 +76,8 @@ module _ (n : ℕ) (w : Work) (h : Settled n w) where
     pub falls : (s e : ℕ) (s> : 0 < s) → Falls s e s> n w v
 
   -- a comparison whose two summands are as they were changes nothing, also where the entry itself was lowered
-  pub clean : (v : Work) → Lowered v → (k i j : ℕ) → k < n → i < n → j < n → entry v i k ≡ entry w i k → entry v k j ≡ entry w k j → relaxed k i j v ≡ v
+  pub clean : (v : Work) → Lowered v → (k i j : ℕ) → k < n → i < n → j < n → entry v i k ≡ entry w i k → entry v k j ≡ entry w k j →
+      relaxed k i j v ≡ v
   clean v l k i j hk hi hj e g =
       let x : sumOf (entry v i k) (entry v k j) ≡ sumOf (entry w i k) (entry w k j) = λ t. sumOf (e t) (g t) in
       let o : entry v i j ≼ sumOf (entry w i k) (entry w k j) = ≼-trans (l .order i j hi hj) (record { kept = h .pairs k i j hk hi hj }) in
@@ -86,7 +90,8 @@ module _ (n : ℕ) (w : Work) (h : Settled n w) where
 
   -- ---- so a settled zone stays
   settled-relaxed : (k i j : ℕ) → k < n → i < n → j < n → relaxed k i j w ≡ w
-  settled-relaxed k i j hk hi hj = clean w (record { order = λ a b ha hb. ≼-refl (entry w a b); falls = λ s e s>. falls-refl s e s> n w }) k i j hk hi hj refl refl
+  settled-relaxed k i j hk hi hj =
+      clean w (record { order = λ a b ha hb. ≼-refl (entry w a b); falls = λ s e s>. falls-refl s e s> n w }) k i j hk hi hj refl refl
 
   settled-row : (k i : ℕ) → k < n → i < n → (j : ℕ) → j ≤ n → rowSteps k i j w ≡ w
   unfolding rowSteps
@@ -110,5 +115,6 @@ module _ (n : ℕ) (w : Work) (h : Settled n w) where
       ∙ (λ t. record { work = settled-round k hk n (omega arith) t; empty = (ap (emptyIn n) (settled-round k hk n (omega arith)) ∙ settled-live) t })
 
   -- at a lower running fraction it is settled too
-  pub settled-later : (f : Fraction) → ((s e : ℕ) → 0 < s → Below s e f → Below s e (w .fraction)) → Settled n (record { zone = w .zone; fraction = f })
+  pub settled-later : (f : Fraction) → ((s e : ℕ) → 0 < s → Below s e f → Below s e (w .fraction)) →
+      Settled n (record { zone = w .zone; fraction = f })
   settled-later f g = record { size = h .size; diagonal = h .diagonal; pairs = h .pairs; values = λ s e s> t. h .values s e s> (g s e s> t) }

@@ -47,7 +47,8 @@ reset-settled n n≤ R w h =
     record {
       size = r .size;
       diagonal = λ a ha. r .at a a ha (omega arith) ∙ h .diagonal (home R a) (hb a ha);
-      pairs = λ k a b hk ha hx. rw (r .at a k ha (omega arith), r .at k b hk (omega arith), r .at a b ha (omega arith)) (h .pairs (home R k) (home R a) (home R b) (hb k hk) (hb a ha) (hb b hx));
+      pairs = λ k a b hk ha hx. rw (r .at a k ha (omega arith), r .at k b hk (omega arith), r .at a b ha (omega arith))
+          (h .pairs (home R k) (home R a) (home R b) (hb k hk) (hb a ha) (hb b hx));
       values = λ s e s> t k a b hk ha hx. rw (r .at a k ha (omega arith), r .at k b hk (omega arith), r .at a b ha (omega arith))
           (h .values s e s> (subst (Below s e) (r .fraction) t) (home R k) (home R a) (home R b) (hb k hk) (hb a ha) (hb b hx));
     }
@@ -68,7 +69,8 @@ first-settled n n≤ =
     }
 
 -- ---- limits that lower no entry
-pub limits-settled : (c : ℕ) → suc c ≤ 9 → (L : Limits) (w : Work) → Settled (suc c) w → meetLimits L c w .zone ≡ w .zone → Settled (suc c) (meetLimits L c w)
+pub limits-settled : (c : ℕ) → suc c ≤ 9 → (L : Limits) (w : Work) → Settled (suc c) w → meetLimits L c w .zone ≡ w .zone →
+    Settled (suc c) (meetLimits L c w)
 limits-settled c n≤ L w h e =
     subst (λ (z : List Pair). Settled (suc c) (record { zone = z; fraction = meetLimits L c w .fraction })) (sym e)
     (settled-later (suc c) w h (meetLimits L c w .fraction) (λ s e s>. met-falls s e s> (suc c) n≤ L w (h .size) c (omega arith) .before))

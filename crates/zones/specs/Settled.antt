@@ -17,7 +17,8 @@ pub record Settled (n : ℕ) (w : Work) : Type 0 where
   pub size : length (w .zone) ≡ 81
   pub diagonal : (a : ℕ) → a < n → entry w a a ≡ zeroPair
   pub pairs : (k a b : ℕ) → k < n → a < n → b < n → isLess (sumOf (entry w a k) (entry w k b)) (entry w a b) ≡ false
-  pub values : (s e : ℕ) → 0 < s → Below s e (w .fraction) → (k a b : ℕ) → k < n → a < n → b < n → Way (squareOf s e w a b) (squareOf s e w a k) (squareOf s e w k b)
+  pub values : (s e : ℕ) → 0 < s → Below s e (w .fraction) → (k a b : ℕ) → k < n → a < n → b < n →
+      Way (squareOf s e w a b) (squareOf s e w a k) (squareOf s e w k b)
 
 -- v is w with column 0 raised: "put each (clock, 0) to (hi, 1)"
 pub record Raised (n : ℕ) (w v : Work) : Type 0 where

@@ -1,4 +1,5 @@
--- "A zone has a pair for each (a, b) among 0 and the clocks, bounding a − b." A zone at work is the square, nine pairs to a row, with the running fraction.
+-- "A zone has a pair for each (a, b) among 0 and the clocks, bounding a − b." A zone at work is the square, nine pairs to a row, with the
+-- running fraction.
 use Prim.Native.Nat.{ℕ, zero, suc, _+_, _*_, _/_, _%_}
 use mathlib.Core.Bool.{Bool, true, false, cond}
 use mathlib.Core.List.{List}
@@ -20,7 +21,8 @@ entry w a b = pairAt (w .zone) a b
 unfoldable pub firstWork : Work
 firstWork = record { zone = replicate 81 zeroPair; fraction = noLimit }
 
--- one comparison: entry (i, j) becomes the smaller of itself and q, and the threshold lowers the fraction. Meeting a limit and a step of the reduction are both this
+-- one comparison: entry (i, j) becomes the smaller of itself and q, and the threshold lowers the fraction. Meeting a limit and a step of
+-- the reduction are both this
 unfoldable pub lowerAt : ℕ → ℕ → Pair → Work → Work
 lowerAt i j q w =
     record {

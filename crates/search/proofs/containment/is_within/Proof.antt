@@ -23,21 +23,25 @@ loop-holds c = (omega arith, refl)
 returns : tie.Need-returns Inv-loop μ-loop
 returns c =
     let loop = c .before .before .before .before in
-    stops-m _ _ (loop .loop .t) (record { sfits = c .before .before .if12 .given }) (record { sfits = c .before .if13 .given }) _ (omega arith) (c .if1 .taken)
+    stops-m _ _ (loop .loop .t) (record { sfits = c .before .before .if12 .given })
+    (record { sfits = c .before .if13 .given }) _ (omega arith) (c .if1 .taken)
 
 returns-2 : tie.Need-returns-2 Inv-loop μ-loop
 returns-2 c =
     let two = c .before .before .before in
     let loop = two .before .before .before .before .before .before .before in
-    stops-p _ _ (loop .loop .t) (record { sfits = two .before .before .if22 .given }) (record { sfits = two .before .if23 .given }) _ (omega arith) (two .if2 .taken) (record { sfits = c .before .before .if32 .given }) (record { sfits = c .before .if33 .given }) (c .if3 .taken)
+    stops-p _ _ (loop .loop .t) (record { sfits = two .before .before .if22 .given }) (record { sfits = two .before .if23 .given }) _
+    (omega arith) (two .if2 .taken) (record { sfits = c .before .before .if32 .given }) (record { sfits = c .before .if33 .given }) (c .if3 .taken)
 
 loop-again : tie.Need-loop-again Inv-loop μ-loop
 loop-again c =
     let one = c .before .before .before in
     let loop = one .before .before .before .before in (
       omega arith,
-      ⊎-elim (λ w. goes-p _ _ (loop .loop .t) (record { sfits = c .before .before .if22 .given }) (record { sfits = c .before .if23 .given }) (w .0 .taken) (record { sfits = w .1 .given }) (record { sfits = w .2 .given }) (w .3 .left) (loop .loop .inv .1))
-          (λ w. goes-m _ _ (loop .loop .t) (record { sfits = c .before .before .if22 .given }) (record { sfits = c .before .if23 .given }) (one .if1 .left) (w .left) (loop .loop .inv .1)) (c .if2 .came),
+      ⊎-elim (λ w. goes-p _ _ (loop .loop .t) (record { sfits = c .before .before .if22 .given }) (record { sfits = c .before .if23 .given })
+          (w .0 .taken) (record { sfits = w .1 .given }) (record { sfits = w .2 .given }) (w .3 .left) (loop .loop .inv .1))
+          (λ w. goes-m _ _ (loop .loop .t) (record { sfits = c .before .before .if22 .given })
+          (record { sfits = c .before .if23 .given }) (one .if1 .left) (w .left) (loop .loop .inv .1)) (c .if2 .came),
     )
 
 returns-3 : tie.Need-returns-3 Inv-loop μ-loop

@@ -39,7 +39,8 @@ fits c =
     let pairs = c .before in (
       turn .before .loop .inv .2,
       rw (c .threshold .ensures)
-          (turn-threshold _ _ _ _ (pairs .before .get-pair .ensures) (pairs .get-pair2 .ensures) (turn .before .before .pre) (turn .loop-test .taken)),
+          (turn-threshold _ _ _ _ (pairs .before .get-pair .ensures)
+          (pairs .get-pair2 .ensures) (turn .before .before .pre) (turn .loop-test .taken)),
     )
 
 lowered-in-place-requires : tie.Need-lowered-in-place-requires Inv-loop μ-loop

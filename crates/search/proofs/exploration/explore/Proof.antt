@@ -33,28 +33,41 @@ module _ (c : tie.After-first) where
   automaton = entry .args .automaton .now
 
   slots≡ : c .before .before .before .slots-of .result ≡ capacityOf (suc (clocks automaton)) (length (entry .args .store .now))
-  slots≡ = c .before .before .before .slots-of .ensures ∙ ap (λ (n : ℕ). capacityOf n (length (entry .args .store .now))) (one-more (c .before .before .before .before .clocks .ensures))
+  slots≡ =
+      c .before .before .before .slots-of .ensures
+      ∙ ap (λ (n : ℕ). capacityOf n (length (entry .args .store .now))) (one-more (c .before .before .before .before .clocks .ensures))
 
   -- what arrives is the definition's first zone
-  arrived : arrivalOf automaton (c .before .before .start .result) (setOf (replicate 9 false)) (c .first .result) ≡ enterOf (clocks automaton) (invariantOf automaton (start automaton)) firstWork
-  arrived = (λ i. enterOf (clocks automaton) (invariantOf automaton (c .before .before .start .ensures i)) ((reset-none (suc (clocks automaton)) (setOf (replicate 9 false)) none-reset (c .first .result) ∙ c .first .ensures) i))
+  arrived : arrivalOf automaton (c .before .before .start .result) (setOf (replicate 9 false)) (c .first .result)
+      ≡ enterOf (clocks automaton) (invariantOf automaton (start automaton)) firstWork
+  arrived =
+      (λ i. enterOf (clocks automaton) (invariantOf automaton (c .before .before .start .ensures i))
+      ((reset-none (suc (clocks automaton)) (setOf (replicate 9 false)) none-reset (c .first .result) ∙ c .first .ensures) i))
 
 arrive-requires : tie.Need-arrive-requires
 arrive-requires c κs =
     let a = entry c .pre in (
       (a, rw (c .before .before .start .ensures) (a .start<), blank-progress a _ (slots≡ c)),
-      (rw (c .first .ensures) (first-sized (10 * counts) _ (n≤ _ a), first-settled _ (n≤ _ a)), subst (SoundResult _) (sym (arrived c)) (start-sound _ a)),
+      (
+        rw (c .first .ensures) (first-sized (10 * counts) _ (n≤ _ a), first-settled _ (n≤ _ a)),
+        subst (SoundResult _) (sym (arrived c)) (start-sound _ a),
+      ),
     )
 
 -- ---- after the first offer
-offered : (c : tie.After-arrive) → Begun (automaton (c .before)) (c .before .before .before .before .slots-of .result) (entry (c .before) .args .store .now) (c .arrive .last .1 .0) (c .arrive .result)
-offered c = begun (entry (c .before) .pre) _ (slots≡ (c .before)) refl (gives-of _ _ _ _ _ _ (c .before .before .before .start .ensures) (arrived (c .before)) (c .arrive .ensures))
+offered : (c : tie.After-arrive) →
+    Begun (automaton (c .before)) (c .before .before .before .before .slots-of .result) (entry (c .before) .args .store .now)
+    (c .arrive .last .1 .0) (c .arrive .result)
+offered c =
+    begun (entry (c .before) .pre) _ (slots≡ (c .before)) refl
+    (gives-of _ _ _ _ _ _ (c .before .before .before .start .ensures) (arrived (c .before)) (c .arrive .ensures))
 
 returns : tie.Need-returns
 returns c = offered (c .before .before .before) .stops (c .if1 .taken)
 
 take-requires : tie.Need-take-requires
-take-requires c κs = (entry (c .before .before .before .before .before) .pre, offered (c .before .before .before .before) .goes-on (c .before .if1 .left))
+take-requires c κs =
+    (entry (c .before .before .before .before .before) .pre, offered (c .before .before .before .before) .goes-on (c .before .if1 .left))
 
 returns-2 : tie.Need-returns-2
 returns-2 c = offered (c .before .before .before .before .before .before) .rest (c .before .before .before .if1 .left) (c .before .take .ensures)

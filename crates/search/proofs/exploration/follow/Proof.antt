@@ -25,7 +25,9 @@ narrow-requires c κs =
     let start = c .before .before .before in
     let a = start .pre .0 .0 in
     let hi = start .pre .0 .1 in
-    let q = asks-limits _ _ (ap (λ x. x + 3) (c .before .edge-at .ensures)) (c .clocks .ensures) (a .complete .clocks≤) (omega (arith, edge-within _ (a .complete) _ hi)) (guard-scale _ a _ hi) (omega arith) (taken-sized _ a _ hi _ (start .pre .1 .1) (start .pre .1 .2)) in
+    let q = asks-limits _ _ (ap (λ x. x + 3) (c .before .edge-at .ensures)) (c .clocks .ensures) (a .complete .clocks≤)
+    (omega (arith, edge-within _ (a .complete) _ hi)) (guard-scale _ a _ hi) (omega arith)
+    (taken-sized _ a _ hi _ (start .pre .1 .1) (start .pre .1 .2)) in
     (a, (q .0, (q .1, λ e. true-false (sym e))))
 
 -- ---- the guard met
@@ -61,7 +63,8 @@ returns-2 c =
     let a = pre .0 .0 in
     let hi = pre .0 .1 in
     let live = c .before .before .before .before .if1 .left in
-    gives-of _ _ _ _ _ _ (edge-to _ a _ hi _ (pre .1 .1) (pre .1 .2) (met guard) live (pre .0 .2)) (follows _ a _ hi _ (pre .1 .1) (pre .1 .2) (met guard) live (pre .0 .2)) (c .before .arrive .ensures)
+    gives-of _ _ _ _ _ _ (edge-to _ a _ hi _ (pre .1 .1) (pre .1 .2) (met guard) live (pre .0 .2))
+    (follows _ a _ hi _ (pre .1 .1) (pre .1 .2) (met guard) live (pre .0 .2)) (c .before .arrive .ensures)
 
 pub follow-spec : {M : Type 1} → statement M
 follow-spec =

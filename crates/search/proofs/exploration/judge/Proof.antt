@@ -5,7 +5,19 @@ use mathlib.Core.Path.{_≡_, ap}
 use lib.ListN.{length}
 use native.Mathlib.Omega.{arith}
 use Rattle.search.specs.Slots.{slotLength}
-use Rattle.search.proofs.Judging.{Entered, asks-encode, asks-find, asks-largest, slot-within, next-within, asks-lowered, gives-inside, gives-big, gives-full, gives-kept}
+use Rattle.search.proofs.Judging.{
+  Entered,
+  asks-encode,
+  asks-find,
+  asks-largest,
+  slot-within,
+  next-within,
+  asks-lowered,
+  gives-inside,
+  gives-big,
+  gives-full,
+  gives-kept,
+}
 use Rattle.search.proofs.Stepping.{one-more}
 use borrow.Author.Needs.{needs}
 use Rattle.search.proofs.exploration.judge.Statement.{statement}
@@ -16,7 +28,8 @@ module _ (c : tie.After-clocks) where
   abbrev start : tie.Start
   start = c .before .before
 
-  entered : Entered (start .args .automaton .now) (start .args .l) (start .args .w) (start .args .slots) (start .args .count) (start .args .store .now) (c .clocks .result + 1)
+  entered : Entered (start .args .automaton .now) (start .args .l) (start .args .w)
+      (start .args .slots) (start .args .count) (start .args .store .now) (c .clocks .result + 1)
   entered = record {
     accepted = start .pre .0 .0;
     location = start .pre .0 .1;
@@ -45,10 +58,12 @@ find-requires c κs = asks-find (entered (c .before .before .before .before .bef
 
 -- ---- a kept slot contains it
 module _ (c : tie.Then1) where
-  slot-inside : c .before .find .result * amount (c .before) .slot-length .result + slotLength (counted (c .before) .clocks .result + 1) ≤ length (start (counted (c .before)) .args .store .now)
+  slot-inside : c .before .find .result * amount (c .before) .slot-length .result + slotLength (counted (c .before) .clocks .result + 1)
+      ≤ length (start (counted (c .before)) .args .store .now)
   slot-inside = slot-within (entered (counted (c .before))) (amount (c .before) .slot-length .ensures) (c .if1 .taken)
 
-  place≡ : c .before .find .result * amount (c .before) .slot-length .result ≡ c .before .find .result * slotLength (counted (c .before) .clocks .result + 1)
+  place≡ : c .before .find .result * amount (c .before) .slot-length .result
+      ≡ c .before .find .result * slotLength (counted (c .before) .clocks .result + 1)
   place≡ = ap (λ (x : ℕ). c .before .find .result * x) (amount (c .before) .slot-length .ensures)
 
 mul-at : tie.Need-mul-at
@@ -98,7 +113,8 @@ module _ (c : tie.Then3) where
   abbrev last : tie.After-find
   last = find (c .before .before)
 
-  next-inside : start (counted last) .args .count * amount last .slot-length .result + slotLength (counted last .clocks .result + 1) ≤ length (start (counted last) .args .store .now)
+  next-inside : start (counted last) .args .count * amount last .slot-length .result + slotLength (counted last .clocks .result + 1)
+      ≤ length (start (counted last) .args .store .now)
   next-inside = next-within (entered (counted last)) (amount last .slot-length .ensures) (c .if3 .taken)
 
 mul-keep : tie.Need-mul-keep

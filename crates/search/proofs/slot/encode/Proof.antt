@@ -38,7 +38,8 @@ loop-again c =
       omega arith,
       omega arith,
       ⊎-elim (λ w. w .5 ∙ counts-in _ _ (l .inv .2) (w .0 .taken)) (λ w. w .2 ∙ counts-out _ _ (l .inv .2) (w .0 .left)) (c .if1 .came),
-      ⊎-elim (λ w. w .4 ∙ w .3 .ensures ∙ encode-in _ _ _ (l .at) (w .0 .taken) (few _ _ (l .inv .2) (omega arith) (omega arith) (w .0 .taken) .1) (l .inv .2) (l .inv .3))
+      ⊎-elim (λ w. w .4 ∙ w .3 .ensures
+          ∙ encode-in _ _ _ (l .at) (w .0 .taken) (few _ _ (l .inv .2) (omega arith) (omega arith) (w .0 .taken) .1) (l .inv .2) (l .inv .3))
           (λ w. w .1 ∙ encode-out _ _ _ (l .at) (w .0 .left) (l .inv .3)) (c .if1 .came),
     )
 

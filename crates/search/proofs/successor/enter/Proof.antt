@@ -1,15 +1,17 @@
 -- `enter` meets its contract: the reset, the invariant met at arrival, the wait, and the invariant met again, each on a zone in range.
 -- Assumes nothing.
-use Prim.Native.Nat.{ℕ, suc, _*_}
+use Prim.Native.Nat.{ℕ, suc, _+_, _*_, _≤_}
 use mathlib.Core.Path.{_≡_, sym, ap, _∙_, subst}
+use lib.ListN.{length}
 use native.Mathlib.Omega.{arith}
-use Rattle.zones.specs.Ranges.{Sized, counts}
+use Rattle.zones.specs.Ranges.{Sized, OnScale, counts, scale, stepCounts}
 use Rattle.zones.specs.Settled.{Settled}
 use Rattle.zones.specs.Successors.{enterOf}
 use Rattle.zones.specs.Zones.{setOf, resetOf}
-use Rattle.search.specs.Automata.{clocks, invariantOf}
+use Rattle.search.specs.Automata.{clocks, limitsAt, invariantOf}
 use Rattle.search.proofs.Places.{invariant-within}
-use Rattle.search.proofs.Stepping.{one-more, meets, raises, asks-limits, reset-is, reset-enters, raised-ready, raised-lifted, entered-none, entered, invariant-scale}
+use Rattle.search.proofs.Stepping.{one-more, meets, raises, asks-limits, reset-is, reset-enters, raised-ready, raised-lifted}
+use Rattle.search.proofs.Stepping.{entered-none, entered, invariant-scale}
 use borrow.Author.Needs.{needs}
 use Rattle.search.proofs.successor.enter.Statement.{statement}
 use Rattle.search.proofs.successor.enter.Tie as tie
@@ -22,36 +24,43 @@ module _ (c : tie.After-reset) where
   abbrev size≡ : c .before .before .clocks .result ≡ clocks (start .args .automaton .now)
   size≡ = c .before .before .clocks .ensures
 
-  cleared : c .reset .result ≡ resetOf (suc (clocks (start .args .automaton .now))) (setOf (start .args .resets)) (start .args .w)
-  cleared = reset-is _ (start .pre .0 .0 .complete .clocks≤) _ (one-more size≡) (10 * counts) (omega arith) (omega arith) _ (c .reset .ensures)
+  n≤ : clocks (start .args .automaton .now) ≤ 8
+  n≤ = start .pre .0 .0 .complete .clocks≤
 
-  ready : Sized (10 * counts) (suc (clocks (start .args .automaton .now))) (c .reset .result) × Settled (suc (clocks (start .args .automaton .now))) (c .reset .result)
-  ready = reset-enters _ (start .pre .0 .0 .complete .clocks≤) _ (one-more size≡) (10 * counts) (omega arith) (omega arith) _ (c .reset .ensures) (start .pre .1)
+  abbrev size : ℕ
+  size = suc (clocks (start .args .automaton .now))
+
+  cleared : c .reset .result ≡ resetOf size (setOf (start .args .resets)) (start .args .w)
+  cleared = reset-is _ n≤ _ (one-more size≡) (10 * counts) (omega arith) (omega arith) _ (c .reset .ensures)
+
+  ready : Sized (10 * counts) size (c .reset .result) × Settled size (c .reset .result)
+  ready = reset-enters _ n≤ _ (one-more size≡) (10 * counts) (omega arith) (omega arith) _ (c .reset .ensures) (start .pre .1)
+
+  -- what the loops over the limits of the invariant ask
+  asks : let n = c .before .before .clocks .result in
+      let at = c .before .invariant-at .result in
+      let b = start .args .automaton .now in
+      ((n ≤ 8) × (at + 8 * n ≤ length b)) × (OnScale scale n (limitsAt b at) × Sized stepCounts (suc n) (c .reset .result))
+  unfolding invariantOf
+  asks =
+      let a = start .pre .0 .0 in
+      let hl = start .pre .0 .1 in
+      asks-limits _ _ (c .before .invariant-at .ensures) size≡ n≤ (invariant-within _ (a .complete) _ hl)
+      (invariant-scale _ a _ hl) (omega arith) (ready .0)
 
 narrow-requires : tie.Need-narrow-requires
-unfolding invariantOf
 narrow-requires c κs =
-    let a = start c .pre .0 .0 in
-    let hl = start c .pre .0 .1 in
-    let q = asks-limits _ _ (c .before .invariant-at .ensures) (size≡ c) (a .complete .clocks≤) (invariant-within _ (a .complete) _ hl) (invariant-scale _ a _ hl) (omega arith) (ready c .0) in
-    (a, (q .0, (q .1, λ e. subst (λ (k : ℕ). Settled (suc k) (c .reset .result)) (sym (size≡ c)) (ready c .1))))
+    (start c .pre .0 .0, (asks c .0, (asks c .1, λ e. subst (λ (k : ℕ). Settled (suc k) (c .reset .result)) (sym (size≡ c)) (ready c .1))))
 
 returns : tie.Need-returns
 unfolding invariantOf
 returns c =
     let reset = c .before .before in
-    let n = size≡ reset in
-    entered-none _ (start reset .pre .0 .0 .complete .clocks≤) _ (one-more n) _ (meets _ _ (reset .before .invariant-at .ensures) n (c .before .narrow .ensures)) (c .if1 .taken)
-    ∙ ap (enterOf _ _) (cleared reset)
+    let met = meets _ _ (reset .before .invariant-at .ensures) (size≡ reset) (c .before .narrow .ensures) in
+    entered-none _ (n≤ reset) _ (one-more (size≡ reset)) _ met (c .if1 .taken) ∙ ap (enterOf _ _) (cleared reset)
 
 raise-requires : tie.Need-raise-requires
-unfolding invariantOf
-raise-requires c κs =
-    let reset = c .before .before in
-    let a = start reset .pre .0 .0 in
-    let hl = start reset .pre .0 .1 in
-    let q = asks-limits _ _ (reset .before .invariant-at .ensures) (size≡ reset) (a .complete .clocks≤) (invariant-within _ (a .complete) _ hl) (invariant-scale _ a _ hl) (omega arith) (ready reset .0) in
-    (a, q .0)
+raise-requires c κs = let reset = c .before .before in (start reset .pre .0 .0, asks reset .0)
 
 reduce-raised-requires : tie.Need-reduce-raised-requires
 unfolding invariantOf
@@ -65,8 +74,10 @@ reduce-raised-requires c κs =
     let up = raises _ _ at n (c .raise .ensures) in
     let live = c .before .if1 .left in
     let o = invariant-scale _ a _ hl in (
-      raised-ready _ (a .complete .clocks≤) _ (one-more n) (10 * counts) (omega arith) (omega arith) _ o (ready reset .0) met live (λ x px hx. a .invariant-hi _ x hl px (omega arith)) up,
-      raised-lifted _ (a .complete .clocks≤) _ (one-more n) (10 * counts) (omega arith) (omega arith) _ o (ready reset .0) met live (λ x px hx. a .invariant-present _ x hl px (omega arith)) up,
+      raised-ready _ (n≤ reset) _ (one-more n) (10 * counts) (omega arith) (omega arith) _ o (ready reset .0) met live
+          (λ x px hx. a .invariant-hi _ x hl px (omega arith)) up,
+      raised-lifted _ (n≤ reset) _ (one-more n) (10 * counts) (omega arith) (omega arith) _ o (ready reset .0) met live
+          (λ x px hx. a .invariant-present _ x hl px (omega arith)) up,
     )
 
 returns-2 : tie.Need-returns-2
@@ -75,7 +86,8 @@ returns-2 c =
     let reset = c .before .before .before .before in
     let at = reset .before .invariant-at .ensures in
     let n = size≡ reset in
-    entered _ (start reset .pre .0 .0 .complete .clocks≤) _ (one-more n) _ (meets _ _ at n (c .before .before .before .narrow .ensures)) (c .before .before .if1 .left) (raises _ _ at n (c .before .raise .ensures)) (c .reduce-raised .ensures)
+    let met = meets _ _ at n (c .before .before .before .narrow .ensures) in
+    entered _ (n≤ reset) _ (one-more n) _ met (c .before .before .if1 .left) (raises _ _ at n (c .before .raise .ensures)) (c .reduce-raised .ensures)
     ∙ ap (enterOf _ _) (cleared reset)
 
 pub enter-spec : {M : Type 1} → statement M

@@ -37,7 +37,8 @@ meet-requires c κs =
     let now = c .before .before .before .before .before in
     let start = now .before .before in
     let limits = c .before .before .before .limits-of .ensures in
-    turn-ready _ _ (start .args .w) (now .loop .work) (start .pre .1 .0 .0) (start .pre .1 .1 .0) (start .pre .1 .1 .1) (now .loop .x) (now .loop .inv .0) (omega arith) (now .loop .inv .2)
+    turn-ready _ _ (start .args .w) (now .loop .work) (start .pre .1 .0 .0) (start .pre .1 .1 .0)
+    (start .pre .1 .1 .1) (now .loop .x) (now .loop .inv .0) (omega arith) (now .loop .inv .2)
     (ap (λ (l : Limits). l .lo) limits) (ap (λ (l : Limits). l .hi) limits) (ap (λ (l : Limits). eqb (l .hi) noUpper) limits)
 
 loop-again : tie.Need-loop-again Inv-loop μ-loop
@@ -51,12 +52,17 @@ loop-again c =
     let below = c .before .before .before .before .is-below .ensures in (
       omega arith,
       omega arith,
-      turn-met _ _ (start .args .w) (now .loop .work) (start .pre .1 .0 .0) (start .pre .1 .1 .0) (start .pre .1 .1 .1) (now .loop .x) (now .loop .inv .0) (omega arith) (now .loop .inv .2)
-          (ap (λ (l : Limits). l .lo) limits) (ap (λ (l : Limits). l .hi) limits) (ap (λ (l : Limits). eqb (l .hi) noUpper) limits) (met .meet .ensures),
+      turn-met _ _ (start .args .w) (now .loop .work) (start .pre .1 .0 .0) (start .pre .1 .1 .0)
+          (start .pre .1 .1 .1) (now .loop .x) (now .loop .inv .0) (omega arith) (now .loop .inv .2)
+          (ap (λ (l : Limits). l .lo) limits) (ap (λ (l : Limits). l .hi) limits)
+          (ap (λ (l : Limits). eqb (l .hi) noUpper) limits) (met .meet .ensures),
       λ e. ⊎-elim (λ x. true-false (sym e ∙ x .1))
           (λ x.
-          let s = now .loop .inv .3 (sym (x .1) ∙ e) in
-          (s .0, turn-same _ _ _ (fetched .limits-of .result .lo) (fetched .limits-of .result .hi) (eqb (fetched .limits-of .result .hi) noUpper) (met .meet .ensures) (sym below ∙ x .0 .left) ∙ s .1)) (c .before .before .before .if1 .came),
+          let s = now .loop .inv .3 (sym (x .1) ∙ e) in (
+            s .0,
+            turn-same _ _ _ (fetched .limits-of .result .lo) (fetched .limits-of .result .hi) (eqb (fetched .limits-of .result .hi) noUpper)
+                (met .meet .ensures) (sym below ∙ x .0 .left) ∙ s .1,
+          )) (c .before .before .before .if1 .came),
     )
 
 returns : tie.Need-returns Inv-loop μ-loop

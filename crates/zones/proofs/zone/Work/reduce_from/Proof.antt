@@ -56,14 +56,16 @@ loop3-holds c = (omega arith, omega arith, omega arith, omega arith, refl)
 
 -- past the three reads: what the comparison asks of the pairs and the fraction
 turn : (c : tie.After-sum-arg2 Inv-loop3 μ-loop3 Inv-loop2 μ-loop2 Inv-loop4 μ-loop4 Inv-loop μ-loop) →
-    TurnReady (c .before .before .before .before .loop3 .work) (c .before .before .before .before .before .before .before .before .before .loop .k) (c .before .before .before .before .before .before .before .loop2 .i) (c .before .before .before .before .loop3 .j)
+    TurnReady (c .before .before .before .before .loop3 .work) (c .before .before .before .before .before .before .before .before .before .loop .k)
+    (c .before .before .before .before .before .before .before .loop2 .i) (c .before .before .before .before .loop3 .j)
 turn c =
     let columns = c .before .before .before .before in
     let rows = columns .before .before .before in
     let middles = rows .before .before in
     let start = middles .before in
     let size : length (start .args .self .zone) ≡ 81 = simp length-map at (start .good .0 .1 .1 .0 .1 .0 .1) in
-    turn-of _ (start .args .self) size (start .pre .0) _ _ (omega arith) (middles .loop .inv .2) _ _ (omega arith) (omega arith) _ _ (rows .loop2 .inv .3) (columns .loop3 .inv .4)
+    turn-of _ (start .args .self) size (start .pre .0) _ _ (omega arith)
+    (middles .loop .inv .2) _ _ (omega arith) (omega arith) _ _ (rows .loop2 .inv .3) (columns .loop3 .inv .4)
 
 sum-requires : tie.Need-sum-requires Inv-loop3 μ-loop3 Inv-loop2 μ-loop2 Inv-loop4 μ-loop4 Inv-loop μ-loop
 unfolding pairAt
@@ -108,7 +110,8 @@ loop2-again c =
     let start = c .before .before .before .before .before in
     let size : length (start .args .self .zone) ≡ 81 = simp length-map at (start .good .0 .1 .1 .0 .1 .0 .1) in
     let step = ⊎-elim (λ x. x .3 ∙ (row-all _ _ _ _ (omega arith) (x .1 .inv .4) (rows .loop2 .inv .3)))
-    (λ x. x .1 ∙ (skip-of _ (start .args .self) size (start .pre .0) _ _ (omega arith) (middles .loop .inv .2) _ (x .0 .left) (rows .loop2 .inv .3))) (c .if1 .came) in
+    (λ x. x .1 ∙ (skip-of _ (start .args .self) size (start .pre .0) _ _ (omega arith) (middles .loop .inv .2) _ (x .0 .left) (rows .loop2 .inv .3)))
+    (c .if1 .came) in
     (omega arith, omega arith, omega arith, step)
 
 loop4-holds : tie.Need-loop4-holds Inv-loop3 μ-loop3 Inv-loop2 μ-loop2 Inv-loop4 μ-loop4 Inv-loop μ-loop
@@ -127,18 +130,28 @@ returns c =
     let diagonals = c .before .before .before .before in
     let rows = diagonals .before .before in
     let middles = rows .before .before in
-    reduced-stop _ _ _ _ _ (middles .loop .inv .2) (round-all _ _ _ (omega arith) (rows .loop2 .inv .3)) (diagonals .loop4 .inv .2 ∙ empty-yes _ _ (omega arith) (rw (toZ-ofZ (fits (c .before))) at (c .if3 .taken))) (omega arith)
+    reduced-stop _ _ _ _ _ (middles .loop .inv .2) (round-all _ _ _ (omega arith) (rows .loop2 .inv .3))
+    (diagonals .loop4 .inv .2 ∙ empty-yes _ _ (omega arith) (rw (toZ-ofZ (fits (c .before))) at (c .if3 .taken))) (omega arith)
 
 loop4-again : tie.Need-loop4-again Inv-loop3 μ-loop3 Inv-loop2 μ-loop2 Inv-loop4 μ-loop4 Inv-loop μ-loop
 unfolding pairAt
-loop4-again c = (omega arith, omega arith, c .before .before .before .before .loop4 .inv .2 ∙ empty-no _ _ (omega arith) (rw (toZ-ofZ (fits (c .before))) at (c .if3 .left)))
+loop4-again c = (
+  omega arith,
+  omega arith,
+  c .before .before .before .before .loop4 .inv .2
+      ∙ empty-no _ _ (omega arith) (rw (toZ-ofZ (fits (c .before))) at (c .if3 .left)),
+)
 
 loop-again : tie.Need-loop-again Inv-loop3 μ-loop3 Inv-loop2 μ-loop2 Inv-loop4 μ-loop4 Inv-loop μ-loop
 loop-again c =
     let diagonals = c .before in
     let rows = diagonals .before .before in
-    let middles = rows .before .before in
-    (omega arith, omega arith, reduced-next _ _ _ _ _ (middles .loop .inv .2) (round-all _ _ _ (omega arith) (rows .loop2 .inv .3)) (diagonals .loop4 .inv .2 ∙ empty-none _ _ (c .loop4-test .left)))
+    let middles = rows .before .before in (
+      omega arith,
+      omega arith,
+      reduced-next _ _ _ _ _ (middles .loop .inv .2)
+          (round-all _ _ _ (omega arith) (rows .loop2 .inv .3)) (diagonals .loop4 .inv .2 ∙ empty-none _ _ (c .loop4-test .left)),
+    )
 
 returns-2 : tie.Need-returns-2 Inv-loop3 μ-loop3 Inv-loop2 μ-loop2 Inv-loop4 μ-loop4 Inv-loop μ-loop
 returns-2 c = reduced-end _ _ _ _ (c .before .loop .inv .2) (omega arith)

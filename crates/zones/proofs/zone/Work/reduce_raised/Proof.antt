@@ -27,7 +27,8 @@ abbrev μ-loop2 : tie.MeasureT-loop2
 
 abbrev Inv-loop : tie.InvT-loop
 Inv-loop n z₀ f₀ j k₀ z f k =
-    (n ≤ 9) × (0 < k) × (k ≤ n) × (reduceSteps n k (record { zone = z₀; fraction = f₀ }) ≡ record { work = record { zone = z; fraction = f }; empty = false })
+    (n ≤ 9) × (0 < k) × (k ≤ n) ×
+    (reduceSteps n k (record { zone = z₀; fraction = f₀ }) ≡ record { work = record { zone = z; fraction = f }; empty = false })
     × ((b : Work) → Settled n b → Raised n b (record { zone = z₀; fraction = f₀ }) → Raised n b (record { zone = z; fraction = f }))
 
 abbrev μ-loop : tie.MeasureT-loop
@@ -36,25 +37,39 @@ abbrev μ-loop : tie.MeasureT-loop
 loop-holds : tie.Need-loop-holds Inv-loop2 μ-loop2 Inv-loop μ-loop
 loop-holds c =
     let start = c .before .before in
-    let l = start .pre .1 in
-    (start .pre .0 .n≤, omega arith, l .some, column-first _ (start .pre .0 .n≤) (l .base) (l .settled) (start .args .self) (l .raised) (l .some), λ b h r. r)
+    let l = start .pre .1 in (
+      start .pre .0 .n≤,
+      omega arith,
+      l .some,
+      column-first _ (start .pre .0 .n≤) (l .base) (l .settled) (start .args .self) (l .raised) (l .some),
+      λ b h r. r,
+    )
 
 loop2-holds : tie.Need-loop2-holds Inv-loop2 μ-loop2 Inv-loop μ-loop
 loop2-holds c =
     let l = c .before in
     let start = c .before .before .before .before in
-    let d = start .pre .1 in
-    (omega arith, omega arith, omega arith, d .some, zero-row _ (start .pre .0 .n≤) (d .base) (d .settled) _ (l .loop .inv .4 (d .base) (d .settled) (d .raised)) _ (omega arith), λ b h r. r)
+    let d = start .pre .1 in (
+      omega arith,
+      omega arith,
+      omega arith,
+      d .some,
+      zero-row _ (start .pre .0 .n≤) (d .base) (d .settled) _ (l .loop .inv .4 (d .base) (d .settled) (d .raised)) _ (omega arith),
+      λ b h r. r,
+    )
 
 -- past the three reads: what the comparison asks of the pairs and the fraction
-turn : (c : tie.After-sum-arg2 Inv-loop2 μ-loop2 Inv-loop μ-loop) → TurnReady (record { zone = c .before .before .before .before .loop2 .z; fraction = c .before .before .before .before .loop2 .f }) (c .before .before .before .before .before .before .loop .k) (c .before .before .before .before .loop2 .i) 0
+turn : (c : tie.After-sum-arg2 Inv-loop2 μ-loop2 Inv-loop μ-loop) →
+    TurnReady (record { zone = c .before .before .before .before .loop2 .z; fraction = c .before .before .before .before .loop2 .f })
+    (c .before .before .before .before .before .before .loop .k) (c .before .before .before .before .loop2 .i) 0
 unfolding rowSteps
 turn c =
     let rows = c .before .before .before .before in
     let middles = rows .before .before in
     let start = middles .before .before .before in
     let size : length (start .args .self .zone) ≡ 81 = simp length-map at (start .good .0 .1 .1 .0 .1 .0 .1) in
-    turn-of _ (start .args .self) size (start .pre .0) _ _ (omega arith) (middles .loop .inv .3) _ 0 (omega arith) (start .pre .1 .some) _ _ (rows .loop2 .inv .4) refl
+    turn-of _ (start .args .self) size (start .pre .0) _ _ (omega arith)
+    (middles .loop .inv .3) _ 0 (omega arith) (start .pre .1 .some) _ _ (rows .loop2 .inv .4) refl
 
 sum-requires : tie.Need-sum-requires Inv-loop2 μ-loop2 Inv-loop μ-loop
 unfolding pairAt
@@ -70,7 +85,8 @@ lowered-in-place-requires : tie.Need-lowered-in-place-requires Inv-loop2 μ-loop
 unfolding pairAt
 lowered-in-place-requires c κs =
     let t = turn (c .before .before .before) in
-    let fits : Fits32 (c .before .smaller .result .threshold) = rw (c .before .smaller .ensures, c .before .before .sum .ensures) (turn-narrow _ _ _ _ t) in
+    let fits : Fits32 (c .before .smaller .result .threshold) =
+    rw (c .before .smaller .ensures, c .before .before .sum .ensures) (turn-narrow _ _ _ _ t) in
     search needs
 
 loop2-again : tie.Need-loop2-again Inv-loop2 μ-loop2 Inv-loop μ-loop
@@ -101,8 +117,14 @@ loop-again c =
     let middles = c .before .before .before in
     let start = c .before .before .before .before .before .before in
     let d = start .pre .1 in
-    let was = middles .loop .inv .4 (d .base) (d .settled) (d .raised) in
-    (omega arith, omega arith, omega arith, reduced-next _ _ _ _ _ (middles .loop .inv .3) (round-all _ _ _ (omega arith) (rows .loop2 .inv .4)) (column-live _ (start .pre .0 .n≤) (d .base) (d .settled) _ (rows .loop2 .inv .5 (d .base) (d .settled) was)), λ b h r. rows .loop2 .inv .5 b h (middles .loop .inv .4 b h r))
+    let was = middles .loop .inv .4 (d .base) (d .settled) (d .raised) in (
+      omega arith,
+      omega arith,
+      omega arith,
+      reduced-next _ _ _ _ _ (middles .loop .inv .3) (round-all _ _ _ (omega arith) (rows .loop2 .inv .4))
+          (column-live _ (start .pre .0 .n≤) (d .base) (d .settled) _ (rows .loop2 .inv .5 (d .base) (d .settled) was)),
+      λ b h r. rows .loop2 .inv .5 b h (middles .loop .inv .4 b h r),
+    )
 
 returns : tie.Need-returns Inv-loop2 μ-loop2 Inv-loop μ-loop
 returns c = reduced-end _ _ _ _ (c .before .loop .inv .3) (omega arith)

@@ -31,15 +31,21 @@ unfolding resetPlaces
 loop-holds c = (omega arith, omega arith, refl, refl)
 
 -- the index whose row or column an index has
-row : (c : tie.Joined1 Inv-loop2 μ-loop2 Inv-loop μ-loop) → (c .if1 .a < 9) × (c .if1 .a ≡ home (setOf (c .before .before .before .args .t3)) (c .before .before .loop .i))
+row : (c : tie.Joined1 Inv-loop2 μ-loop2 Inv-loop μ-loop) →
+    (c .if1 .a < 9) × (c .if1 .a ≡ home (setOf (c .before .before .before .args .t3)) (c .before .before .loop .i))
 row c =
-    let h = home-is (setOf (c .before .before .before .args .t3)) (c .before .before .loop .i) (⊎-elim (λ x. inl (x .0 .taken, x .1)) (λ x. inr (x .0 .left, x .1)) (c .if1 .came)) in
-    (omega (arith, h, home-below (setOf (c .before .before .before .args .t3)) 9 (c .before .before .loop .i) (omega arith)), h)
+    let R = setOf (c .before .before .before .args .t3) in
+    let i = c .before .before .loop .i in
+    let h = home-is R i (⊎-elim (λ x. inl (x .0 .taken, x .1)) (λ x. inr (x .0 .left, x .1)) (c .if1 .came)) in
+    (omega (arith, h, home-below R 9 i (omega arith)), h)
 
-column : (c : tie.Joined2 Inv-loop2 μ-loop2 Inv-loop μ-loop) → (c .if2 .b < 9) × (c .if2 .b ≡ home (setOf (c .before .before .before .before .before .before .args .t3)) (c .before .before .loop2 .j))
+column : (c : tie.Joined2 Inv-loop2 μ-loop2 Inv-loop μ-loop) →
+    (c .if2 .b < 9) × (c .if2 .b ≡ home (setOf (c .before .before .before .before .before .before .args .t3)) (c .before .before .loop2 .j))
 column c =
-    let h = home-is (setOf (c .before .before .before .before .before .before .args .t3)) (c .before .before .loop2 .j) (⊎-elim (λ x. inl (x .0 .taken, x .1)) (λ x. inr (x .0 .left, x .1)) (c .if2 .came)) in
-    (omega (arith, h, home-below (setOf (c .before .before .before .before .before .before .args .t3)) 9 (c .before .before .loop2 .j) (omega arith)), h)
+    let R = setOf (c .before .before .before .before .before .before .args .t3) in
+    let j = c .before .before .loop2 .j in
+    let h = home-is R j (⊎-elim (λ x. inl (x .0 .taken, x .1)) (λ x. inr (x .0 .left, x .1)) (c .if2 .came)) in
+    (omega (arith, h, home-below R 9 j (omega arith)), h)
 
 loop2-holds : tie.Need-loop2-holds Inv-loop2 μ-loop2 Inv-loop μ-loop
 loop2-holds c =
@@ -66,7 +72,8 @@ loop-again c =
     let start = rows .before in
     let size : length (start .args .self .zone) ≡ 81 = simp length-map at (start .good .0 .1 .1 .0 .1 .0 .1) in
     let next : rows .loop .i * 9 + c .before .loop2 .j ≡ (rows .loop .i + 1) * 9 = omega arith in
-    (omega arith, omega arith, reset-as _ _ next (c .before .loop2 .inv .6 _ size (rows .loop .inv .2)), c .before .loop2 .inv .5 ∙ rows .loop .inv .3)
+    let done = c .before .loop2 .inv in
+    (omega arith, omega arith, reset-as _ _ next (done .6 _ size (rows .loop .inv .2)), done .5 ∙ rows .loop .inv .3)
 
 returns : tie.Need-returns Inv-loop2 μ-loop2 Inv-loop μ-loop
 returns c =
