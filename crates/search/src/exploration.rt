@@ -21,13 +21,13 @@ use zones::reduction::Reduced;
 use zones::zone::Work;
 ghost use mathlib.Core.Path.{_≡_};
 ghost use mathlib.Core.List.{List};
-ghost use Prim.Native.Nat.{ℕ, suc, _+_, _*_, _≤_, _<_};
+ghost use Prim.Native.Nat.{ℕ, suc, _*_, _≤_, _<_};
 ghost use lib.ListN.{length};
 ghost use Rattle.zones.specs.Ranges.{Fits32, Sized, counts, lastCounts};
 ghost use Rattle.zones.specs.Settled.{Settled};
 ghost use Rattle.zones.specs.Zones.{setOf};
 ghost use Rattle.search.specs.Accepted.{Accepted};
-ghost use Rattle.search.specs.Automata.{clocks, edges, locations, start, target, to};
+ghost use Rattle.search.specs.Automata.{clocks, edges, locations, target, to};
 ghost use Rattle.search.specs.Exploring.{
   FirstHit,
   Shown,

@@ -3,7 +3,7 @@ use crate::fraction::lowered_in_place;
 use crate::pair::Pair;
 ghost use mathlib.Core.Path.{_≡_};
 ghost use mathlib.Core.Bool.{false};
-ghost use Prim.Native.Nat.{_≤_, _<_};
+ghost use Prim.Native.Nat.{_≤_};
 ghost use Rattle.zones.specs.Zones.{firstWork, upperMet, lowerMet, boundsMet, boundsBelow, setOf, resetOf};
 ghost use Rattle.zones.specs.Ranges.{LimitsReady};
 
