@@ -1,13 +1,15 @@
 /* The search for the robustness of timed automata, and the cache of its verdicts (crate exports, `rt staticlib exports`).
  *
  * An automaton is a string of bytes, document 01's card; a cache is one, document 01's shelf (docs/FORMAT.md). Any bytes may be
- * passed, and none need checking before. A length is in bytes, but store_len counts 32-bit numbers. A pointer must be valid for its
- * length, what may be written must overlap nothing else that is passed, and a pointer must not be null, even where its length is 0.
+ * passed, and none need checking before. Each pointer comes with a length:
+ *   automaton_len, cache_len   bytes
+ *   store_len                  numbers of 32 bits, of which a slot takes ROBUSTNESS_SLOT(clocks) for each zone kept
+ *   answer_len                 numbers of 64 bits, of which an answer has ROBUSTNESS_ANSWER; it may be smaller or larger, and 0 too
+ * A pointer must be valid for its length, what may be written must overlap nothing else that is passed, and a pointer must not be
+ * null, even where its length is 0.
  *
- * Each function gives back 0, or the number of a refusal:
- *   1 to 8   the automaton is turned down at reading      9, 10   the search gave up; the store holds the zones kept so far
- *   11       the cache is not sound                       12      the cache has no room
- * On a refusal the numbers kind, n, d, zones and filed are unchanged, and so are cache and (but for 9 and 10) store. */
+ * Each function gives back 0, or the number of a refusal. A refusal changes neither answer nor filed nor the cache, and of the store
+ * only 9 and 10 leave a changed one, with the zones kept so far. */
 #ifndef ROBUSTNESS_H
 #define ROBUSTNESS_H
 
@@ -18,27 +20,71 @@
 extern "C" {
 #endif
 
-/* 0, or the smallest of 1 to 8 that applies. */
+/* What is given back. Of 1 to 8 the smallest that applies is said. */
+enum robustness_reply {
+    ROBUSTNESS_DONE = 0,
+    ROBUSTNESS_STUB = 1,          /* an automaton of fewer than 11 bytes */
+    ROBUSTNESS_MISCOUNTED = 2,    /* its length field is not automaton_len */
+    ROBUSTNESS_FOREIGN = 3,       /* its version is not 1 */
+    ROBUSTNESS_OVERSIZE = 4,      /* its clocks, locations or edges are outside their range */
+    ROBUSTNESS_RAGGED = 5,        /* its length field is not that of the formula */
+    ROBUSTNESS_NO_SUCH_PLACE = 6, /* its start, its target or an end of an edge is no location of it */
+    ROBUSTNESS_NO_SUCH_CLOCK = 7, /* a reset of a clock above its last */
+    ROBUSTNESS_OFF_SCALE = 8,     /* a limit out of range */
+    ROBUSTNESS_PILED_UP = 9,      /* a zone to be kept has an error count above 65,535 */
+    ROBUSTNESS_STORE_FULL = 10,   /* a zone to be kept has no slot left in the store: lend a larger one */
+    ROBUSTNESS_BAD_CACHE = 11,    /* the cache is not sound */
+    ROBUSTNESS_CACHE_FULL = 12    /* the cache has no room: lend it with more bytes behind those that are used, at least
+                                     ROBUSTNESS_RECORD(automaton_len). Or its used length would need more than four bytes */
+};
+
+/* The numbers of an answer, by their place. As many are written as are lent; any behind the eighth are left alone. */
+enum robustness_place {
+    ROBUSTNESS_KIND = 0,    /* ROBUSTNESS_REACHED or ROBUSTNESS_HOLDS */
+    ROBUSTNESS_N = 1,       /* holds: for every error below n/d, where 1/0 means any error; reached: 0 and 0 */
+    ROBUSTNESS_D = 2,
+    ROBUSTNESS_ZONES = 3,   /* zones kept: so many slots of the store are taken by a search */
+    ROBUSTNESS_EXACT_N = 4, /* this and the next three: 0, until a later change says more */
+    ROBUSTNESS_EXACT_D = 5,
+    ROBUSTNESS_AGAIN = 6,
+    ROBUSTNESS_INSIDE = 7,
+    ROBUSTNESS_ANSWER = 8 /* how many there are */
+};
+
+/* The kinds of a verdict: the forbidden location is reached with no error at all, or the automaton holds below an error. */
+enum robustness_kind { ROBUSTNESS_REACHED = 0, ROBUSTNESS_HOLDS = 1 };
+
+/* The numbers of a slot of the store, for an automaton of 1 to 8 clocks: 1 + 2(n + 1)^2. */
+#define ROBUSTNESS_SLOT(clocks) (1 + 2 * ((size_t)(clocks) + 1) * ((size_t)(clocks) + 1))
+/* The bytes of a cache: its header, which alone is an empty cache, and a record for each automaton. The first four say, the highest
+ * byte first, how many are used. */
+#define ROBUSTNESS_HEADER ((size_t)5)
+#define ROBUSTNESS_RECORD(automaton_len) (17 + (size_t)(automaton_len))
+/* The bytes of the longest automaton. */
+#define ROBUSTNESS_LONGEST ((size_t)21259)
+
+/* Done, or the smallest of 1 to 8 that applies. */
 uint32_t robustness_refusal(const uint8_t *automaton, size_t automaton_len);
 
-/* The verdict: kind 0 is reached, with n and d of 0; kind 1 holds for every error below n/d, 1/0 meaning any error. zones is the
- * number of zones kept, which stand in the store. */
+/* The search's answer. The kept zones stand in the store, and behind them what was there. Refuses with 1 to 10. */
 uint32_t robustness_search(const uint8_t *automaton, size_t automaton_len, int32_t *store, size_t store_len,
-                           uint64_t *kind, uint64_t *n, uint64_t *d, uint64_t *zones);
+                           uint64_t *answer, size_t answer_len);
 
-/* An empty cache, or 12 where fewer than 5 bytes are lent. */
+/* Makes the cache empty. Refuses with 12 where fewer than ROBUSTNESS_HEADER bytes are lent. */
 uint32_t robustness_make_empty(uint8_t *cache, size_t cache_len);
 
-/* 0 where the cache is sound, or 11. */
+/* Done where the cache is sound, else 11. */
 uint32_t robustness_sound(const uint8_t *cache, size_t cache_len);
 
-/* What is filed of an automaton: filed is 1, with the verdict, or 0, and then the other numbers are unchanged. */
+/* What is filed of an automaton: *filed becomes 1, with the answer, or 0, and then the answer is as it was. Refuses with 1 to 8 and
+ * 11. */
 uint32_t robustness_look_up(const uint8_t *cache, size_t cache_len, const uint8_t *automaton, size_t automaton_len,
-                            uint64_t *filed, uint64_t *kind, uint64_t *n, uint64_t *d, uint64_t *zones);
+                            uint64_t *filed, uint64_t *answer, size_t answer_len);
 
-/* The filed verdict, or the search's, which is filed. */
+/* The filed answer, for which no store is needed, or the search's, which is filed: its record is written behind those that are
+ * there. Refuses with 1 to 12. */
 uint32_t robustness_consult(uint8_t *cache, size_t cache_len, const uint8_t *automaton, size_t automaton_len,
-                            int32_t *store, size_t store_len, uint64_t *kind, uint64_t *n, uint64_t *d, uint64_t *zones);
+                            int32_t *store, size_t store_len, uint64_t *answer, size_t answer_len);
 
 #ifdef __cplusplus
 }

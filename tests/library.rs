@@ -4,7 +4,7 @@
 // Each program calls some of them.
 #![allow(dead_code)]
 
-/// Kind, n, d and zones.
+/// Kind, n, d and zones, the first numbers of an answer.
 pub type Verdict = [u64; 4];
 
 // A slice goes as where it begins and its length. The functions ask nothing of their arguments but
@@ -17,10 +17,8 @@ extern "C" {
         automaton_len: usize,
         store: *mut i32,
         store_len: usize,
-        kind: *mut u64,
-        n: *mut u64,
-        d: *mut u64,
-        zones: *mut u64,
+        answer: *mut u64,
+        answer_len: usize,
     ) -> u32;
     pub fn robustness_make_empty(cache: *mut u8, cache_len: usize) -> u32;
     pub fn robustness_sound(cache: *const u8, cache_len: usize) -> u32;
@@ -30,10 +28,8 @@ extern "C" {
         automaton: *const u8,
         automaton_len: usize,
         filed: *mut u64,
-        kind: *mut u64,
-        n: *mut u64,
-        d: *mut u64,
-        zones: *mut u64,
+        answer: *mut u64,
+        answer_len: usize,
     ) -> u32;
     pub fn robustness_consult(
         cache: *mut u8,
@@ -42,31 +38,32 @@ extern "C" {
         automaton_len: usize,
         store: *mut i32,
         store_len: usize,
-        kind: *mut u64,
-        n: *mut u64,
-        d: *mut u64,
-        zones: *mut u64,
+        answer: *mut u64,
+        answer_len: usize,
     ) -> u32;
 }
 
-/// What the numbers of a reply have before, to see that a refusal leaves them.
+/// What the numbers of an answer have before, to see that a refusal leaves them.
 const BEFORE: u64 = 7_777_777_777;
+/// An answer has eight numbers. One more is lent, to see that it stands.
+const LENT: usize = 9;
 
-fn answer(number: u32, verdict: Verdict) -> Result<Verdict, u32> {
-    if number == 0 {
-        return Ok(verdict);
+fn verdict(number: u32, answer: [u64; LENT]) -> Result<Verdict, u32> {
+    if number > 0 {
+        assert_eq!(answer, [BEFORE; LENT], "{number} leaves the numbers");
+        return Err(number);
     }
-    assert_eq!(verdict, [BEFORE; 4], "{number} leaves the numbers");
-    Err(number)
+    let [kind, n, d, zones, later @ .., behind] = answer;
+    assert_eq!((later, behind), ([0; 4], BEFORE), "later ones; behind them");
+    Ok([kind, n, d, zones])
 }
 
 pub fn search(automaton: &[u8], store: &mut [i32]) -> Result<Verdict, u32> {
-    let mut verdict = [BEFORE; 4];
-    let [kind, n, d, zones] = &mut verdict;
+    let mut answer = [BEFORE; LENT];
     let (a, a_len) = (automaton.as_ptr(), automaton.len());
     let (s, s_len) = (store.as_mut_ptr(), store.len());
-    let number = unsafe { robustness_search(a, a_len, s, s_len, kind, n, d, zones) };
-    answer(number, verdict)
+    let number = unsafe { robustness_search(a, a_len, s, s_len, answer.as_mut_ptr(), LENT) };
+    verdict(number, answer)
 }
 
 pub fn make_empty(cache: &mut [u8]) -> u32 {
@@ -79,26 +76,26 @@ pub fn sound(cache: &[u8]) -> u32 {
 
 /// The verdict filed, or none, or a refusal.
 pub fn look_up(cache: &[u8], automaton: &[u8]) -> Result<Option<Verdict>, u32> {
-    let (mut filed, mut verdict) = (BEFORE, [BEFORE; 4]);
-    let [kind, n, d, zones] = &mut verdict;
+    let (mut filed, mut answer) = (BEFORE, [BEFORE; LENT]);
     let (c, c_len) = (cache.as_ptr(), cache.len());
     let (a, a_len) = (automaton.as_ptr(), automaton.len());
-    let number = unsafe { robustness_look_up(c, c_len, a, a_len, &mut filed, kind, n, d, zones) };
+    let number =
+        unsafe { robustness_look_up(c, c_len, a, a_len, &mut filed, answer.as_mut_ptr(), LENT) };
     if (number, filed) == (0, 0) {
-        assert_eq!(verdict, [BEFORE; 4], "no verdict, so none is written");
+        assert_eq!(answer, [BEFORE; LENT], "no verdict, so none is written");
         return Ok(None);
     }
     let expected = if number == 0 { 1 } else { BEFORE };
     assert_eq!(filed, expected, "filed, beside {number}");
-    answer(number, verdict).map(Some)
+    verdict(number, answer).map(Some)
 }
 
 pub fn consult(cache: &mut [u8], automaton: &[u8], store: &mut [i32]) -> Result<Verdict, u32> {
-    let mut verdict = [BEFORE; 4];
-    let [kind, n, d, zones] = &mut verdict;
+    let mut answer = [BEFORE; LENT];
     let (c, c_len) = (cache.as_mut_ptr(), cache.len());
     let (a, a_len) = (automaton.as_ptr(), automaton.len());
     let (s, s_len) = (store.as_mut_ptr(), store.len());
-    let number = unsafe { robustness_consult(c, c_len, a, a_len, s, s_len, kind, n, d, zones) };
-    answer(number, verdict)
+    let number =
+        unsafe { robustness_consult(c, c_len, a, a_len, s, s_len, answer.as_mut_ptr(), LENT) };
+    verdict(number, answer)
 }

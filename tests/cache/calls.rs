@@ -24,34 +24,51 @@ pub struct Lent {
     pub cache: Vec<u8>,
     pub automaton: Vec<u8>,
     pub store: Vec<i32>,
-    /// filed, kind, n, d, zones.
-    pub numbers: [u64; 5],
+    pub filed: u64,
+    pub answer: Vec<u64>,
 }
 
 pub fn random_bytes(dice: &mut Dice, count: usize) -> Vec<u8> {
     (0..count).map(|_| dice.range(0, 255) as u8).collect()
 }
 
+fn random_number(dice: &mut Dice) -> u64 {
+    u64::from(dice.range(1, u32::MAX)) << dice.range(0, 32)
+}
+
 impl Lent {
-    /// With random contents of the store and of the numbers, to see which of them stand.
+    /// With random contents of the store and of the numbers, to see which of them stand. The answer
+    /// has room for a verdict, and often for more or less than its eight numbers.
     pub fn new(dice: &mut Dice, cache: &[u8], automaton: &[u8], store: usize) -> Lent {
-        Lent {
+        let lent = Lent {
             cache: cache.to_vec(),
             automaton: automaton.to_vec(),
             store: (0..store).map(|_| dice.range(1, u32::MAX) as i32).collect(),
-            numbers: [(); 5].map(|()| u64::from(dice.range(1, u32::MAX)) << dice.range(0, 32)),
-        }
+            filed: random_number(dice),
+            answer: Vec::new(),
+        };
+        let length = dice.pick(&[4, 7, 8, 8, 9, 20]);
+        lent.answering(dice, length)
     }
 
+    /// With an answer of another length.
+    pub fn answering(mut self, dice: &mut Dice, length: usize) -> Lent {
+        self.answer = (0..length).map(|_| random_number(dice)).collect();
+        self
+    }
+
+    /// The first four numbers of an answer that has them.
     pub fn verdict(&self) -> [u64; 4] {
-        let [_, kind, n, d, zones] = self.numbers;
-        [kind, n, d, zones]
+        self.answer[..4].try_into().expect("four numbers")
     }
 
-    fn answer(&mut self, verdict: Verdict) {
+    /// Kind, n, d and zones, then four of 0, as many as are lent.
+    fn tell(&mut self, verdict: Verdict) {
         let Verdict { kind, n, d, zones } = verdict;
-        let numbers = [u32::from(kind), n, d, zones].map(u64::from);
-        self.numbers[1..].copy_from_slice(&numbers);
+        let numbers = [u32::from(kind), n, d, zones, 0, 0, 0, 0];
+        for (place, number) in self.answer.iter_mut().zip(numbers) {
+            *place = number.into();
+        }
     }
 }
 
@@ -60,7 +77,8 @@ pub struct Places {
     pub automaton: *const u8,
     pub cache: *mut u8,
     pub store: *mut i32,
-    pub numbers: [*mut u64; 5],
+    pub filed: *mut u64,
+    pub answer: *mut u64,
 }
 
 impl Places {
@@ -69,17 +87,15 @@ impl Places {
         let (a, a_len) = (self.automaton, lent.automaton.len());
         let (c, c_len) = (self.cache, lent.cache.len());
         let (s, s_len) = (self.store, lent.store.len());
-        let [filed, kind, n, d, zones] = self.numbers;
+        let (t, t_len) = (self.answer, lent.answer.len());
         unsafe {
             match call {
                 Call::Refusal => robustness_refusal(a, a_len),
-                Call::Search => robustness_search(a, a_len, s, s_len, kind, n, d, zones),
+                Call::Search => robustness_search(a, a_len, s, s_len, t, t_len),
                 Call::MakeEmpty => robustness_make_empty(c, c_len),
                 Call::Sound => robustness_sound(c, c_len),
-                Call::LookUp => robustness_look_up(c, c_len, a, a_len, filed, kind, n, d, zones),
-                Call::Consult => {
-                    robustness_consult(c, c_len, a, a_len, s, s_len, kind, n, d, zones)
-                }
+                Call::LookUp => robustness_look_up(c, c_len, a, a_len, self.filed, t, t_len),
+                Call::Consult => robustness_consult(c, c_len, a, a_len, s, s_len, t, t_len),
             }
         }
     }
@@ -123,20 +139,21 @@ pub fn proved(call: Call, lent: &mut Lent) -> Option<u32> {
     let mut automaton = Guarded::new(&lent.automaton);
     let mut cache = Guarded::new(&lent.cache);
     let mut store = Guarded::new(&lent.store);
-    let mut numbers = lent.numbers.map(|number| Guarded::new(&[number]));
+    let mut filed = Guarded::new(&[lent.filed]);
+    let mut answer = Guarded::new(&lent.answer);
     let places = Places {
         automaton: automaton.start(),
         cache: cache.start(),
         store: store.start(),
-        numbers: [0, 1, 2, 3, 4].map(|i| numbers[i].start()),
+        filed: filed.start(),
+        answer: answer.start(),
     };
     let reply = places.call(call, lent);
     lent.automaton = automaton.part()?;
     lent.cache = cache.part()?;
     lent.store = store.part()?;
-    for (number, left) in lent.numbers.iter_mut().zip(numbers) {
-        *number = left.part()?[0];
-    }
+    lent.filed = filed.part()?[0];
+    lent.answer = answer.part()?;
     Some(reply)
 }
 
@@ -145,16 +162,16 @@ pub fn expected(call: Call, lent: &mut Lent) -> u32 {
     let done = match call {
         Call::Refusal => oracle::refusal(&lent.automaton),
         Call::Search => {
-            oracle::searched(&lent.automaton, &mut lent.store).map(|verdict| lent.answer(verdict))
+            oracle::searched(&lent.automaton, &mut lent.store).map(|verdict| lent.tell(verdict))
         }
         Call::MakeEmpty => oracle::make_empty(&mut lent.cache),
         Call::Sound => oracle::sound(&lent.cache),
         Call::LookUp => oracle::look_up(&lent.cache, &lent.automaton).map(|found| {
-            lent.numbers[0] = u64::from(found.is_some());
-            found.into_iter().for_each(|verdict| lent.answer(verdict));
+            lent.filed = u64::from(found.is_some());
+            found.into_iter().for_each(|verdict| lent.tell(verdict));
         }),
         Call::Consult => oracle::consult(&mut lent.cache, &lent.automaton, &mut lent.store)
-            .map(|verdict| lent.answer(verdict)),
+            .map(|verdict| lent.tell(verdict)),
     };
     done.err().unwrap_or(0)
 }

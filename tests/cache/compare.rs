@@ -27,6 +27,7 @@ mod search;
 #[path = "../search/table.rs"]
 mod table;
 mod tally;
+mod told;
 mod unsound;
 
 use std::process::ExitCode;
@@ -34,12 +35,13 @@ use tally::Tally;
 
 fn main() -> ExitCode {
     let mut tally = Tally::default();
-    let parts: [fn(&mut Tally); 11] = [
+    let parts: [fn(&mut Tally); 12] = [
         order::layout,
         order::empty,
         order::room,
         order::full,
         order::order,
+        told::lengths,
         unsound::singly,
         unsound::cut,
         unsound::every_byte,

@@ -55,8 +55,8 @@ impl Grown {
         let before = Lent::new(dice, &self.cache, automaton, 0);
         let after = tally.must(what, Call::LookUp, &before, 0).lent;
         let filed = self.filed.get(automaton);
-        let found = filed.map_or(after.numbers[0] == 0, |verdict| {
-            after.numbers[0] == 1 && *verdict == after.verdict()
+        let found = filed.map_or(after.filed == 0, |verdict| {
+            after.filed == 1 && *verdict == after.verdict()
         });
         tally.check(found, || format!("{}: not what was filed", what));
     }

@@ -32,12 +32,14 @@ fn first_difference<T: PartialEq>(got: &[T], expected: &[T]) -> Option<usize> {
 
 fn difference(before: &Lent, got: Option<u32>, ours: &Lent, left: &Left) -> String {
     format!(
-        "reply {:?}, not {}; numbers {:?}, not {:?}; the cache differs at {:?}, the store of {} at \
-         {:?}\n  cache {}\n  automaton {}",
+        "reply {:?}, not {}; filed {}, not {}; answer {:?}, not {:?}; the cache differs at {:?}, \
+         the store of {} at {:?}\n  cache {}\n  automaton {}",
         got,
         left.reply,
-        ours.numbers,
-        left.lent.numbers,
+        ours.filed,
+        left.lent.filed,
+        ours.answer,
+        left.lent.answer,
         first_difference(&ours.cache, &left.lent.cache),
         before.store.len(),
         first_difference(&ours.store, &left.lent.store),
@@ -46,20 +48,21 @@ fn difference(before: &Lent, got: Option<u32>, ours: &Lent, left: &Left) -> Stri
     )
 }
 
-fn kind([kind, _, d, _]: [u64; 4]) -> &'static str {
-    match (kind, d) {
-        (0, _) => "reached",
-        (_, 0) => "any error",
-        _ => "n/d",
+fn kind(answer: &[u64]) -> &'static str {
+    match *answer {
+        [0, _, _, _, ..] => "reached",
+        [_, _, 0, _, ..] => "any error",
+        [_, _, _, _, ..] => "n/d",
+        _ => "in part",
     }
 }
 
 /// The call with its reply; of an answer also its kind, and whether it was filed before.
 fn label(call: Call, before: &Lent, left: &Left) -> String {
-    let verdict = kind(left.lent.verdict());
+    let verdict = kind(&left.lent.answer);
     match (call, left.reply) {
         (Call::Search, 0) => format!("Search {}", verdict),
-        (Call::LookUp, 0) if left.lent.numbers[0] == 0 => "LookUp not there".into(),
+        (Call::LookUp, 0) if left.lent.filed == 0 => "LookUp not there".into(),
         (Call::LookUp, 0) => format!("LookUp {}", verdict),
         (Call::Consult, 0) if left.lent.cache == before.cache => {
             format!("Consult filed {}", verdict)
@@ -72,7 +75,7 @@ fn label(call: Call, before: &Lent, left: &Left) -> String {
 /// Every label that the comparison has to meet.
 fn possible() -> Vec<String> {
     let mut labels: Vec<String> = vec!["LookUp not there".into()];
-    for verdict in ["reached", "n/d", "any error"] {
+    for verdict in ["reached", "n/d", "any error", "in part"] {
         for call in ["Search", "LookUp", "Consult filed", "Consult searched"] {
             labels.push(format!("{} {}", call, verdict));
         }

@@ -116,8 +116,9 @@ fn verdicts(tally: &mut Tally, dice: &mut Dice) {
                 let filed = &base.records[k].automaton;
                 let lent = Lent::new(dice, &case.cache, filed, 0);
                 let after = tally.must(&case.what, Call::LookUp, &lent, 0).lent;
-                let numbers = [1, kind.into(), n.into(), d.into(), zones.into()];
-                tally.check(after.numbers == numbers, || case.what.clone());
+                let numbers = [kind.into(), n, d, zones].map(u64::from);
+                let right = (after.filed, after.verdict()) == (1, numbers);
+                tally.check(right, || case.what.clone());
             }
         }
     }

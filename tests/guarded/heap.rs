@@ -1,6 +1,6 @@
 //! The calls that valgrind watches. Each slice is a block of the heap with nothing behind it, and
-//! what the library must not depend on is left uninitialised: the store, the numbers of the reply
-//! and the free bytes of a cache.
+//! what the library must not depend on is left uninitialised: the store, filed, the answer and the
+//! free bytes of a cache.
 
 use crate::calls::{self, Call, Lent, Places};
 use crate::checks::Checks;
@@ -48,12 +48,14 @@ pub fn compare(checks: &mut Checks, what: &str, call: Call, before: &Lent) {
     let mut automaton = Block::new(&before.automaton, before.automaton.len());
     let mut cache = Block::new(&before.cache, known(call, &before.cache));
     let mut store = Block::new(&before.store, 0);
-    let mut numbers = before.numbers.map(|number| Block::new(&[number], 0));
+    let mut filed = Block::new(&[before.filed], 0);
+    let mut answer = Block::new(&before.answer, 0);
     let places = Places {
         automaton: automaton.start(),
         cache: cache.start(),
         store: store.start(),
-        numbers: [0, 1, 2, 3, 4].map(|i| numbers[i].start()),
+        filed: filed.start(),
+        answer: answer.start(),
     };
     let got = places.call(call, before);
     let parts = [
@@ -61,9 +63,10 @@ pub fn compare(checks: &mut Checks, what: &str, call: Call, before: &Lent) {
         automaton.agrees(&before.automaton, &after.automaton),
         cache.agrees(&before.cache, &after.cache),
         store.agrees(&before.store, &after.store),
-        (0..5).all(|i| numbers[i].agrees(&before.numbers[i..=i], &after.numbers[i..=i])),
+        filed.agrees(&[before.filed], &[after.filed]),
+        answer.agrees(&before.answer, &after.answer),
     ];
-    checks.check(parts == [true; 5], || {
+    checks.check(parts == [true; 6], || {
         format!("{what}, {call:?} on the heap: {got}, as before: {parts:?}")
     });
 }

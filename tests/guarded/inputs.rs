@@ -139,6 +139,7 @@ impl Inputs {
             _ => spoil(dice, &mut cache, &grown.borders),
         }
         let store = store(dice, &automaton);
-        Lent::new(dice, &cache, &automaton, store)
+        let answer = dice.range(0, 10) as usize;
+        Lent::new(dice, &cache, &automaton, store).answering(dice, answer)
     }
 }

@@ -2,7 +2,7 @@
 
 use crate::calls::{Call, Lent, Places};
 use crate::pages::{Guard, Pages};
-use std::{ptr, slice};
+use std::slice;
 
 /// Room for the longest slice that is drawn.
 const MOST_BYTES: usize = 256 << 10;
@@ -16,7 +16,9 @@ fn read(places: &Places, lent: &mut Lent) {
         lent.cache.copy_from_slice(copy);
         let copy = slice::from_raw_parts(places.store, lent.store.len());
         lent.store.copy_from_slice(copy);
-        lent.numbers = places.numbers.map(|number| *number);
+        lent.filed = *places.filed;
+        let copy = slice::from_raw_parts(places.answer, lent.answer.len());
+        lent.answer.copy_from_slice(copy);
     }
 }
 
@@ -24,7 +26,8 @@ pub struct Memory {
     automaton: Pages,
     cache: Pages,
     store: Pages,
-    numbers: [Pages; 5],
+    filed: Pages,
+    answer: Pages,
 }
 
 impl Memory {
@@ -33,27 +36,29 @@ impl Memory {
             automaton: Pages::new(MOST_BYTES),
             cache: Pages::new(MOST_BYTES),
             store: Pages::new(MOST_BYTES),
-            numbers: [(); 5].map(|()| Pages::new(8)),
+            filed: Pages::new(8),
+            answer: Pages::new(MOST_BYTES),
         }
     }
 
     pub fn all(&mut self) -> Vec<&mut Pages> {
-        let mut all = vec![&mut self.automaton, &mut self.cache, &mut self.store];
-        all.extend(&mut self.numbers);
-        all
+        vec![
+            &mut self.automaton,
+            &mut self.cache,
+            &mut self.store,
+            &mut self.filed,
+            &mut self.answer,
+        ]
     }
 
     /// The library's reply, with what it leaves in place of what was lent.
     pub fn call(&mut self, call: Call, lent: &mut Lent, guard: Guard) -> u32 {
-        let mut numbers = [ptr::null_mut(); 5];
-        for (i, at) in numbers.iter_mut().enumerate() {
-            *at = self.numbers[i].place(&lent.numbers[i..=i], guard);
-        }
         let places = Places {
             automaton: self.automaton.place(&lent.automaton, guard),
             cache: self.cache.place(&lent.cache, guard),
             store: self.store.place(&lent.store, guard),
-            numbers,
+            filed: self.filed.place(&[lent.filed], guard),
+            answer: self.answer.place(&lent.answer, guard),
         };
         self.automaton.seal();
         if let Call::Sound | Call::LookUp = call {

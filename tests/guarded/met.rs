@@ -17,12 +17,13 @@ const POSSIBLE: [(Call, &[u32]); 6] = [
 ];
 
 /// What else is to be met: a slice of length 0, an automaton that is filed or comes to be.
-const OTHERS: [&str; 5] = [
+const OTHERS: [&str; 6] = [
     "Refusal, no automaton",
     "Search, no store",
     "Sound, no cache",
     "LookUp, filed",
     "Consult, filed now",
+    "Consult, filed now, no answer",
 ];
 
 fn label(call: Call, reply: u32) -> String {
@@ -30,16 +31,17 @@ fn label(call: Call, reply: u32) -> String {
 }
 
 /// Which of the others a call is.
-fn other(call: Call, before: &Lent, after: &Lent) -> Option<&'static str> {
-    let (at, met) = match call {
-        Call::Refusal => (0, before.automaton.is_empty()),
-        Call::Search => (1, before.store.is_empty()),
-        Call::MakeEmpty => return None,
-        Call::Sound => (2, before.cache.is_empty()),
-        Call::LookUp => (3, after.numbers[0] == 1),
-        Call::Consult => (4, after.cache != before.cache),
-    };
-    met.then(|| OTHERS[at])
+fn others(call: Call, before: &Lent, after: &Lent) -> &'static [&'static str] {
+    let none = before.answer.is_empty();
+    match call {
+        Call::Refusal if before.automaton.is_empty() => &OTHERS[..1],
+        Call::Search if before.store.is_empty() => &OTHERS[1..2],
+        Call::Sound if before.cache.is_empty() => &OTHERS[2..3],
+        Call::LookUp if after.filed == 1 => &OTHERS[3..4],
+        Call::Consult if after.cache != before.cache && none => &OTHERS[4..6],
+        Call::Consult if after.cache != before.cache => &OTHERS[4..5],
+        _ => &[],
+    }
 }
 
 #[derive(Default)]
@@ -48,8 +50,9 @@ pub struct Met(BTreeMap<String, usize>);
 impl Met {
     pub fn count(&mut self, call: Call, reply: Option<u32>, before: &Lent, after: &Lent) {
         let replied = reply.map(|reply| label(call, reply));
-        let other = other(call, before, after).map(String::from);
-        for label in replied.into_iter().chain(other) {
+        let others = others(call, before, after);
+        let others = others.iter().map(|other| other.to_string());
+        for label in replied.into_iter().chain(others) {
             *self.0.entry(label).or_default() += 1;
         }
     }

@@ -1,24 +1,59 @@
--- Card A consulted, computed from the definitions.
+-- Card A consulted: computed from the definitions of a cache and from the search's own example of card A.
 -- Assumes nothing.
-use mathlib.Core.Path.{refl}
-use Rattle.zones.specs.Containment.{countTo, larger, loweredTo, withinTo}
-use Rattle.zones.specs.Fractions.{loweredBy, euclid, gcdOf, lowestTerms}
-use Rattle.zones.specs.Pairs.{sumOf, isLess, thresholdOf, smallerOf}
-use Rattle.zones.specs.Zones.{pairAt, firstWork, lowerAt, meetUpper, meetClock, meetLimits, raiseLimits, home, resetPlaces, resetOf}
-use Rattle.zones.specs.Reductions.{relaxed, rowSteps, roundSteps, emptyIn, afterMiddle, reduceSteps}
-use Rattle.zones.specs.Successors.{andThen, meetOf, enterOf, followOf}
-use Rattle.search.specs.Automata.{be16At, be32At, edgeAt, firsts, guardOf, inByte, invariantAt, invariantOf, limitsAt, outOfRangeAt, refusalOf, resetSet, resetsOf, some}
-use Rattle.search.specs.Instance.{entering, following, overcounted, resultOf}
-use Rattle.search.specs.Search.{find, offer, follow, expand, take-from, search}
-use Rattle.search.specs.Store.{capacityOf}
-use Rattle.search.specs.Verdicts.{answerOf, holdingOf, searchAnswer, stateAnswer}
-use Rattle.cache.specs.Bytes.{be32, sameBytes}
-use Rattle.cache.specs.Records.{measured, soundTerms, soundRecord, verdictAs, filedAs, headOf, recordOf}
+use mathlib.Core.Bool.{true}
+use mathlib.Core.Path.{_≡_, refl, ap}
+use Rattle.encoding.specs.Numbers.{be16At, be32At, be32}
+use Rattle.encoding.specs.Bytes.{sameBytes}
+use Rattle.automata.specs.Automata.{edgeIn, firsts, guardOf, inByte, invariantIn, invariantOf, limitsAt, resetSet, resetsOf}
+use Rattle.automata.specs.Refusals.{outOfRangeAt, refusalOf, some}
+use Rattle.search.specs.declared.verdict.Answer.the-variants.{Refused}
+use Rattle.search.specs.declared.verdict.Holding.the-variants.{Below}
+use Rattle.search.specs.declared.verdict.Verdict.the-variants.{Holds}
+use Rattle.search.specs.Answers.{searchAnswer}
+use Rattle.search.specs.Verdicts.{holdingOf, numbersOf, verdictOf, soundNumbers}
+use Rattle.search.proofs.answers.Examples as search
+use Rattle.search.proofs.answers.Given.{promised}
+use Rattle.search.proofs.answers.Numbers.{numbers-are-sound}
+use Rattle.cache.specs.Placing.{placed}
+use Rattle.cache.specs.Layouts.{version1}
+use Rattle.cache.specs.Records.{measured, soundRecord, filedAs, numberBytes, recordOf}
 use Rattle.cache.specs.Lookups.{lookUp, isAbsent}
-use Rattle.cache.specs.Caches.{split, recordsIn, total, allSound, soundRecords, distinct, soundHeader, sound}
-use Rattle.cache.specs.Consulting.{lookUpIn, full, appended, filing, answerTo, consultAnswer, searched, consultCache}
-use Rattle.cache.specs.Examples.{AllRight, examples}
+use Rattle.cache.specs.Caches.{split, recordsIn, total, allSound, soundRecords, distinct, soundHeader, soundAs}
+use Rattle.cache.specs.Consulting.{lookUpAs, full, appended, filing, answerTo, consultAnswerAs, searched, consultCacheAs}
+use Rattle.cache.specs.Examples.{automatonA, empty, holds, AllRight, examples}
+
+-- the search's case I: card A with stores of 8 and of 9 numbers
+answer-8 : searchAnswer automatonA 8 ≡ Refused 10
+answer-8 = search.all-right .1 .1 .1 .1 .1 .1 .1 .1 .1 .1 .0 .0
+
+answer-9 : searchAnswer automatonA 9 ≡ holds
+answer-9 = search.all-right .1 .1 .1 .1 .1 .1 .1 .1 .1 .1 .1 .0 .0
+
+-- 1/1 is in lowest terms, as all that the search gives out
+lowest : soundNumbers (record { kind = 1; n = 1; d = 1 }) ≡ true
+unfolding numbersOf
+lowest = numbers-are-sound automatonA (Holds (Below (record { n = 1; d = 1 }))) 1 (rw answer-9 at (promised automatonA 9 .given))
 
 pub all-right : AllRight examples
-unfolding countTo larger loweredTo withinTo loweredBy euclid gcdOf lowestTerms sumOf isLess thresholdOf smallerOf pairAt firstWork lowerAt meetUpper meetClock meetLimits raiseLimits home resetPlaces resetOf relaxed rowSteps roundSteps emptyIn afterMiddle reduceSteps andThen meetOf enterOf followOf be16At be32At edgeAt firsts guardOf inByte invariantAt invariantOf limitsAt outOfRangeAt refusalOf resetSet resetsOf some entering following overcounted resultOf find offer follow expand take-from search capacityOf answerOf holdingOf searchAnswer stateAnswer be32 sameBytes measured soundTerms soundRecord verdictAs filedAs headOf recordOf lookUp isAbsent split recordsIn total allSound soundRecords distinct soundHeader sound lookUpIn full appended filing answerTo consultAnswer searched consultCache
-all-right = ((refl, refl), ((refl, refl), ((refl, refl), ((refl, refl), ((refl, refl), ((refl, refl), ((refl, refl), tt)))))))
+unfolding be16At be32At edgeIn firsts guardOf inByte invariantIn invariantOf limitsAt outOfRangeAt refusalOf resetSet resetsOf some be32 sameBytes
+    holdingOf numbersOf verdictOf placed measured soundRecord filedAs numberBytes recordOf lookUp isAbsent split recordsIn total allSound soundRecords
+    distinct soundHeader soundAs lookUpAs full appended filing answerTo consultAnswerAs searched consultCacheAs
+all-right = (
+  (answer-9, ap (filing version1 (empty 58) automatonA) answer-9),
+  (
+    (answer-9, ap (filing version1 (empty 55) automatonA) answer-9),
+    (
+      (answer-8, ap (filing version1 (empty 58) automatonA) answer-8),
+      (
+        (refl, refl),
+        (
+          (rw lowest refl, rw lowest refl),
+          (
+            (refl, refl),
+            ((rw lowest refl, rw lowest refl), tt),
+          ),
+        ),
+      ),
+    ),
+  ),
+)

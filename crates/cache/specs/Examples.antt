@@ -18,7 +18,9 @@ pub record Example : Type 0 where
 
 -- "Card A is `00000026 01 01 02 00 01 0001 00000000 00000005 00000000 00000009 00 01 00 00000007 FFFFFFFF`"
 abbrev pub automatonA : List ℕ
-automatonA = 0 ∷ 0 ∷ 0 ∷ 38 ∷ 1 ∷ 1 ∷ 2 ∷ 0 ∷ 1 ∷ 0 ∷ 1 ∷ 0 ∷ 0 ∷ 0 ∷ 0 ∷ 0 ∷ 0 ∷ 0 ∷ 5 ∷ 0 ∷ 0 ∷ 0 ∷ 0 ∷ 0 ∷ 0 ∷ 0 ∷ 9 ∷ 0 ∷ 1 ∷ 0 ∷ 0 ∷ 0 ∷ 0 ∷ 7 ∷ 255 ∷ 255 ∷ 255 ∷ 255 ∷ []
+automatonA =
+    0 ∷ 0 ∷ 0 ∷ 38 ∷ 1 ∷ 1 ∷ 2 ∷ 0 ∷ 1 ∷ 0 ∷ 1 ∷ 0 ∷ 0 ∷ 0 ∷ 0 ∷ 0 ∷ 0 ∷ 0 ∷ 5 ∷ 0 ∷ 0 ∷ 0 ∷ 0 ∷ 0 ∷ 0 ∷ 0 ∷ 9 ∷
+    0 ∷ 1 ∷ 0 ∷ 0 ∷ 0 ∷ 0 ∷ 7 ∷ 255 ∷ 255 ∷ 255 ∷ 255 ∷ []
 
 abbrev pub Right : Example → Type 0
 Right x = (consultAnswer (x .cache) automatonA (x .amount) ≡ x .answer) × (consultCache (x .cache) automatonA (x .amount) ≡ x .after)
@@ -38,7 +40,7 @@ recordA = 0 ∷ 0 ∷ 0 ∷ 55 ∷ 1 ∷ 0 ∷ 0 ∷ 0 ∷ 1 ∷ 0 ∷ 0 ∷ 0 �
 abbrev filed : ℕ → List ℕ
 filed free = 0 ∷ 0 ∷ 0 ∷ 60 ∷ 1 ∷ (recordA ++ replicate free 9)
 
-abbrev holds : Answer
+abbrev pub holds : Answer
 holds = Found (Holds (Below (record { n = 1; d = 1 }))) 1
 
 -- another version, and the same record twice

@@ -10,7 +10,8 @@ use Rattle.search.specs.declared.verdict.Answer.the-variants.{Found, Refused}
 use Rattle.search.specs.declared.verdict.Verdict.{Verdict}
 use Rattle.search.specs.Demands.{Robust}
 use Rattle.search.specs.Given.{Lasting}
-use Rattle.cache.specs.Caches.{headerLength, usedOf, sound}
+use Rattle.cache.specs.Layouts.{headerLength}
+use Rattle.cache.specs.Caches.{usedOf, sound}
 use Rattle.cache.specs.Consulting.{makeEmptyCache, lookUpIn, consultAnswer, consultCache, consultStore}
 use Rattle.cache.specs.declared.lookup.Lookup.the-variants as lookup
 

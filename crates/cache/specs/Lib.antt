@@ -1,5 +1,6 @@
--- Document 01's shelf: a record's bytes, a sound cache, lookup and consulting; then caches that have grown from empty.
-pub mod Bytes
+-- Document 01's shelf: where everything stands in it, a record, a sound cache, lookup and consulting; then caches that have grown from empty.
+pub mod Placing
+pub mod Layouts
 pub mod Records
 pub mod Lookups
 pub mod Caches

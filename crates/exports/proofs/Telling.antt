@@ -1,21 +1,55 @@
--- An answer told in numbers, by its case.
+-- Numbers written over what was there, one by one; and an answer or a lookup told in numbers, by its case.
 -- Assumes nothing.
-use Prim.Native.Nat.{ℕ}
-use mathlib.Core.List.{List}
-use mathlib.Core.Path.{_≡_, refl}
-use lib.ListN.{getD}
+use Prim.Native.Nat.{ℕ, zero, suc, _<_, _≤_}
+use mathlib.Core.List.{List, [], _∷_}
+use mathlib.Core.Path.{_≡_, refl, ap, _∙_}
+use lib.ListN.{length, take, getD, set}
+use native.Mathlib.Omega.{arith}
 use Rattle.search.specs.declared.verdict.Answer.{Answer}
 use Rattle.search.specs.declared.verdict.Answer.the-variants.{Found, Refused}
 use Rattle.search.specs.declared.verdict.Verdict.{Verdict}
-use Rattle.exports.specs.Replies.{verdictNumbers, refusalNumber, kindTold, nTold, dTold, zonesTold}
+use Rattle.cache.specs.declared.lookup.Lookup.{Lookup}
+use Rattle.cache.specs.declared.lookup.Lookup.the-variants as lookup
+use Rattle.exports.specs.Replies.{verdictNumbers, over, answerNumber, told, lookupNumber, filedTold, lookupTold}
 
-module _ {a : Answer} (kind n d zones : ℕ) where
-  pub tells-found : (v : Verdict) (count : ℕ) → a ≡ Found v count → {ns : List ℕ} → ns ≡ verdictNumbers v count
-      → (0 ≡ refusalNumber a) × ((getD ns 0 0 ≡ kindTold a kind) × ((getD ns 1 0 ≡ nTold a n) × ((getD ns 2 0 ≡ dTold a d) × (getD ns 3 0 ≡ zonesTold a zones))))
-  unfolding verdictNumbers refusalNumber kindTold nTold dTold zonesTold
-  tells-found v count e g = rw (e, g) (refl, (refl, (refl, (refl, refl))))
+-- ---- `write_over`: a turn writes the next number; where nothing is left to write, or no room, all are written
+pub over-turn : (xs old : List ℕ) (i : ℕ) → i < length xs → set (over (take i xs) old) i (getD xs i 0) ≡ over (take (suc i) xs) old
+unfolding over
+over-turn [] old i h = absurd (omega arith)
+over-turn (x ∷ xs) [] zero h = refl
+over-turn (x ∷ xs) [] (suc i) h = refl
+over-turn (x ∷ xs) (y ∷ ys) zero h = refl
+over-turn (x ∷ xs) (y ∷ ys) (suc i) h = ap (λ (l : List ℕ). x ∷ l) (over-turn xs ys i (omega arith))
 
-  pub tells-refused : (k : ℕ) → a ≡ Refused k
-      → (k ≡ refusalNumber a) × ((kind ≡ kindTold a kind) × ((n ≡ nTold a n) × ((d ≡ dTold a d) × (zones ≡ zonesTold a zones))))
-  unfolding refusalNumber kindTold nTold dTold zonesTold
-  tells-refused k e = rw e (refl, (refl, (refl, (refl, refl))))
+pub over-full : (xs old : List ℕ) (i : ℕ) → length old ≤ i → over (take i xs) old ≡ over xs old
+unfolding over
+over-full [] old zero h = refl
+over-full [] old (suc i) h = refl
+over-full (x ∷ xs) [] zero h = refl
+over-full (x ∷ xs) [] (suc i) h = refl
+over-full (x ∷ xs) (y ∷ ys) zero h = absurd (omega arith)
+over-full (x ∷ xs) (y ∷ ys) (suc i) h = ap (λ (l : List ℕ). x ∷ l) (over-full xs ys i (omega arith))
+
+-- ---- `tell` and `tell_lookup`, by the case of what is told
+pub tells-found : {a : Answer} (old : List ℕ) {new : List ℕ} (v : Verdict) (zones : ℕ) → a ≡ Found v zones
+    → {ns : List ℕ} → ns ≡ verdictNumbers v zones → new ≡ over ns old → (0 ≡ answerNumber a) × (new ≡ told a old)
+unfolding answerNumber told
+tells-found old v zones e g w = rw e (refl, w ∙ ap (λ (ns : List ℕ). over ns old) g)
+
+pub tells-refused : {a : Answer} (old : List ℕ) (k : ℕ) → a ≡ Refused k → (k ≡ answerNumber a) × (old ≡ told a old)
+unfolding answerNumber told
+tells-refused old k e = rw e (refl, refl)
+
+module _ {l : Lookup} (was : ℕ) (old : List ℕ) where
+  pub tells-filed : {new : List ℕ} (v : Verdict) (zones : ℕ) → l ≡ lookup.Filed v zones → {ns : List ℕ} → ns ≡ verdictNumbers v zones
+      → new ≡ over ns old → (0 ≡ lookupNumber l) × ((1 ≡ filedTold l was) × (new ≡ lookupTold l old))
+  unfolding lookupNumber filedTold lookupTold told
+  tells-filed v zones e g w = rw e (refl, (refl, w ∙ ap (λ (ns : List ℕ). over ns old) g))
+
+  pub tells-absent : l ≡ lookup.Absent → (0 ≡ lookupNumber l) × ((0 ≡ filedTold l was) × (old ≡ lookupTold l old))
+  unfolding lookupNumber filedTold lookupTold
+  tells-absent e = rw e (refl, (refl, refl))
+
+  pub tells-turned-down : (k : ℕ) → l ≡ lookup.Refused k → (k ≡ lookupNumber l) × ((was ≡ filedTold l was) × (old ≡ lookupTold l old))
+  unfolding lookupNumber filedTold lookupTold told
+  tells-turned-down k e = rw e (refl, (refl, refl))

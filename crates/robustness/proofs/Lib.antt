@@ -1,4 +1,2 @@
--- Numbers in decimal, texts behind a line, and document 01's lines.
-pub mod Decimals
-pub mod Writing
+-- What is proved of the definition: document 01's lines. What stands beside the code is in the folder of its module: line.
 pub mod Examples

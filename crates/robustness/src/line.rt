@@ -1,4 +1,5 @@
 // Document 01's line for an answer, in bytes that are then written out at once.
+use bytes::copy;
 use search::verdict::Answer;
 use search::verdict::Holding;
 use search::verdict::Verdict;
@@ -20,14 +21,10 @@ fn with_text(line: Line, text: &[u8]) -> Line
 {
     let mut bytes = line.bytes;
     let at = line.length;
-    let mut i = 0;
-    while i < text.len() {
-        bytes[at + i] = text[i];
-        i += 1;
-    }
+    let copied = copy(text, &mut bytes[at..]);
     Line {
         bytes,
-        length: at + i,
+        length: at + copied,
     }
 }
 

@@ -1,32 +1,4 @@
--- What is proved of the definitions: of the reader, of the search over any zones, of an automaton's zones, slots and store, and of the answer.
--- Last, what the walks by hand share.
-pub mod Some
-pub mod Places
-pub mod Resets
-pub mod Refusals
-pub mod Accepting
-pub mod Lists
-pub mod Paths
-pub mod Judged
-pub mod Cover
-pub mod Same
-pub mod Capacity
-pub mod Robust
-pub mod Valuations
-pub mod Obeys
-pub mod Stepping
-pub mod Slotted
-pub mod Turns
-pub mod Stores
-pub mod Judging
-pub mod Sounding
-pub mod Arriving
-pub mod Expanding
-pub mod Taking
-pub mod Beginning
-pub mod Demands
-pub mod Answers
-pub mod Examples
-pub mod Given
-pub mod Calling
-pub mod Opening
+-- What is proved of the search of an automaton: that its zones obey the laws, and its answer. What stands beside the code is in the folders of
+-- its modules: successor and exploration.
+pub mod instance
+pub mod answers

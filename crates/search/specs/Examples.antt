@@ -8,7 +8,7 @@ use Rattle.search.specs.declared.verdict.Answer.{Answer}
 use Rattle.search.specs.declared.verdict.Answer.the-variants.{Found, Refused}
 use Rattle.search.specs.declared.verdict.Holding.the-variants.{AnyError, Below}
 use Rattle.search.specs.declared.verdict.Verdict.the-variants.{Reached, Holds}
-use Rattle.search.specs.Verdicts.{searchAnswer, searchStore}
+use Rattle.search.specs.Answers.{searchAnswer, searchStore}
 
 pub record Example : Type 0 where
   pub bytes : List ℕ
@@ -43,8 +43,12 @@ head size n target edges = number size ++ (1 ∷ n ∷ 2 ∷ 0 ∷ target ∷ 0 
 abbrev edge : ℕ → ℕ → ℕ → ℕ → List ℕ
 edge to reset lo hi = 0 ∷ to ∷ reset ∷ limits lo hi
 
+-- n clocks, the invariants of the two locations, and one edge
+abbrev card : ℕ → List ℕ → List ℕ → List ℕ → List ℕ
+card n start target edge = head 38 n 1 1 ++ (start ++ (target ++ edge))
+
 abbrev firstBytes : List ℕ
-firstBytes = head 38 1 1 1 ++ (limits 0 5 ++ (limits 0 9 ++ edge 1 0 7 noUpper))
+firstBytes = card 1 (limits 0 5) (limits 0 9) (edge 1 0 7 noUpper)
 
 -- ---- their stores
 -- two slots and two numbers more
@@ -64,17 +68,17 @@ below n d zones = Found (Holds (Below (record { n = n; d = d }))) zones
 abbrev pub examples : List Example
 examples =
     record { bytes = firstBytes; store = lent; answer = below 1 1 1; after = first 5 }  -- A
-    ∷ record { bytes = head 38 1 1 1 ++ (limits 0 5 ++ (limits 0 9 ++ edge 1 0 5 noUpper)); store = lent; answer = Found Reached 1; after = first 5 }  -- B
-    ∷ record { bytes = head 38 1 1 1 ++ (limits 0 9 ++ (limits 0 9 ++ edge 1 0 5 3)); store = lent; answer = below 1 1 1; after = first 9 }  -- C
+    ∷ record { bytes = card 1 (limits 0 5) (limits 0 9) (edge 1 0 5 noUpper); store = lent; answer = Found Reached 1; after = first 5 }  -- B
+    ∷ record { bytes = card 1 (limits 0 9) (limits 0 9) (edge 1 0 5 3); store = lent; answer = below 1 1 1; after = first 9 }  -- C
     ∷ record { bytes = head 27 1 1 0 ++ (limits 0 5 ++ limits 0 9); store = lent; answer = Found (Holds AnyError) 1; after = first 5 }  -- D
     ∷ record { bytes = head 27 1 1 0 ++ (limits 2 5 ++ limits 0 9); store = lent; answer = below 2 1 0; after = lent }  -- E
     ∷ record { bytes = head 27 1 1 0 ++ (limits 2 5 ++ limits 0 9); store = []; answer = below 2 1 0; after = [] }  -- E, with an empty store
     ∷ record { bytes = head 27 1 0 0 ++ (limits 2 5 ++ limits 0 9); store = lent; answer = below 2 1 0; after = lent }  -- E, start also the target
-    ∷ record { bytes = head 38 1 1 1 ++ (limits 0 5 ++ (limits 0 9 ++ edge 1 1 4 noUpper)); store = lent; answer = Found Reached 1; after = first 5 }  -- F
-    ∷ record { bytes = head 38 1 1 1 ++ (limits 0 5 ++ (limits 3 9 ++ edge 1 1 0 noUpper)); store = lent; answer = below 3 1 1; after = first 5 }  -- G
-    ∷ record { bytes = head 38 1 1 1 ++ (limits 0 5 ++ (limits 0 9 ++ edge 0 1 0 noUpper)); store = lent; answer = Found (Holds AnyError) 1; after = first 5 }  -- H
+    ∷ record { bytes = card 1 (limits 0 5) (limits 0 9) (edge 1 1 4 noUpper); store = lent; answer = Found Reached 1; after = first 5 }  -- F
+    ∷ record { bytes = card 1 (limits 0 5) (limits 3 9) (edge 1 1 0 noUpper); store = lent; answer = below 3 1 1; after = first 5 }  -- G
+    ∷ record { bytes = card 1 (limits 0 5) (limits 0 9) (edge 0 1 0 noUpper); store = lent; answer = Found (Holds AnyError) 1; after = first 5 }  -- H
     ∷ record { bytes = firstBytes; store = replicate 8 (pos 7); answer = Refused 10; after = replicate 8 (pos 7) }  -- I
     ∷ record { bytes = firstBytes; store = replicate 9 (pos 7); answer = below 1 1 1; after = kept 5 }  -- I
-    ∷ record { bytes = head 38 1 1 1 ++ (limits 0 5 ++ (limits 0 9 ++ edge 1 2 7 noUpper)); store = lent; answer = Refused 7; after = lent }  -- J
-    ∷ record { bytes = head 38 9 1 1 ++ (limits 0 5 ++ (limits 0 9 ++ edge 1 0 7 noUpper)); store = lent; answer = Refused 4; after = lent }  -- J, n of 9
+    ∷ record { bytes = card 1 (limits 0 5) (limits 0 9) (edge 1 2 7 noUpper); store = lent; answer = Refused 7; after = lent }  -- J
+    ∷ record { bytes = card 9 (limits 0 5) (limits 0 9) (edge 1 0 7 noUpper); store = lent; answer = Refused 4; after = lent }  -- J, n of 9
     ∷ []

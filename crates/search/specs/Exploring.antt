@@ -9,22 +9,23 @@ use Rattle.zones.specs.declared.pair.Pair.{Pair}
 use Rattle.zones.specs.declared.reduction.Reduced.{Reduced}
 use Rattle.zones.specs.declared.zone.Work.{Work}
 use Rattle.zones.specs.Fractions.{noLimit}
-use Rattle.zones.specs.Ranges.{Ranged, Sized, Fits32, scale, counts, lastCounts}
+use Rattle.zones.specs.Ranges.{Ranged, Sized, Fits32, counts, lastCounts}
+use Rattle.runs.specs.Limits.{scale}
 use Rattle.zones.specs.Successors.{enterOf, followOf}
 use Rattle.zones.specs.Zones.{resetOf}
-use Rattle.search.specs.declared.exploration.Turn.{Turn}
-use Rattle.search.specs.Automata.{clocks, locations, to, guardOf, invariantOf, resetsOf}
+use Rattle.search.specs.declared.outcome.Turn.{Turn}
+use Rattle.search.specs.Outcomes.{outcomeOf}
+use Rattle.automata.specs.Automata.{clocks, locations, to, guardOf, invariantOf, resetsOf}
 use Rattle.search.specs.Instance.{ZoneNode, ZoneState, workOf, resultOf, zonesOf}
-use Rattle.search.specs.Search.{Nth, offer}
-use Rattle.search.specs.Semantics.{systemOf}
-use Rattle.search.specs.Slots.{slotLength}
-use Rattle.search.specs.Decoding.{Framed}
-use Rattle.search.specs.Containing.{withinSlots}
+use Rattle.reachability.specs.Search.{going, Nth, offer}
+use Rattle.automata.specs.Semantics.{systemOf}
+use Rattle.slots.specs.Slots.{slotLength, slotLocation, Framed}
+use Rattle.slots.specs.Containing.{withinSlots}
 use Rattle.search.specs.Store.{storeOf}
 
 -- ---- slot j, of the same location as the new one, contains it
 pub record Hits (n : ℕ) (new s : List ℤ) (j : ℕ) : Type 0 where
-  pub same : getD s (j * slotLength n) (pos 0) ≡ getD new 0 (pos 0)
+  pub same : getD s (j * slotLength n) (pos 0) ≡ slotLocation new
   pub inside : withinSlots new (drop (j * slotLength n) s) (n * n) ≡ true
 
 -- r is the first of the `count` slots that does, or `count`
@@ -50,22 +51,32 @@ pub record SoundResult (b : List ℕ) (r : Reduced) : Type 0 where
   pub sized : r .empty ≡ false → Sized lastCounts (suc (clocks b)) (r .work)
   pub framed : r .empty ≡ false → Framed (suc (clocks b)) (r .work .zone)
 
--- ---- the store s has the kept zones of q, and past them what s₀ had; `count` is their number
-pub record Stored (n : ℕ) (s₀ : List ℤ) (q : ZoneState) (s : List ℤ) (count : ℕ) : Type 0 where
-  pub number : count ≡ length (q .kept)
-  pub store : s ≡ storeOf n (q .kept) s₀
-
--- and the turn has the rest
+-- ---- the store s and the turn t show the state q: its kept zones, and past them what s₀ had
 pub record Shown (n : ℕ) (s₀ : List ℤ) (q : ZoneState) (s : List ℤ) (t : Turn) : Type 0 where
-  pub stored : Stored n s₀ q s (t .count)
+  pub number : t .count ≡ length (q .kept)
+  pub store : s ≡ storeOf n (q .kept) s₀
   pub fraction : t .fraction ≡ q .frac
-  pub code : t .code ≡ q .code
+  pub outcome : outcomeOf (t .outcome) ≡ q .outcome
 
--- what an operation of the search gives from a state, from the store s and `count` kept zones to s′ and r: it shows what the definition f
--- comes to, of every sound state that the store shows
-pub record Gives (b : List ℕ) (slots : ℕ) (s : List ℤ) (count : ℕ) (f : ZoneState → ZoneState) (s′ : List ℤ) (r : Turn) : Type 0 where
-  pub shows : (s₀ : List ℤ) (q : ZoneState) → Stored (suc (clocks b)) s₀ q s count → SoundState b slots q → Shown (suc (clocks b)) s₀ (f q) s′ r
+-- a sound state that goes on
+pub record Live (b : List ℕ) (slots : ℕ) (s₀ : List ℤ) (q : ZoneState) (s : List ℤ) (t : Turn) : Type 0 where
+  pub shown : Shown (suc (clocks b)) s₀ q s t
+  pub sound : SoundState b slots q
+  pub goes : q .outcome ≡ going
 
+-- a search that goes on, at the turn t, with places for `slots` slots in the store that was lent
+pub record Going (b : List ℕ) (slots : ℕ) (s : List ℤ) (t : Turn) : Type 0 where
+  pub base : List ℤ
+  pub state : ZoneState
+  pub live : Live b slots base state s t
+  pub long : slots * slotLength (suc (clocks b)) ≤ length base
+
+-- what a part of the search gives from the store s and the turn t to s′ and r: of every state that they show, sound and going on, they
+-- show what the definition f comes to
+pub record Continues (b : List ℕ) (slots : ℕ) (s : List ℤ) (t : Turn) (f : ZoneState → ZoneState) (s′ : List ℤ) (r : Turn) : Type 0 where
+  pub shows : (s₀ : List ℤ) (q : ZoneState) → Live b slots s₀ q s t → Shown (suc (clocks b)) s₀ (f q) s′ r
+
+-- ---- what is offered
 -- the zone w after a reset of the clocks R, entered in l
 abbrev pub arrivalOf : List ℕ → ℕ → (ℕ → Bool) → Work → Reduced
 arrivalOf b l R w = enterOf (clocks b) (invariantOf b l) (resetOf (suc (clocks b)) R w)
@@ -74,31 +85,13 @@ arrivalOf b l R w = enterOf (clocks b) (invariantOf b l) (resetOf (suc (clocks b
 abbrev pub successorOf : List ℕ → ℕ → Work → Reduced
 successorOf b i w = followOf (clocks b) (guardOf b i) (resetsOf b i) (invariantOf b (to b i)) w
 
+-- a zone of location l, to which the edges p lead
+abbrev pub nodeAt : ℕ → List ℕ → List Pair → ZoneNode
+nodeAt l p z = record { at = l; zone = z; path = p }
+
 -- what the offer of r in l gives, whatever the edges that lead there
-abbrev pub Offers : List ℕ → ℕ → List ℤ → ℕ → ℕ → Reduced → List ℤ → Turn → Type 0
-Offers b slots s count l r s′ t = (p : List ℕ) → Gives b slots s count (λ q. offer (systemOf b) (zonesOf b) slots q l p (resultOf r)) s′ t
-
--- a search in progress, with room for `slots` slots in the store that was lent
-pub record InProgress (b : List ℕ) (slots : ℕ) (s : List ℤ) (count : ℕ) : Type 0 where
-  pub base : List ℤ
-  pub state : ZoneState
-  pub stored : Stored (suc (clocks b)) base state s count
-  pub sound : SoundState b slots state
-  pub room : slots * slotLength (suc (clocks b)) ≤ length base
-
--- a search that goes on, at the turn t
-pub record Going (b : List ℕ) (slots : ℕ) (s : List ℤ) (t : Turn) : Type 0 where
-  pub base : List ℤ
-  pub state : ZoneState
-  pub shown : Shown (suc (clocks b)) base state s t
-  pub sound : SoundState b slots state
-  pub going : state .code ≡ 0
-  pub room : slots * slotLength (suc (clocks b)) ≤ length base
-
--- what a part of the search gives from the store s and the turn t to s′ and r, of every sound state that they show and that goes on
-pub record Continues (b : List ℕ) (slots : ℕ) (s : List ℤ) (t : Turn) (f : ZoneState → ZoneState) (s′ : List ℤ) (r : Turn) : Type 0 where
-  pub shows : (s₀ : List ℤ) (q : ZoneState) → Shown (suc (clocks b)) s₀ q s t → SoundState b slots q → q .code ≡ 0 →
-      Shown (suc (clocks b)) s₀ (f q) s′ r
+abbrev pub Offers : List ℕ → ℕ → List ℤ → Turn → ℕ → Reduced → List ℤ → Turn → Type 0
+Offers b slots s t l r s′ t′ = (p : List ℕ) → Continues b slots s t (λ q. offer (systemOf b) (zonesOf b) slots q (nodeAt l p) (resultOf r)) s′ t′
 
 -- the zone of a node that is taken
 pub record SoundZone (b : List ℕ) (z : List Pair) : Type 0 where

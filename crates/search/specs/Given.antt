@@ -8,9 +8,10 @@ use Rattle.zones.specs.Fractions.{gcdOf}
 use Rattle.search.specs.declared.verdict.Answer.{Answer}
 use Rattle.search.specs.declared.verdict.Answer.the-variants.{Found, Refused}
 use Rattle.search.specs.declared.verdict.Verdict.the-variants.{Reached, Holds}
-use Rattle.search.specs.Automata.{refusalOf}
+use Rattle.automata.specs.Refusals.{refusalOf}
 use Rattle.search.specs.Store.{mostSlots}
-use Rattle.search.specs.Verdicts.{fractionOf, holdingOf, searchAnswer}
+use Rattle.search.specs.Verdicts.{fractionOf, holdingOf}
+use Rattle.search.specs.Answers.{searchAnswer}
 
 -- ---- its numbers: n is at least 1, n/d is in lowest terms, and a record's "4 bytes n, 4 bytes d, 4 bytes zone count" suffice
 pub record Terms (f : Fraction) : Type 0 where

@@ -17,10 +17,11 @@ use Rattle.zones.specs.Sets.{squareOf, Has}
 use Rattle.zones.specs.Successors.{enterOf, followOf}
 use Rattle.zones.specs.Values.{Below}
 use Rattle.zones.specs.Zones.{firstWork}
-use Rattle.search.specs.Automata.{clocks, start, to, invariantOf, guardOf, resetsOf}
-use Rattle.search.specs.Meaning.{Meaning}
-use Rattle.search.specs.Search.{Result, empty, zone, Zones, Node, State, search}
-use Rattle.search.specs.Semantics.{Valuation, ticks, systemOf}
+use Rattle.automata.specs.Automata.{clocks, start, to, invariantOf, guardOf, resetsOf}
+use Rattle.reachability.specs.Meaning.{Meaning}
+use Rattle.reachability.specs.Search.{Result, empty, zone, Zones, Node, State, search}
+use Rattle.runs.specs.Timed.{Valuation, ticks}
+use Rattle.automata.specs.Semantics.{systemOf}
 
 abbrev pub workOf : List Pair → Fraction → Work
 workOf z f = record { zone = z; fraction = f }
@@ -40,11 +41,9 @@ following b i z f = resultOf (followOf (clocks b) (guardOf b i) (resetsOf b i) (
 unfoldable pub overcounted : List ℕ → List Pair → Bool
 overcounted b z = ltb counts (largestCount (suc (clocks b)) z)
 
-abbrev pub zonesOf : List ℕ → Zones
+abbrev pub zonesOf : List ℕ → Zones (List Pair) Fraction
 zonesOf b =
     record {
-      Z = List Pair;
-      F = Fraction;
       top = noLimit;
       enter = entering b;
       succ = following b;
@@ -69,7 +68,7 @@ pub record Inside (b : List ℕ) (z : List Pair) (s e : ℕ) (v : Valuation) : T
   pub all : length v ≡ clocks b
   pub has : Has s e (clocks b) (workOf z noLimit) (ticks v)
 
-abbrev pub meaningOf : (b : List ℕ) → Meaning (systemOf b) (zonesOf b)
+abbrev pub meaningOf : (b : List ℕ) → Meaning (systemOf b) (List Pair) Fraction
 meaningOf b =
     record {
       In = Inside b;

@@ -6,13 +6,13 @@ use lib.Dec.{ltb}
 use lib.IntN.{ℤ}
 use lib.ListN.{length, drop}
 use Rattle.zones.specs.declared.pair.Pair.{Pair}
-use Rattle.search.specs.Search.{Node}
-use Rattle.search.specs.Slots.{slotLength, slotOf}
+use Rattle.reachability.specs.Search.{Node}
+use Rattle.slots.specs.Slots.{slotLength, headOf, slotOf}
 
 -- "Slots stand in order of keeping"
 unfoldable pub slotsOf : ℕ → List (Node (List Pair)) → List ℤ
 slotsOf n [] = []
-slotsOf n (k ∷ ks) = slotOf n (k .at) (k .zone) ++ slotsOf n ks
+slotsOf n (k ∷ ks) = slotOf n (headOf (k .at)) (k .zone) ++ slotsOf n ks
 
 -- "all numbers past the last kept zone are unchanged"
 unfoldable pub storeOf : ℕ → List (Node (List Pair)) → List ℤ → List ℤ

@@ -1,57 +1,37 @@
--- The answer of the search, with document 01's number and values for each of its cases, and the store that it leaves.
-use Prim.Native.Nat.{ℕ, zero, suc}
-use mathlib.Core.Bool.{cond}
-use mathlib.Core.List.{List}
-use lib.Dec.{eqb}
-use lib.IntN.{ℤ}
-use lib.ListN.{length}
+-- A verdict, with document 01's numbers and values for each of its cases, and which numbers are those of a verdict.
+use Prim.Native.Nat.{ℕ}
+use mathlib.Core.Bool.{Bool, cond, _&&_}
+use lib.Dec.{leb, eqb}
 use Rattle.zones.specs.declared.fraction.Fraction.{Fraction}
-use Rattle.zones.specs.declared.pair.Pair.{Pair}
-use Rattle.zones.specs.Fractions.{noLimit, lowestTerms}
-use Rattle.search.specs.declared.verdict.Answer.{Answer}
-use Rattle.search.specs.declared.verdict.Answer.the-variants.{Found, Refused}
+use Rattle.zones.specs.Fractions.{noLimit, gcdOf}
 use Rattle.search.specs.declared.verdict.Holding.{Holding}
 use Rattle.search.specs.declared.verdict.Holding.the-variants.{AnyError, Below}
+use Rattle.search.specs.declared.verdict.Numbers.{Numbers}
 use Rattle.search.specs.declared.verdict.Verdict.{Verdict}
 use Rattle.search.specs.declared.verdict.Verdict.the-variants.{Reached, Holds}
-use Rattle.search.specs.Automata.{clocks, refusalOf}
-use Rattle.search.specs.Instance.{searchOf}
-use Rattle.search.specs.Search.{State}
-use Rattle.search.specs.Store.{storeOf, capacityOf}
 
--- ---- document 01's numbers and values
+-- ---- a holding and its fraction
 -- holding at any error counts as 1/0, as demand 3 has it
 abbrev pub fractionOf : Holding → Fraction
 fractionOf AnyError = noLimit
 fractionOf (Below f) = f
 
--- a record's kind: 0 reached, 1 holds; and its n and d, 0 and 0 where it is reached
-abbrev pub kindOf : Verdict → ℕ
-kindOf Reached = 0
-kindOf (Holds h) = 1
-
-abbrev pub termsOf : Verdict → Fraction
-termsOf Reached = record { n = 0; d = 0 }
-termsOf (Holds h) = fractionOf h
-
--- ---- the answer from where the search stopped: its fraction "is given out in lowest terms"
+-- up to which error a fraction says that it holds
 unfoldable pub holdingOf : Fraction → Holding
 holdingOf f = cond (eqb (f .d) 0) AnyError (Below f)
 
-unfoldable pub answerOf : ℕ → Fraction → ℕ → Answer
-answerOf zero f zones = Found (Holds (holdingOf (lowestTerms f))) zones
-answerOf (suc zero) f zones = Found Reached zones
-answerOf (suc (suc k)) f zones = Refused (suc (suc k))
+-- ---- a verdict and its numbers: "kind (0 reached, 1 holds)", n and d. "Reached has 0 and 0."
+unfoldable pub numbersOf : Verdict → Numbers
+numbersOf Reached = record { kind = 0; n = 0; d = 0 }
+numbersOf (Holds h) = record { kind = 1; n = fractionOf h .n; d = fractionOf h .d }
 
-unfoldable pub stateAnswer : State (List Pair) Fraction → Answer
-stateAnswer q = answerOf (q .code) (q .frac) (length (q .kept))
+-- the verdict that numbers say
+unfoldable pub verdictOf : Numbers → Verdict
+verdictOf x = cond (eqb (x .kind) 0) Reached (Holds (holdingOf (record { n = x .n; d = x .d })))
 
--- the search of the bytes b in a store of `amount` numbers, and the store that it leaves
-abbrev pub stateOf : List ℕ → ℕ → State (List Pair) Fraction
-stateOf b amount = searchOf b (capacityOf (suc (clocks b)) amount)
-
-unfoldable pub searchAnswer : List ℕ → ℕ → Answer
-searchAnswer b amount = cond (eqb (refusalOf b) 0) (stateAnswer (stateOf b amount)) (Refused (refusalOf b))
-
-unfoldable pub searchStore : List ℕ → List ℤ → List ℤ
-searchStore b s = cond (eqb (refusalOf b) 0) (storeOf (suc (clocks b)) (stateOf b (length s) .kept) s) s
+-- "kinds and fractions as above, a holding record's n at least 1 and in lowest terms (d of 0 only with n of 1)": the greatest common
+-- divisor of n and 0 is n
+unfoldable pub soundNumbers : Numbers → Bool
+soundNumbers x =
+    cond (eqb (x .kind) 0) (eqb (x .n) 0 && eqb (x .d) 0)
+    (eqb (x .kind) 1 && (leb 1 (x .n) && eqb (gcdOf (x .n) (x .d)) 1))

@@ -1,61 +1,48 @@
-// The reader of automata and the search for their verdicts.
-mod automaton;
-mod containment;
+// The search for the verdict of an automaton.
 mod exploration;
-mod opened;
-mod slot;
+mod outcome;
 mod successor;
 pub mod verdict;
 
-use exploration::Turn;
+use automata::refusal;
 use exploration::explore;
+use outcome::Outcome;
+use outcome::Turn;
 use verdict::Answer;
 use verdict::Holding;
 use verdict::Verdict;
+use verdict::limit;
 use zones::fraction::Fraction;
 ghost use mathlib.Core.Path.{_≡_};
 ghost use Prim.Native.Nat.{_≤_};
 ghost use lib.ListN.{length};
 ghost use Rattle.zones.specs.Fractions.{lowestTerms};
-ghost use Rattle.search.specs.Automata.{refusalOf};
+ghost use Rattle.search.specs.Outcomes.{outcomeOf};
 ghost use Rattle.search.specs.Promised.{Promised};
 ghost use Rattle.search.specs.Store.{mostSlots};
-ghost use Rattle.search.specs.Verdicts.{holdingOf, answerOf, searchAnswer, searchStore};
+ghost use Rattle.search.specs.Verdicts.{holdingOf};
+ghost use Rattle.search.specs.Answers.{answerOf, searchAnswer, searchStore};
 
 // Up to which error a search that went to its end holds.
 fn holding(f: Fraction) -> Holding
     ensures { λ r. ⌜ r ≡ holdingOf (lowestTerms f) ⌝ }
 {
-    let lowest = f.lowest_terms();
-    if lowest.d == 0 {
-        Holding::AnyError
-    } else {
-        Holding::Below(lowest)
-    }
+    limit(f.lowest_terms())
 }
 
 // The search's answer, from where it stopped.
 fn answer(t: Turn) -> Answer
     requires { ⌜ t .count ≤ mostSlots ⌝ }
-    ensures { λ r. ⌜ r ≡ answerOf (t .code) (t .fraction) (t .count) ⌝ }
+    ensures { λ r. ⌜ r ≡ answerOf (outcomeOf (t .outcome)) (t .fraction) (t .count) ⌝ }
 {
-    let code = t.code;
     let zones = t.count as u32;
     let fraction = t.fraction;
-    if code == 0 {
-        return Answer::Found(Verdict::Holds(holding(fraction)), zones);
+    let outcome = t.outcome;
+    match outcome {
+        Outcome::Going => Answer::Found(Verdict::Holds(holding(fraction)), zones),
+        Outcome::Reached => Answer::Found(Verdict::Reached, zones),
+        Outcome::Refused(k) => Answer::Refused(k),
     }
-    if code == 1 {
-        return Answer::Found(Verdict::Reached, zones);
-    }
-    Answer::Refused(code)
-}
-
-// The number by which an automaton is turned down at reading, 0 for none.
-pub fn refusal(automaton: &[u8]) -> u32
-    ensures { λ r. ⌜ r ≡ refusalOf (now (automaton .entry)) ⌝ }
-{
-    automaton::refusal(automaton)
 }
 
 // The verdict of an automaton, with the zones kept in the lent store: the answer and the store of document 01's search.
@@ -66,7 +53,7 @@ pub fn search(automaton: &[u8], store: &mut [i32]) -> Answer
     ensures { λ r. ⌜ now (store .exit) ≡ searchStore (now (automaton .entry)) (now (store .entry)) ⌝ }
     ensures { λ r. ⌜ Promised (now (automaton .entry)) (length (now (store .entry))) r ⌝ }
 {
-    let number = automaton::refusal(automaton);
+    let number = refusal(automaton);
     if number != 0 {
         return Answer::Refused(number);
     }

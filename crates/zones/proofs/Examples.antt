@@ -1,27 +1,29 @@
--- A worked example, computed: the steps of document 01's card A.
+-- The examples worked by hand, computed from the definitions.
 -- Assumes nothing.
-use Prim.Native.Nat.{ℕ}
-use mathlib.Core.Path.{_≡_, refl}
-use mathlib.Core.Bool.{Bool, true, false}
-use lib.IntN.{pos}
-use Rattle.zones.specs.declared.reduction.Reduced.{Reduced}
+use mathlib.Core.List.{List, [], _∷_, _++_}
+use mathlib.Core.Path.{refl}
+use Rattle.zones.specs.Containment.{withinTo, loweredTo, larger, countTo}
+use Rattle.zones.specs.Examples.{Example, AllRight, meeting, reducing, resetting, moving, lowering, containing, examples}
 use Rattle.zones.specs.Fractions.{loweredBy, euclid, gcdOf, lowestTerms}
-use Rattle.zones.specs.Pairs.{atMost, sumOf, isLess, thresholdOf, smallerOf}
-use Rattle.zones.specs.Zones.{Limits, pairAt, entry, firstWork, lowerAt, meetUpper, meetClock, meetLimits, raiseLimits, home, resetPlaces, resetOf}
+use Rattle.zones.specs.Pairs.{sumOf, isLess, thresholdOf, smallerOf}
 use Rattle.zones.specs.Reductions.{relaxed, rowSteps, roundSteps, emptyIn, afterMiddle, reduceSteps}
 use Rattle.zones.specs.Successors.{andThen, meetOf, enterOf, followOf, startOf}
+use Rattle.zones.specs.Zones.{pairAt, firstWork, lowerAt, meetUpper, meetClock, meetLimits, raiseLimits, home, resetPlaces, resetOf}
 
-limits : ℕ → ℕ → Bool → Limits
-limits a b t = record { lo = λ x. a; hi = λ x. b; absent = λ x. t }
+and : (a b : List Example) → AllRight a → AllRight b → AllRight (a ++ b)
+and [] b x y = y
+and (c ∷ a) b x y = (x .0, and a b (x .1) y)
 
--- the start's zone of card A, as document 01 stores it: 0 0 0 0 5 1 0 0
-begun : Reduced
-begun = startOf 1 (limits 0 5 false)
-
--- its edge, guard lo 7 with no upper limit
-followed : Reduced
-followed = followOf 1 (limits 7 0 true) (λ x. false) (limits 0 9 false) (begun .work)
-
-first-example : (begun .empty ≡ false) × (entry (begun .work) 1 0 ≡ atMost 5) × (entry (begun .work) 0 1 ≡ record { m = pos 0; p = 0 }) × (followed .empty ≡ true) × (lowestTerms (followed .work .fraction) ≡ record { n = 1; d = 1 })
-unfolding begun followed limits loweredBy euclid gcdOf lowestTerms sumOf isLess thresholdOf smallerOf pairAt firstWork lowerAt meetUpper meetClock meetLimits raiseLimits home resetPlaces resetOf relaxed rowSteps roundSteps emptyIn afterMiddle reduceSteps andThen meetOf enterOf followOf startOf
-first-example = (refl, refl, refl, refl, refl)
+pub all-right : AllRight examples
+unfolding withinTo loweredTo larger countTo loweredBy euclid gcdOf lowestTerms sumOf isLess thresholdOf smallerOf relaxed rowSteps roundSteps
+    emptyIn afterMiddle reduceSteps andThen meetOf enterOf followOf startOf pairAt firstWork lowerAt meetUpper meetClock meetLimits raiseLimits
+    home resetPlaces resetOf
+all-right =
+    and meeting (reducing ++ (resetting ++ (moving ++ (lowering ++ containing))))
+    (refl, (refl, (refl, (refl, (refl, (refl, (refl, (refl, (refl, tt)))))))))
+    (and reducing (resetting ++ (moving ++ (lowering ++ containing)))
+    (refl, (refl, (refl, (refl, (refl, (refl, (refl, (refl, (refl, (refl, (refl, (refl, tt))))))))))))
+    (and resetting (moving ++ (lowering ++ containing)) (refl, (refl, tt))
+    (and moving (lowering ++ containing) (refl, (refl, (refl, (refl, (refl, (refl, (refl, (refl, (refl, tt)))))))))
+    (and lowering containing (refl, (refl, (refl, (refl, (refl, (refl, (refl, (refl, (refl, (refl, tt))))))))))
+    (refl, (refl, (refl, (refl, (refl, (refl, (refl, tt)))))))))))

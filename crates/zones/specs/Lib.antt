@@ -11,3 +11,4 @@ pub mod Moves
 pub mod Ranges
 pub mod Integers
 pub mod Settled
+pub mod Examples

@@ -1,4 +1,5 @@
 -- What it is for an operation on zones to stand for a step of valuations S. The two inclusions stand apart.
+-- There are n indices, and c clocks.
 use Prim.Native.Nat.{ℕ, suc, _+_, _≤_, _<_}
 use mathlib.Core.Path.{_≡_}
 use mathlib.Core.Bool.{false}
@@ -32,7 +33,8 @@ pub record Shaped (c : ℕ) (w : Work) : Type 0 where
   pub size : length (w .zone) ≡ 81
   pub diagonal : (a : ℕ) → a < suc c → entry w a a ≡ zeroPair
 
--- Into the zone: every state that S gives from a state of w is in r, whatever the thresholds; below the running fraction r is then not declared empty.
+-- Into the zone: every state that S gives from a state of w is in r, whatever the thresholds; below the running fraction r is then not declared
+-- empty.
 -- The running fraction only falls, and its numerator stays at least 1
 pub record Includes (s e c : ℕ) (S : (ℕ → ℕ) → (ℕ → ℕ) → Type 0) (w : Work) (r : Reduced) : Type 0 where
   pub before : Below s e (r .work .fraction) → Below s e (w .fraction)

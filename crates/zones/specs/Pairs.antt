@@ -28,7 +28,8 @@ sumOf a b = record { m = a .m +ℤ b .m; p = a .p + b .p }
 unfoldable pub isLess : Pair → Pair → Bool
 isLess a b = cond (ltZ (a .m) (b .m)) true (cond (ltZ (b .m) (a .m)) false (ltb (a .p) (b .p)))
 
--- "Where the chosen (m, p) has p above the other's r, the other being (q, r), the comparison yields the threshold (q − m)/(p − r)": a was chosen, and b was not
+-- "Where the chosen (m, p) has p above the other's r, the other being (q, r), the comparison yields the threshold (q − m)/(p − r)": a was chosen, and
+-- b was not
 unfoldable pub thresholdOf : Pair → Pair → Fraction
 thresholdOf a b = cond (ltb (b .p) (a .p)) (record { n = natAbs (b .m -ℤ a .m); d = a .p - b .p }) noLimit
 

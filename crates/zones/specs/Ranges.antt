@@ -1,4 +1,5 @@
 -- How large the numbers get, with the bounds as parameters: document 01's and those of a later scale differ only in `scale`, `counts` and `widest`.
+-- C bounds |m| and P the error counts, N and D the fraction. There are n indices, and c clocks.
 use Prim.Native.Nat.{ℕ, suc, _*_, _≤_, _<_, _^_}
 use mathlib.Core.Path.{_≡_}
 use mathlib.Core.Bool.{Bool, false}
@@ -12,11 +13,8 @@ use Rattle.zones.specs.declared.zone.Bounds.{Bounds}
 use Rattle.zones.specs.declared.zone.Work.{Work}
 use Rattle.zones.specs.Integers.{up, down}
 use Rattle.zones.specs.Pairs.{zeroPair}
-use Rattle.zones.specs.Zones.{Limits, pairAt, entry}
-
--- "lo and hi run from 0 to 1,000,000"
-abbrev pub scale : ℕ
-scale = 1000000
+use Rattle.runs.specs.Limits.{Limits, scale}
+use Rattle.zones.specs.Zones.{pairAt, entry}
 
 -- "an error count above 65,535" is not kept
 abbrev pub counts : ℕ
@@ -49,7 +47,7 @@ pub record Spread (C P K : ℕ) (a : Pair) : Type 0 where
   pub p : a .p ≤ K * P
 
 -- a reduction of nine indices that begins with |m| ≤ C and p ≤ P has thresholds up to 19 C / 1 and 1 / 18 P: these are within N and D
-pub record Room (N D C P : ℕ) : Type 0 where
+pub record Suffices (N D C P : ℕ) : Type 0 where
   pub n : 19 * C ≤ N
   pub d : 18 * P ≤ D
   pub one : 0 < C
@@ -106,6 +104,12 @@ pub record LimitsReady (b : Bounds) (lo hi : ℕ) (absent : Bool) : Type 0 where
 -- the error counts after a step's last reduction
 abbrev pub lastCounts : ℕ
 lastCounts = 1000 * counts
+
+-- a pair of such a zone that was chosen, beside that of a kept one
+pub record ChoiceReady (a b : Pair) : Type 0 where
+  pub chosen : Bounded scale lastCounts a
+  pub other : Bounded scale lastCounts b
+  pub order : a .m ≤ℤ b .m
 
 abbrev pub AllBounded : ℕ → ℕ → ℕ → List Pair → Type 0
 AllBounded C P n z = (a b : ℕ) → a < n → b < n → Bounded C P (pairAt z a b)

@@ -1,4 +1,5 @@
--- "Reduction: middle index outermost, then row, then column, in clock order from 0. Each entry becomes the smaller of itself and row-to-middle plus middle-to-column."
+-- "Reduction: middle index outermost, then row, then column, in clock order from 0. Each entry becomes the smaller of itself and row-to-middle plus
+-- middle-to-column."
 -- There are `n` indices: 0 and the clocks.
 use Prim.Native.Nat.{ℕ, zero, suc}
 use mathlib.Core.Bool.{Bool, true, false, cond}

@@ -1,15 +1,16 @@
 -- The set of a zone at an error e/s, and how waits, jumps and limits go from valuation to valuation, as document 01's "Runs" has them.
--- A valuation gives each clock, by its index from 1, its ticks; index 0 stands for 0. There are c clocks.
-use Prim.Native.Nat.{ℕ, suc, _+_, _*_, _≤_, _<_}
+-- A valuation gives each clock, by its index from 1, its ticks; index 0 stands for 0. There are n indices, and c clocks.
+use Prim.Native.Nat.{ℕ, suc, _+_, _≤_, _<_}
 use mathlib.Core.Path.{_≡_}
-use mathlib.Core.Bool.{Bool, false}
+use mathlib.Core.Bool.{Bool}
 use lib.IntN.{ℤ}
 use Rattle.zones.specs.declared.zone.Work.{Work}
 use Rattle.zones.specs.Integers.{up, down}
-use Rattle.zones.specs.Zones.{Limits, entry, home}
+use Rattle.runs.specs.Limits.{Limits, Within}
+use Rattle.zones.specs.Zones.{entry, home}
 use Rattle.zones.specs.Values.{valueOf}
 
--- x − y ≤ z, in naturals, so that omega reads it as it stands (`gap-read` and `gap-make` of proofs/Squares)
+-- x − y ≤ z, in naturals, so that omega reads it as it stands (`gap-read` and `gap-make` of proofs/sets/Squares)
 pub record Gap (z : ℤ) (x y : ℕ) : Type 0 where
   pub gap : x + down z ≤ up z + y
 
@@ -27,14 +28,6 @@ squareOf s e w = λ a b. valueOf s e (entry w a b)
 
 abbrev pub Has : ℕ → ℕ → ℕ → Work → (ℕ → ℕ) → Type 0
 Has s e c w v = In (suc c) (squareOf s e w) v
-
--- ---- "A limit lo ≤ clock ≤ hi is loosened to lo × s − e ≤ clock ≤ hi × s + e": clock x at y ticks
-pub record Holds (s e : ℕ) (L : Limits) (x y : ℕ) : Type 0 where
-  pub least : L .lo x * s ≤ y + e
-  pub most : L .absent x ≡ false → y ≤ L .hi x * s + e
-
-abbrev pub Within : ℕ → ℕ → ℕ → Limits → (ℕ → ℕ) → Type 0
-Within s e c L v = (x : ℕ) → 0 < x → x < suc c → Holds s e L x (v x)
 
 -- "the reset clocks are put to 0": v′ is v with R put to 0
 abbrev pub Put : ℕ → (ℕ → Bool) → (ℕ → ℕ) → (ℕ → ℕ) → Type 0

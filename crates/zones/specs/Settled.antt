@@ -1,5 +1,6 @@
 -- Which comparisons of a reduction can be left out. A reduced zone that is not empty is settled: it satisfies the triangle rule for pairs
 -- and, at every error below the running fraction, for values. This is what ties the running fraction to the zone.
+-- There are n indices: 0 and the clocks.
 use Prim.Native.Nat.{ℕ, _<_, _≤_}
 use mathlib.Core.Path.{_≡_}
 use mathlib.Core.Bool.{false}

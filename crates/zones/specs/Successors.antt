@@ -3,7 +3,8 @@ use Prim.Native.Nat.{ℕ, suc}
 use mathlib.Core.Bool.{Bool, cond}
 use Rattle.zones.specs.declared.reduction.Reduced.{Reduced}
 use Rattle.zones.specs.declared.zone.Work.{Work}
-use Rattle.zones.specs.Zones.{Limits, firstWork, meetLimits, raiseLimits, resetOf}
+use Rattle.runs.specs.Limits.{Limits}
+use Rattle.zones.specs.Zones.{firstWork, meetLimits, raiseLimits, resetOf}
 use Rattle.zones.specs.Reductions.{reduceOf}
 
 -- "An empty zone is dropped at any point."

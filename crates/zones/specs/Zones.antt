@@ -1,9 +1,10 @@
 -- "A zone has a pair for each (a, b) among 0 and the clocks, bounding a − b." A zone at work is the square, nine pairs to a row, with the
--- running fraction.
+-- running fraction. There are c clocks.
 use Prim.Native.Nat.{ℕ, zero, suc, _+_, _*_, _/_, _%_}
 use mathlib.Core.Bool.{Bool, true, false, cond}
 use mathlib.Core.List.{List}
 use lib.ListN.{getD, set, replicate}
+use Rattle.runs.specs.Limits.{Limits}
 use Rattle.zones.specs.declared.pair.Pair.{Pair}
 use Rattle.zones.specs.declared.zone.Bounds.{Bounds}
 use Rattle.zones.specs.declared.zone.Work.{Work}
@@ -31,12 +32,6 @@ lowerAt i j q w =
     }
 
 -- ---- "Meeting limits"
--- the limits of a location or an edge, by clock from 1: "A guard's hi may be FFFFFFFF, meaning no upper limit"
-pub record Limits : Type 0 where
-  pub lo : ℕ → ℕ
-  pub hi : ℕ → ℕ
-  pub absent : ℕ → Bool
-
 -- "the smaller of entry (clock, 0) and (hi, 1), unless hi is absent"
 unfoldable pub meetUpper : ℕ → ℕ → Bool → Work → Work
 meetUpper x hi absent w = cond absent w (lowerAt x 0 (atMost hi) w)

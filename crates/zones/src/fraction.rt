@@ -1,8 +1,9 @@
+// The running fraction, lowered by every comparison, and lowest terms.
 ghost use mathlib.Core.Path.{_≡_};
 ghost use Rattle.zones.specs.Fractions.{loweredBy, gcdOf, lowestTerms};
 ghost use Rattle.zones.specs.Ranges.{Fits32};
 
-// The running fraction n/d: the error e/s must stay below it. 1/0 is no limit.
+// n/d: the error e/s must stay below it. 1/0 is no limit.
 pub struct Fraction {
     pub n: u64,
     pub d: u64,
@@ -10,7 +11,7 @@ pub struct Fraction {
 
 impl Fraction {
     // The lower of the two; on equality the one that is there.
-    pub fn lowered(self, o: Fraction) -> Fraction
+    pub(crate) fn lowered(self, o: Fraction) -> Fraction
         requires { ⌜ Fits32 self × Fits32 o ⌝ }
         ensures { λ r. ⌜ r ≡ loweredBy self o ⌝ }
     {
@@ -38,15 +39,15 @@ impl Fraction {
 }
 
 // The fraction is lowered where it stands.
-pub fn lower(f: &mut Fraction, o: Fraction)
+pub(crate) fn lower(f: &mut Fraction, o: Fraction)
     requires { ⌜ Fits32 (now f) × Fits32 o ⌝ }
     ensures { λ _. ⌜ now (f .exit) ≡ loweredBy (now (f .entry)) o ⌝ }
 {
     *f = f.lowered(o);
 }
 
-// Lends the fraction to be lowered, and hands it back.
-pub fn lowered_in_place(f: Fraction, o: Fraction) -> Fraction
+// What f is after it was lent to be lowered.
+pub(crate) fn after_lowering(f: Fraction, o: Fraction) -> Fraction
     requires { ⌜ Fits32 f × Fits32 o ⌝ }
     ensures { λ r. ⌜ r ≡ loweredBy f o ⌝ }
 {

@@ -1,8 +1,11 @@
+// Pairs, their order, and the threshold of a comparison.
 use crate::fraction::Fraction;
+use crate::fraction::after_lowering;
 ghost use mathlib.Core.Path.{_≡_};
 ghost use lib.Signed.{_≤ℤ_};
+ghost use Rattle.zones.specs.Fractions.{loweredBy};
 ghost use Rattle.zones.specs.Pairs.{atMost, atLeast, sumOf, isLess, thresholdOf, smallerOf};
-ghost use Rattle.zones.specs.Ranges.{Small};
+ghost use Rattle.zones.specs.Ranges.{Small, Fits32, ChoiceReady};
 
 // A pair stands for m + p × error.
 pub struct Pair {
@@ -11,7 +14,7 @@ pub struct Pair {
 }
 
 // The smaller of two pairs, and the comparison's threshold.
-pub struct Choice {
+pub(crate) struct Choice {
     pub pair: Pair,
     pub threshold: Fraction,
 }
@@ -25,7 +28,7 @@ impl Pair {
     }
 
     // A lower limit lo, as a bound on 0 less the clock.
-    pub fn at_least(lo: u32) -> Pair
+    pub(crate) fn at_least(lo: u32) -> Pair
         ensures { λ r. ⌜ r ≡ atLeast lo ⌝ }
     {
         let m = 0 - (lo as i64);
@@ -33,7 +36,7 @@ impl Pair {
     }
 
     // Entry by entry.
-    pub fn sum(self, o: Pair) -> Pair
+    pub(crate) fn sum(self, o: Pair) -> Pair
         requires { ⌜ Small self × Small o ⌝ }
         ensures { λ r. ⌜ r ≡ sumOf self o ⌝ }
     {
@@ -45,7 +48,7 @@ impl Pair {
     }
 
     // Whether this pair is the smaller: the smaller m, and at equal m the smaller p.
-    pub fn is_less(self, o: Pair) -> bool
+    pub(crate) fn is_less(self, o: Pair) -> bool
         ensures { λ r. ⌜ r ≡ isLess self o ⌝ }
     {
         let a = self.m;
@@ -62,7 +65,7 @@ impl Pair {
     }
 
     // The threshold of a comparison in which this pair was chosen and o was not.
-    pub fn threshold(self, o: Pair) -> Fraction
+    pub(crate) fn threshold(self, o: Pair) -> Fraction
         requires { ⌜ Small self × Small o × (self .m ≤ℤ o .m) ⌝ }
         ensures { λ r. ⌜ r ≡ thresholdOf self o ⌝ }
     {
@@ -81,7 +84,7 @@ impl Pair {
     }
 
     // The smaller of this pair, which is there, and o.
-    pub fn smaller(self, o: Pair) -> Choice
+    pub(crate) fn smaller(self, o: Pair) -> Choice
         requires { ⌜ Small self × Small o ⌝ }
         ensures { λ r. ⌜ r ≡ smallerOf self o ⌝ }
     {
@@ -96,5 +99,15 @@ impl Pair {
                 threshold: self.threshold(o),
             }
         }
+    }
+}
+
+impl Fraction {
+    // The running fraction after a comparison in which `chosen` was chosen and `other` was not.
+    pub fn after_choice(self, chosen: Pair, other: Pair) -> Fraction
+        requires { ⌜ Fits32 self × ChoiceReady chosen other ⌝ }
+        ensures { λ r. ⌜ r ≡ loweredBy self (thresholdOf chosen other) ⌝ }
+    {
+        after_lowering(self, chosen.threshold(other))
     }
 }

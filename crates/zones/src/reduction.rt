@@ -1,5 +1,5 @@
 // The reduction of a zone, and the comparisons that can be left out of it.
-use crate::fraction::lowered_in_place;
+use crate::fraction::after_lowering;
 use crate::zone::Work;
 ghost use mathlib.Core.Path.{_≡_};
 ghost use Rattle.zones.specs.Ranges.{Ready};
@@ -41,9 +41,9 @@ impl Work {
                         // Lowered in either branch: a common end would cost a tenth of the time.
                         if pair.is_less(there) {
                             work.zone[i * 9 + j] = pair;
-                            work.fraction = lowered_in_place(work.fraction, choice.threshold);
+                            work.fraction = after_lowering(work.fraction, choice.threshold);
                         } else {
-                            work.fraction = lowered_in_place(work.fraction, choice.threshold);
+                            work.fraction = after_lowering(work.fraction, choice.threshold);
                         }
                         j += 1;
                     }
@@ -80,7 +80,7 @@ impl Work {
                 let choice = there.smaller(z[i * 9 + k].sum(z[k * 9 + j]));
                 let pair = choice.pair;
                 z[i * 9 + j] = pair;
-                f = lowered_in_place(f, choice.threshold);
+                f = after_lowering(f, choice.threshold);
                 i += 1;
             }
             k += 1;

@@ -1,5 +1,6 @@
+// A zone at work: the first one, reset, and a clock's limits met.
 use crate::fraction::Fraction;
-use crate::fraction::lowered_in_place;
+use crate::fraction::after_lowering;
 use crate::pair::Pair;
 ghost use mathlib.Core.Path.{_≡_};
 ghost use mathlib.Core.Bool.{false};
@@ -7,7 +8,7 @@ ghost use Prim.Native.Nat.{_≤_};
 ghost use Rattle.zones.specs.Zones.{firstWork, upperMet, lowerMet, boundsMet, boundsBelow, setOf, resetOf};
 ghost use Rattle.zones.specs.Ranges.{LimitsReady};
 
-// A zone at work: a square of pairs, nine to a row, and the running fraction.
+// A square of pairs, nine to a row, and the running fraction.
 pub struct Work {
     pub zone: [Pair; 81],
     pub fraction: Fraction,
@@ -88,7 +89,7 @@ impl Bounds {
         Bounds {
             upper,
             lower,
-            fraction: lowered_in_place(self.fraction, choice.threshold),
+            fraction: after_lowering(self.fraction, choice.threshold),
         }
     }
 
@@ -103,7 +104,7 @@ impl Bounds {
         Bounds {
             upper,
             lower,
-            fraction: lowered_in_place(self.fraction, choice.threshold),
+            fraction: after_lowering(self.fraction, choice.threshold),
         }
     }
 }

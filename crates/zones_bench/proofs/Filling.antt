@@ -15,11 +15,12 @@ use native.Mathlib.Omega.{arith}
 use native.Mathlib.Decide.{ℕ-discrete}
 use Rattle.zones.specs.declared.pair.Pair.{Pair}
 use Rattle.zones.specs.declared.zone.Work.{Work}
-use Rattle.zones.proofs.Integers.{le-make}
+use Rattle.zones.proofs.pairs.Integers.{le-make}
 use Rattle.zones.specs.Fractions.{noLimit}
 use Rattle.zones.specs.Pairs.{zeroPair}
 use Rattle.zones.specs.Zones.{pairAt, entry, firstWork}
-use Rattle.zones.specs.Ranges.{Bounded, Fits32, Ready, scale, stepCounts}
+use Rattle.zones.specs.Ranges.{Bounded, Fits32, Ready, stepCounts}
+use Rattle.runs.specs.Limits.{scale}
 use Rattle.zones_bench.specs.Bench.{benchPair, benchPlaces, benchSquare, benchWork, benchOnce, benchTotal, benchOf}
 
 -- ---- one entry
@@ -69,7 +70,8 @@ unfolding benchWork
 work-plain t j h = go (ℕ-discrete j 9)
   where
     go : Dec (j ≡ 9) → Plain (getD (set benchSquare 9 (vary t)) j zeroPair)
-    go (yes e) = rw (e, getD-set-same benchSquare 9 (vary t) zeroPair (omega (arith, places-size 81))) (plain (t % 64) (t % 16) (omega arith) (omega arith))
+    go (yes e) =
+        rw (e, getD-set-same benchSquare 9 (vary t) zeroPair (omega (arith, places-size 81))) (plain (t % 64) (t % 16) (omega arith) (omega arith))
     go (no f) = rw (getD-set-other benchSquare 9 j (vary t) zeroPair f, places-at 81 j (omega arith) h) (pair-plain j h)
 
 work-narrow : (t : ℕ) → Fits32 (benchWork t .fraction)
@@ -87,7 +89,8 @@ work-ready t n h =
     }
 
 -- ---- the code's steps
-pub pair-off : (k : ℕ) (z : ℤ) → (k / 9 ≡ k % 9 → ⊥) → z ≡ pos ((17 * (k / 9) + 13 * (k % 9)) % 31 + 1) → record { m = z; p = (13 * (k / 9) + 3 * (k % 9)) % 29 } ≡ benchPair k
+pub pair-off : (k : ℕ) (z : ℤ) → (k / 9 ≡ k % 9 → ⊥) → z ≡ pos ((17 * (k / 9) + 13 * (k % 9)) % 31 + 1) →
+    record { m = z; p = (13 * (k / 9) + 3 * (k % 9)) % 29 } ≡ benchPair k
 unfolding benchPair
 pair-off k z f e = rw (ne-eqb _ _ f, e)
 
@@ -95,7 +98,8 @@ pub filled-next : (k : ℕ) {z : List Pair} {q : Pair} → z ≡ benchPlaces k �
 unfolding benchPlaces
 filled-next k e h = rw (add-one, e, h)
 
-pub varied-is : (t : ℕ) (z : List Pair) (m : ℤ) → z ≡ benchSquare → m ≡ pos (t % 64) → record { zone = set z 9 (record { m = m; p = t % 16 }); fraction = noLimit } ≡ benchWork t
+pub varied-is : (t : ℕ) (z : List Pair) (m : ℤ) → z ≡ benchSquare → m ≡ pos (t % 64) →
+    record { zone = set z 9 (record { m = m; p = t % 16 }); fraction = noLimit } ≡ benchWork t
 unfolding benchWork
 varied-is t z m e h = rw (e, h)
 

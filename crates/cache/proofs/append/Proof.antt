@@ -1,35 +1,35 @@
 -- `append` meets its contract: what the writer leaves in the part lent to it, then the used length.
-use Prim.Native.Nat.{_+_}
-use mathlib.Core.List.{_++_, append-assoc}
-use mathlib.Core.Path.{sym, _∙_}
+use Prim.Native.Nat.{ℕ, _+_}
+use mathlib.Core.Path.{sym, ap, _∙_}
 use lib.ListN.{length}
-use native.Mathlib.Omega.{arith}
-use Rattle.zones.proofs.Lent.{lent-tail}
-use Rattle.cache.proofs.Writing.{appends}
 use borrow.Author.Needs.{needs}
+use Rattle.encoding.specs.Numbers.{be32}
+use Rattle.cache.specs.Placing.{placed}
+use Rattle.cache.specs.Records.{recordOf}
+use Rattle.cache.specs.Consulting.{appended}
+use Rattle.cache.proofs.placing.Placed.{lent-placed}
+use Rattle.cache.proofs.layouts.Written.{written-length}
 use Rattle.cache.proofs.append.Statement.{statement}
 use Rattle.cache.proofs.append.Tie as tie
 
 returns : tie.Need-returns
+unfolding appended
 returns c =
-    let a = c .before .before .before .before .before .before .before .before .before .before .before .before .before .args in
-    let wrote = c .before .before .before .before .before .before .before .before .write .ensures ∙ sym (append-assoc (a .head .now) (a .automaton .now) _) in
-    let behind = lent-tail (a .cache .now) _ (a .head .now ++ a .automaton .now) (a .used) (length (a .head .now) + length (a .automaton .now)) wrote in
-    c .before .before .copy .ensures ∙ appends (a .cache .now) (a .head .now) (a .automaton .now) (a .used) (c .before .before .before .before .before .before .before .before .before .before .before .before .before .pre .header) (omega arith) (omega arith) behind (c .before .before .before .before .bytes-of .ensures)
+    let counted = c .before .before .before .before in
+    let wrote = counted .before .before .before .before in
+    let counting = wrote .before .before .before in
+    let start = counting .before .before .before .before in
+    let a = start .args in
+    let r = recordOf (a .layout) (a .x) (a .zones) (a .automaton .now) in
+    let used = counting .be32 in
+    let size = ap (λ (n : ℕ). used .result + n) (sym (written-length (start .pre .0) (a .x) (a .zones) (a .automaton .now))) in
+    let next = counted .bytes-of .ensures ∙ ap be32 (size ∙ ap (λ (n : ℕ). n + length r) (used .ensures)) in
+    let behind = lent-placed (a .cache .now) r (used .result) (wrote .write .ensures) ∙ ap (λ (n : ℕ). placed n r (a .cache .now)) (used .ensures) in
+    c .before .before .put .ensures ∙ (λ i. placed 0 (next i) (behind i))
 
 pub append-spec : {M : Type 1} → statement M
 append-spec =
     tie.close
-    (tie.spec
-    (λ c. search needs)
-    (λ c. search needs)
-    (λ c. search needs)
-    (λ c. search needs)
-    (λ c. search needs)
-    (λ c κs. search needs)
-    (λ c. search needs)
-    (λ c κs. search needs)
-    (λ c. search needs)
-    (λ c κs. search needs)
-    (λ c. search needs)
-    returns)
+    (tie.spec (λ c κs. search needs) (λ c. search needs) (λ c. search needs) (λ c. search needs) (λ c. search needs) (λ c. search needs)
+    (λ c. search needs) (λ c κs. search needs) (λ c. search needs) (λ c κs. search needs) (λ c. search needs) (λ c κs. search needs)
+    (λ c. search needs) returns)

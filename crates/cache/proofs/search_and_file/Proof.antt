@@ -3,46 +3,56 @@ use Prim.Native.Nat.{_+_}
 use mathlib.Core.Path.{refl, ap, _∙_}
 use lib.ListN.{length}
 use native.Mathlib.Omega.{arith}
-use Rattle.cache.specs.Consulting.{filing}
-use Rattle.cache.proofs.Asking.{full-short, full-long, roomy}
 use borrow.Author.Needs.{needs}
+use Rattle.cache.specs.Consulting.{Room, filing}
+use Rattle.cache.proofs.consulting.Asking.{full-short, full-long, roomy}
 use Rattle.cache.proofs.search_and_file.Statement.{statement}
 use Rattle.cache.proofs.search_and_file.Tie as tie
 
 returns : tie.Need-returns
 returns c =
-    let a = c .before .before .before .before .before .args in
-    let h = full-short (a .cache .now) (17 + length (a .automaton .now)) (omega arith) in
-    (rw h refl, (rw h refl, rw h refl))
+    let a = c .before .before .before .before .before .before .args in
+    let h = full-short (a .cache .now) (a .layout .head + length (a .automaton .now)) (omega arith) in
+    record { answer = rw h refl; cache = rw h refl; store = rw h refl }
 
 returns-2 : tie.Need-returns-2
 returns-2 c =
-    let a = c .before .before .before .before .before .before .args in
-    let h = full-long (a .cache .now) (17 + length (a .automaton .now)) (omega arith) in
-    (rw h refl, (rw h refl, rw h refl))
+    let tested = c .before in
+    let a = tested .before .before .before .before .before .before .args in
+    let h = full-long (a .cache .now) (a .layout .head + length (a .automaton .now)) (omega arith) in
+    record { answer = rw h refl; cache = rw h refl; store = rw h refl }
+
+-- past both tests there is room
+abbrev start : tie.Else2 → tie.Start
+start c = c .before .before .before .before .before .before .before
+
+room-at : (c : tie.Else2) → Room (start c .args .cache .now) (start c .args .layout .head + length (start c .args .automaton .now))
+room-at c = record { least = omega arith; lent = omega arith; bytes = omega arith }
+
+file-requires : tie.Need-file-requires
+file-requires c κs =
+    let searched = c .before .before in
+    let passed = searched .before .before in
+    (start passed .pre .0, (room-at passed, searched .search .ensures .1 .1 .given))
 
 returns-3 : tie.Need-returns-3
 returns-3 c =
-    let a = c .before .before .before .before .before .before .before .before .before .before .before .before .before .args in
-    let h = roomy (a .cache .now) (17 + length (a .automaton .now)) (omega arith) (omega arith) in
-    let found = c .before .before .before .before .before .search .ensures in
-    (rw h (found .0), (rw h (c .before .before .file .ensures ∙ ap (filing (a .cache .now) (a .automaton .now)) (found .0)), rw h (found .1 .0)))
+    let filed = c .before .before in
+    let searched = filed .before .before .before in
+    let passed = searched .before .before in
+    let a = start passed .args in
+    let found = searched .search .ensures in
+    let room = room-at passed in
+    let h = roomy (a .cache .now) (a .layout .head + length (a .automaton .now)) (room .lent) (room .bytes) in
+    record {
+      answer = rw h (found .0);
+      cache = rw h (filed .file .ensures ∙ ap (filing (a .layout) (a .cache .now) (a .automaton .now)) (found .0));
+      store = rw h (found .1 .0);
+    }
 
 pub search-and-file-spec : {M : Type 1} → statement M
 search-and-file-spec =
     tie.close
-    (tie.spec
-    (λ c κs. search needs)
-    (λ c. search needs)
-    (λ c. search needs)
-    (λ c. search needs)
-    (λ c. search needs)
-    returns
-    (λ c. search needs)
-    (λ c. search needs)
-    returns-2
-    (λ c κs. search needs)
-    (λ c κs. search needs)
-    (λ c. search needs)
-    (λ c. search needs)
+    (tie.spec (λ c κs. search needs) (λ c. search needs) (λ c. search needs) (λ c. search needs) (λ c. search needs) returns
+    (λ c. search needs) (λ c. search needs) returns-2 (λ c κs. search needs) file-requires (λ c. search needs) (λ c. search needs)
     returns-3)

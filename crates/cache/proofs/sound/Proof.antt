@@ -1,44 +1,13 @@
--- `sound` meets its contract: one law for each test that fails, and one for all that pass.
-use native.Mathlib.Omega.{arith}
-use Rattle.cache.proofs.Asking.{unsound-lent, unsound-least, unsound-most, unsound-version, unsound-records, sound-distinct}
+-- `sound` meets its contract: sound in version 1.
+use mathlib.Core.Path.{ap, _∙_}
 use borrow.Author.Needs.{needs}
+use Rattle.cache.specs.declared.layout.Layout.{Layout}
+use Rattle.cache.specs.Caches.{soundAs}
 use Rattle.cache.proofs.sound.Statement.{statement}
 use Rattle.cache.proofs.sound.Tie as tie
 
 returns : tie.Need-returns
-returns c = unsound-lent _ (omega arith)
-
-returns-2 : tie.Need-returns-2
-returns-2 c = unsound-least _ (omega arith) (omega arith)
-
-returns-3 : tie.Need-returns-3
-returns-3 c = unsound-most _ (omega arith) (omega arith) (omega arith)
-
-returns-4 : tie.Need-returns-4
-returns-4 c = unsound-version _ (omega arith) (omega arith) (omega arith) (c .if4 .taken)
-
-returns-5 : tie.Need-returns-5
-returns-5 c = sound-distinct _ (omega arith) (omega arith) (omega arith) (c .before .before .before .before .before .if4 .left) (c .before .before .before .before .before .before .before .before .before .number-at .ensures) (c .before .before .before .records-sound .ensures) (c .before .before .if5 .taken) (c .all-distinct .ensures)
-
-returns-6 : tie.Need-returns-6
-returns-6 c = unsound-records _ (omega arith) (omega arith) (omega arith) (c .before .before .before .if4 .left) (c .before .before .before .before .before .before .before .number-at .ensures) (c .before .records-sound .ensures) (c .if5 .left)
+returns c = c .sound-as .ensures ∙ ap (λ (L : Layout). soundAs L (c .before .before .before .args .cache .now)) (c .before .version-1 .ensures .0)
 
 pub sound-spec : {M : Type 1} → statement M
-sound-spec =
-    tie.close
-    (tie.spec
-    returns
-    (λ c κs. search needs)
-    (λ c. search needs)
-    returns-2
-    returns-3
-    (λ c. search needs)
-    returns-4
-    (λ c. search needs)
-    (λ c. search needs)
-    (λ c κs. search needs)
-    (λ c. search needs)
-    (λ c. search needs)
-    (λ c κs. search needs)
-    returns-5
-    returns-6)
+sound-spec = tie.close (tie.spec (λ c κs. search needs) (λ c κs. search needs) returns)

@@ -1,14 +1,17 @@
--- `tell` meets its contract: four numbers are written for an answer found, none for one refused.
+-- `tell` meets its contract: the numbers of an answer found are written, none of one refused.
 use Rattle.exports.proofs.Telling.{tells-found, tells-refused}
 use borrow.Author.Needs.{needs}
 use Rattle.exports.proofs.tell.Statement.{statement}
 use Rattle.exports.proofs.tell.Tie as tie
 
 returns : tie.Need-returns
-returns c = tells-found _ _ _ _ _ _ (c .before .before .answer .given .1) (c .verdict-numbers .ensures)
+returns c =
+    let wrote = c .before .before in
+    let numbers = wrote .before .before in
+    tells-found _ _ _ (numbers .before .before .found .given .1) (numbers .verdict-numbers .ensures) (wrote .write-over .ensures)
 
 returns-2 : tie.Need-returns-2
-returns-2 c = tells-refused _ _ _ _ _ (c .before .answer2 .given .1)
+returns-2 c = tells-refused _ _ (c .before .found2 .given .1)
 
 pub tell-spec : {M : Type 1} → statement M
 tell-spec =
@@ -16,9 +19,7 @@ tell-spec =
     (tie.spec
     (λ c. search needs)
     (λ c κs. search needs)
-    (λ c. search needs)
-    (λ c. search needs)
-    (λ c. search needs)
+    (λ c κs. search needs)
     (λ c. search needs)
     (λ c. search needs)
     returns

@@ -1,17 +1,16 @@
--- `verdict_numbers` meets its contract, case by case.
-use mathlib.Core.Path.{refl}
-use Rattle.exports.specs.Replies.{verdictNumbers}
+-- What is told of a verdict: its numbers, and its zones.
+-- Assumes nothing.
+use mathlib.Core.List.{_∷_, []}
+use mathlib.Core.Path.{ap}
 use borrow.Author.Needs.{needs}
+use Rattle.search.specs.declared.verdict.Numbers.{Numbers}
+use Rattle.exports.specs.Replies.{verdictNumbers}
 use Rattle.exports.proofs.verdict_numbers.Statement.{statement}
 use Rattle.exports.proofs.verdict_numbers.Tie as tie
 
-pub verdict-numbers-spec : {M : Type 1} → statement M
+returns : tie.Need-returns
 unfolding verdictNumbers
-verdict-numbers-spec =
-    tie.close
-    (tie.spec
-    (λ c. search needs)
-    (λ c. search needs)
-    (λ c κs. search needs)
-    (λ c. rw (c .enum-told .given .1) refl)
-    (λ c. rw (c .before .before .v .given .1) (c .holds-numbers .ensures)))
+returns c = ap (λ (x : Numbers). x .kind ∷ x .n ∷ x .d ∷ c .before .before .args .zones ∷ 0 ∷ 0 ∷ 0 ∷ 0 ∷ []) (c .before .numbers-of .ensures)
+
+pub verdict-numbers-spec : {M : Type 1} → statement M
+verdict-numbers-spec = tie.close (tie.spec (λ c κs. search needs) (λ c. search needs) returns)

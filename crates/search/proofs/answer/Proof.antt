@@ -1,18 +1,32 @@
--- The answer, by the code with which the search stopped.
+-- The answer, by the outcome with which the search stopped.
 -- Assumes nothing.
-use Rattle.search.proofs.Answers.{answer-holds, answer-reached, answer-refused}
+use Rattle.search.specs.Answers.{answerOf}
+use Rattle.search.specs.Outcomes.{outcomeOf}
 use borrow.Author.Needs.{needs}
 use Rattle.search.proofs.answer.Statement.{statement}
 use Rattle.search.proofs.answer.Tie as tie
 
 returns : tie.Need-returns
-returns c = answer-holds _ _ _ (c .before .if1 .taken) (c .holding .ensures)
+unfolding outcomeOf answerOf
+returns c = cc
 
 returns-2 : tie.Need-returns-2
-returns-2 c = answer-reached _ _ _ (c .if2 .taken)
+unfolding outcomeOf answerOf
+returns-2 c = cc
 
 returns-3 : tie.Need-returns-3
-returns-3 c = answer-refused _ _ _ (c .before .if1 .left) (c .if2 .left)
+unfolding outcomeOf answerOf
+returns-3 c = cc
 
 pub answer-spec : {M : Type 1} → statement M
-answer-spec = tie.close (tie.spec (λ c. search needs) (λ c κs. search needs) returns returns-2 returns-3)
+answer-spec =
+    tie.close
+    (tie.spec
+    (λ c. search needs)
+    (λ c. search needs)
+    (λ c κs. search needs)
+    (λ c. search needs)
+    (λ c. search needs)
+    returns
+    returns-2
+    returns-3)

@@ -1,15 +1,12 @@
--- The fraction given out: in lowest terms, or no limit.
--- Assumes nothing.
-use Rattle.search.proofs.Answers.{holding-any, holding-below}
+-- `holding` meets its contract: the limit of the fraction in lowest terms.
+use mathlib.Core.Path.{ap, _∙_}
 use borrow.Author.Needs.{needs}
+use Rattle.search.specs.Verdicts.{holdingOf}
 use Rattle.search.proofs.holding.Statement.{statement}
 use Rattle.search.proofs.holding.Tie as tie
 
 returns : tie.Need-returns
-returns c = rw (← c .before .before .lowest-terms .ensures) (holding-any _ (c .if1 .taken))
-
-returns-2 : tie.Need-returns-2
-returns-2 c = rw (← c .before .before .lowest-terms .ensures) (holding-below _ (c .if1 .left))
+returns c = c .limit .ensures ∙ ap holdingOf (c .before .lowest-terms .ensures)
 
 pub holding-spec : {M : Type 1} → statement M
-holding-spec = tie.close (tie.spec (λ c κs. search needs) returns returns-2)
+holding-spec = tie.close (tie.spec (λ c κs. search needs) (λ c κs. search needs) returns)

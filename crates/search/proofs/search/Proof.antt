@@ -1,11 +1,11 @@
 -- The answer and the store are the definition's, and the answer has what is promised of it.
 -- Assumes nothing.
 use mathlib.Core.Path.{_≡_, sym, _∙_, subst}
-use Rattle.search.specs.Automata.{refusalOf}
+use Rattle.automata.specs.Refusals.{refusalOf}
 use Rattle.search.specs.Promised.{Promised}
-use Rattle.search.proofs.Accepting.{accepted}
-use Rattle.search.proofs.Answers.{refused-answer, refused-store, count-small, searched-answer, searched-store}
-use Rattle.search.proofs.Given.{promised}
+use Rattle.automata.proofs.accepting.Accepting.{accepted}
+use Rattle.search.proofs.answers.Answers.{refused-answer, refused-store, count-small, searched-answer, searched-store}
+use Rattle.search.proofs.answers.Given.{promised}
 use borrow.Author.Needs.{needs}
 use Rattle.search.proofs.search.Statement.{statement}
 use Rattle.search.proofs.search.Tie as tie
@@ -26,10 +26,10 @@ answer-requires c κs = count-small _ (ok (c .before .before .before)) _ _ _ (c 
 
 returns-2 : tie.Need-returns-2
 returns-2 c =
-    let answer = searched-answer _ (ok (c .before .before .before .before)) _ _ _ (c .before .before .explore .ensures) (c .answer .ensures) in
-    (answer, (searched-store _ (ok (c .before .before .before .before)) _ _ _ (c .before .before .explore .ensures), subst (Promised _ _) (sym answer) (promised _ _)))
+    let ok = ok (c .before .before .before .before) in
+    let shown = c .before .before .explore .ensures in
+    let answer = searched-answer _ ok _ _ _ shown (c .answer .ensures) in
+    (answer, (searched-store _ ok _ _ _ shown, subst (Promised _ _) (sym answer) (promised _ _)))
 
 pub search-spec : {M : Type 1} → statement M
-search-spec =
-    tie.close
-    (tie.spec (λ c κs. search needs) returns explore-requires answer-requires (λ c. search needs) returns-2)
+search-spec = tie.close (tie.spec (λ c κs. search needs) returns explore-requires answer-requires (λ c. search needs) returns-2)

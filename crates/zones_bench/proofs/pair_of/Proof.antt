@@ -16,4 +16,5 @@ returns-2 c = pair-off (c .before .args .at) _ (c .if1 .left) (toZ-pos w64 (omeg
 pub pair-of-spec : {M : Type 1} → statement M
 pair-of-spec =
     tie.close
-    (tie.spec returns (λ c. search needs) (λ c. search needs) (λ c. search needs) (λ c. search needs) (λ c. search needs) (λ c. search needs) (λ c. search needs) (λ c. search needs) returns-2)
+    (tie.spec returns (λ c. search needs) (λ c. search needs) (λ c. search needs) (λ c. search needs) (λ c. search needs) (λ c. search needs)
+    (λ c. search needs) (λ c. search needs) returns-2)

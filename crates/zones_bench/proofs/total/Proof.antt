@@ -24,7 +24,9 @@ loop-again : tie.Need-loop-again Inv-loop μ-loop
 loop-again c = (omega arith, omega arith, c .before .before .loop .inv .2, total-next _ _ _ _ (c .before .before .loop .inv .3) (c .once .ensures .0))
 
 returns : tie.Need-returns Inv-loop μ-loop
-returns c = let e : c .before .loop .t ≡ c .before .before .before .args .times = omega arith in c .before .loop .inv .3 ∙ ap (benchTotal (c .before .before .before .args .size)) e
+returns c =
+    let e : c .before .loop .t ≡ c .before .before .before .args .times =
+    omega arith in c .before .loop .inv .3 ∙ ap (benchTotal (c .before .before .before .args .size)) e
 
 pub total-spec : {M : Type 1} → statement M
 total-spec =

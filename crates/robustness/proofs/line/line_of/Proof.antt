@@ -3,7 +3,7 @@
 use borrow.Author.Needs.{needs}
 use native.Mathlib.Omega.{arith}
 use Rattle.robustness.specs.Lines.{lineOf}
-use Rattle.robustness.proofs.Writing.{two}
+use Rattle.robustness.proofs.line.Writing.{two}
 use Rattle.robustness.proofs.line.line_of.Statement.{statement}
 use Rattle.robustness.proofs.line.line_of.Tie as tie
 

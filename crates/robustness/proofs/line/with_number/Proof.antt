@@ -4,8 +4,8 @@ use borrow.Author.Needs.{needs}
 use Prim.Native.Nat.{_^_, _<_}
 use mathlib.Core.Path.{_∙_}
 use native.Mathlib.Omega.{arith}
-use Rattle.robustness.proofs.Writing.{one}
-use Rattle.robustness.proofs.Decimals.{written-decimal, at-most-20}
+use Rattle.robustness.proofs.line.Writing.{one}
+use Rattle.robustness.proofs.line.Decimals.{written-decimal, at-most-20}
 use Rattle.robustness.proofs.line.with_number.Statement.{statement}
 use Rattle.robustness.proofs.line.with_number.Tie as tie
 

@@ -4,7 +4,7 @@ use borrow.Author.Needs.{needs}
 use Rattle.robustness.specs.Lines.{verdictText}
 use mathlib.Core.Path.{sym, ap}
 use native.Mathlib.Omega.{arith}
-use Rattle.robustness.proofs.Writing.{one, two}
+use Rattle.robustness.proofs.line.Writing.{one, two}
 use Rattle.robustness.proofs.line.with_verdict.Statement.{statement}
 use Rattle.robustness.proofs.line.with_verdict.Tie as tie
 
@@ -14,7 +14,9 @@ returns c = one _ _ _ (c .with-text .ensures) (sym (ap verdictText (c .before .b
 
 returns-2 : tie.Need-returns-2
 unfolding verdictText
-returns-2 c = one _ _ _ (two (c .before .with-text2 .ensures) (c .with-holding .ensures)) (sym (ap verdictText (c .before .before .before .before .v .given .1))) (omega arith)
+returns-2 c =
+    let b = two (c .before .with-text2 .ensures) (c .with-holding .ensures) in
+    one _ _ _ b (sym (ap verdictText (c .before .before .before .before .v .given .1))) (omega arith)
 
 pub with-verdict-spec : {M : Type 1} → statement M
 with-verdict-spec =

@@ -2,7 +2,7 @@
 -- Assumes nothing.
 use mathlib.Core.Path.{refl, sym, subst}
 use Rattle.search.specs.Exploring.{SoundResult}
-use Rattle.search.proofs.Arriving.{gives-of}
+use Rattle.search.proofs.exploration.Arriving.{gives-of}
 use borrow.Author.Needs.{needs}
 use Rattle.search.proofs.exploration.arrive.Statement.{statement}
 use Rattle.search.proofs.exploration.arrive.Tie as tie

@@ -1,47 +1,38 @@
 -- `expand` meets its contract: what is done is the definition's expansion along the edges passed, or it has stopped at one.
 -- Assumes nothing.
-use Prim.Native.Nat.{ℕ, suc, _-_, _≤_, _<_}
+use Prim.Native.Nat.{ℕ, _-_, _≤_, _<_}
 use mathlib.Core.Path.{_≡_, refl, sym, ap, _∙_}
 use mathlib.Core.List.{List, []}
 use mathlib.Core.Logic.{⊎-elim}
 use lib.IntN.{ℤ}
 use native.Mathlib.Omega.{arith}
 use Rattle.zones.specs.declared.zone.Work.{Work}
-use Rattle.search.specs.Automata.{clocks, edges, from}
-use Rattle.search.specs.declared.automaton.Counts.{Counts}
-use Rattle.search.specs.declared.automaton.Edge.{Edge}
-use Rattle.search.specs.Exploring.{SoundState, Shown}
+use Rattle.automata.specs.Automata.{edges, from}
+use Rattle.automata.specs.declared.fields.Counts.{Counts}
+use Rattle.automata.specs.declared.fields.Edge.{Edge}
+use Rattle.search.specs.Exploring.{Live}
 use Rattle.search.specs.Instance.{ZoneState, workOf}
-use Rattle.search.proofs.Expanding.{
-  shown-length,
-  Between,
-  begins,
-  passes,
-  taken-fits,
-  taken-sound,
-  goes-on,
-  offered-length,
-  stops,
-  between-progress,
-  ends,
-}
+use Rattle.search.proofs.exploration.Expanding.{Between, begins, passes, taken-fits, taken-sound, goes-on, offered-length, stops}
+use Rattle.search.proofs.exploration.Expanding.{between-going, ends}
+use Rattle.search.proofs.exploration.Judging.{live-length, going-length}
+use borrow.Author.Needs.{needs}
 use Rattle.search.proofs.exploration.expand.Statement.{statement}
 use Rattle.search.proofs.exploration.expand.Tie as tie
 
 abbrev Inv-loop : tie.InvT-loop
-Inv-loop automaton store₀ slots l t₀ w₀ last i₀ store t w i =
+Inv-loop automaton store₀ capacity l t₀ w₀ last i₀ store t w i =
     (last ≡ edges automaton) × (i ≤ last) × (w .zone ≡ w₀ .zone) ×
-    ((p : List ℕ) (s₀ : List ℤ) (q₀ : ZoneState) → Shown (suc (clocks automaton)) s₀ q₀ store₀ t₀ → SoundState automaton slots q₀ → q₀ .code ≡ 0 →
-    Between automaton slots l (w₀ .zone) p s₀ q₀ i store t)
+    ((p : List ℕ) (s₀ : List ℤ) (q₀ : ZoneState) → Live automaton capacity s₀ q₀ store₀ t₀ →
+    Between automaton capacity l (w₀ .zone) p s₀ q₀ i store t)
 
 abbrev μ-loop : tie.MeasureT-loop
-μ-loop automaton store₀ slots l t₀ w₀ last i₀ store t w i = last - i
+μ-loop automaton store₀ capacity l t₀ w₀ last i₀ store t w i = last - i
 
 counts-of-requires : tie.Need-counts-of-requires Inv-loop μ-loop
 counts-of-requires c κs = c .before .before .pre .0
 
 loop-holds : tie.Need-loop-holds Inv-loop μ-loop
-loop-holds c = (ap (λ (n : Counts). n .edges) (c .counts-of .ensures), omega arith, refl, λ p s₀ q₀ h o g. begins _ _ _ _ _ s₀ q₀ _ _ h o g)
+loop-holds c = (ap (λ (n : Counts). n .edges) (c .counts-of .ensures), omega arith, refl, λ p s₀ q₀ h. begins _ _ _ _ _ h)
 
 edge-of-requires : tie.Need-edge-of-requires Inv-loop μ-loop
 edge-of-requires c κs = (c .before .before .before .before .before .pre .0, omega (arith, c .before .loop .inv .0, c .loop-test .taken))
@@ -52,25 +43,25 @@ module _ (c : tie.After-edge-of Inv-loop μ-loop) where
   loop = c .before .before
 
   abbrev start : tie.Start Inv-loop μ-loop
-  start = c .before .before .before .before .before .before
+  start = loop .before .before .before .before
 
-  within : c .before .before .loop .i < edges (c .before .before .before .before .before .before .args .automaton .now)
+  within : loop .loop .i < edges (start .args .automaton .now)
   within = omega (arith, loop .loop .inv .0, c .before .loop-test .taken)
 
   -- the zone with the running fraction
   abbrev taken : Work
-  taken = record { zone = c .before .before .loop .w .zone; fraction = c .before .before .loop .t .fraction }
+  taken = record { zone = loop .loop .w .zone; fraction = loop .loop .t .fraction }
 
-  taken-is : taken ≡ workOf (c .before .before .before .before .before .before .args .z) (c .before .before .loop .t .fraction)
+  taken-is : taken ≡ workOf (start .args .z) (loop .loop .t .fraction)
   taken-is = λ k. record { zone = loop .loop .inv .2 k; fraction = loop .loop .t .fraction }
 
   leaves : c .edge-of .result .from ≡ start .args .l → from (start .args .automaton .now) (loop .loop .i) ≡ start .args .l
   leaves e = sym (ap (λ (e : Edge). e .from) (c .edge-of .ensures)) ∙ e
 
   -- for a caller that asks of any state
-  some : Between (start .args .automaton .now) (start .args .slots) (start .args .l) (start .args .z) []
+  some : Between (start .args .automaton .now) (start .args .capacity) (start .args .l) (start .args .z) []
       (start .pre .1 .base) (start .pre .1 .state) (loop .loop .i) (loop .loop .store) (loop .loop .t)
-  some = let going = start .pre .1 in loop .loop .inv .3 [] (going .base) (going .state) (going .shown) (going .sound) (going .going)
+  some = loop .loop .inv .3 [] (start .pre .1 .base) (start .pre .1 .state) (start .pre .1 .live)
 
 follow-requires : tie.Need-follow-requires Inv-loop μ-loop
 follow-requires c κs =
@@ -78,28 +69,37 @@ follow-requires c κs =
     let pre = start edge .pre in (
       (pre .0, within edge, edge .edge-of .ensures),
       (
-        between-progress _ _ _ _ _ _ _ _ _ _ (pre .1 .room) (some edge),
-        taken-sound _ _ _ _ _ _ _ _ (within edge) _ _ (some edge) (pre .0) (pre .2) (taken edge) (taken-is edge),
-        taken-fits _ _ _ _ _ _ _ _ (within edge) _ _ (some edge) (pre .0) (pre .2) (taken edge) (taken-is edge),
+        between-going (some edge) (pre .1 .long),
+        taken-sound (some edge) (within edge) (pre .0) (pre .2) (taken-is edge),
+        taken-fits (some edge) (within edge) (pre .0) (pre .2) (taken-is edge),
       ),
     )
 
+-- ---- with the edge followed
+module _ (c : tie.After-follow Inv-loop μ-loop) where
+  abbrev from-here : tie.Then1 Inv-loop μ-loop
+  from-here = c .before .before .before
+
+  abbrev fetched : tie.After-edge-of Inv-loop μ-loop
+  fetched = from-here .before .before
+
 same-length : tie.Need-same-length Inv-loop μ-loop
 same-length c =
-    let edge = c .before .before .before .before .before .before .before .before in
+    let after = c .before .before .before in
+    let edge = fetched after in
     let pre = start edge .pre in
-    offered-length _ _ _ _ [] _ _ _ (within edge) _ _ (some edge) (pre .0) (pre .2) (taken edge) (taken-is edge)
-    (leaves edge (c .before .before .before .before .before .before .if1 .taken)) _ _ (c .before .before .before .follow .ensures) (pre .1 .room)
-    ∙ sym (shown-length _ (pre .0) _ _ _ _ (pre .1 .room) (pre .1 .shown) (pre .1 .sound))
+    offered-length (some edge) (within edge) (pre .0) (pre .2) (taken-is edge) (leaves edge (from-here after .if1 .taken))
+    (after .follow .ensures) (pre .1 .long)
+    ∙ sym (going-length _ (pre .0) (pre .1))
 
 returns : tie.Need-returns Inv-loop μ-loop
 returns c =
-    let edge = c .before .before .before .before .before .before .before .before in
+    let after = c .before .before .before in
+    let edge = fetched after in
     let pre = start edge .pre in
     λ p. record {
-      shows = λ s₀ q₀ h o g. stops _ _ _ _ p s₀ q₀ _ (within edge) _ _ (loop edge .loop .inv .3 p s₀ q₀ h o g) (pre .0)
-          (pre .2) (taken edge) (taken-is edge) (leaves edge (c .before .before .before .before .before .before .if1 .taken)) _ _
-          (c .before .before .before .follow .ensures) (c .if2 .taken);
+      shows = λ s₀ q₀ h. stops (loop edge .loop .inv .3 p s₀ q₀ h) (within edge) (pre .0) (pre .2) (taken-is edge)
+          (leaves edge (from-here after .if1 .taken)) (after .follow .ensures) (sym (c .before .has-ended .ensures) ∙ c .if2 .taken);
     }
 
 loop-again : tie.Need-loop-again Inv-loop μ-loop
@@ -110,13 +110,12 @@ loop-again c =
       omega arith,
       ⊎-elim (λ x. ap (λ (v : Work). v .zone) (x .9) ∙ loop edge .loop .inv .2)
           (λ x. ap (λ (v : Work). v .zone) (x .3) ∙ loop edge .loop .inv .2) (c .if1 .came),
-      λ p s₀ q₀ h o g.
-          let between = loop edge .loop .inv .3 p s₀ q₀ h o g in
+      λ p s₀ q₀ h.
+          let between = loop edge .loop .inv .3 p s₀ q₀ h in
           ⊎-elim
-          (λ x. rw (x .7, x .8) (goes-on _ _ _ _ p s₀ q₀ _ (within edge) _ _ between (pre .0) (pre .2) (taken edge) (taken-is edge)
-          (leaves edge (x .0 .taken)) _ _ (x .3 .ensures) (x .6 .left)))
-          (λ x. rw (x .1, x .2)
-          (passes _ _ _ _ p s₀ q₀ _ (within edge) _ _ between (λ e. x .0 .left (ap (λ (k : Edge). k .from) (edge .edge-of .ensures) ∙ e))))
+          (λ x. rw (x .7, x .8) (goes-on between (within edge) (pre .0) (pre .2) (taken-is edge)
+          (leaves edge (x .0 .taken)) (x .3 .ensures) (sym (x .5 .ensures) ∙ x .6 .left)))
+          (λ x. rw (x .1, x .2) (passes between (within edge) (λ e. x .0 .left (ap (λ (k : Edge). k .from) (edge .edge-of .ensures) ∙ e))))
           (c .if1 .came),
     )
 
@@ -124,17 +123,15 @@ same-length-2 : tie.Need-same-length-2 Inv-loop μ-loop
 same-length-2 c =
     let start = c .before .before .before .before .before in
     let loop = c .before in
-    let going = start .pre .1 in
-    let between = loop .loop .inv .3 [] (going .base) (going .state) (going .shown) (going .sound) (going .going) in
-    shown-length _ (start .pre .0) _ _ _ _ (going .room) (between .shown) (between .sound)
-    ∙ sym (shown-length _ (start .pre .0) _ _ _ _ (going .room) (going .shown) (going .sound))
+    let pre = start .pre in
+    let between = loop .loop .inv .3 [] (pre .1 .base) (pre .1 .state) (pre .1 .live) in
+    live-length _ (pre .0) (pre .1 .long) (between .live .shown) (between .live .sound) ∙ sym (going-length _ (pre .0) (pre .1))
 
 returns-2 : tie.Need-returns-2 Inv-loop μ-loop
 returns-2 c =
     let loop = c .before in
     λ p. record {
-      shows = λ s₀ q₀ h o g. ends _ _ _ _ p s₀ q₀ _ _ _ (omega (arith, loop .loop .inv .0, c .loop-test .left))
-          (loop .loop .inv .3 p s₀ q₀ h o g);
+      shows = λ s₀ q₀ h. ends (loop .loop .inv .3 p s₀ q₀ h) (omega (arith, loop .loop .inv .0, c .loop-test .left));
     }
 
 pub expand-spec : {M : Type 1} → statement M
@@ -147,6 +144,7 @@ expand-spec =
     loop-holds
     edge-of-requires
     follow-requires
+    (λ c κs. search needs)
     same-length
     returns
     (λ c. omega arith)

@@ -7,16 +7,17 @@ use mir.Syntax.{w32}
 use mir.Val.{ofZ}
 use lib.ListN.{length}
 use native.Mathlib.Omega.{arith}
-use native.Mathlib.Nat.{not-suc-le-zero}
+use native.Mathlib.Nat.{not-suc-le-zero, mul-le-mul}
 use Rattle.search.specs.Exploring.{Hits}
-use Rattle.search.specs.Slots.{slotLength}
-use Rattle.search.proofs.Stores.{slot-fits, lent-length, size-square, hit, misses-more, miss-location, miss-inside}
-use Rattle.search.proofs.Turns.{same-bits}
+use Rattle.slots.specs.Slots.{slotLength}
+use Rattle.search.proofs.exploration.Stores.{slot-fits, lent-length, hit, misses-more, miss-location, miss-inside}
+use Rattle.slots.proofs.slot.Loops.{same-bits}
 use Rattle.search.proofs.exploration.find.Statement.{statement}
 use Rattle.search.proofs.exploration.find.Tie as tie
 
 abbrev Inv-loop : tie.InvT-loop
-Inv-loop store new count size amount j₀ at₀ j at = (amount ≡ slotLength size) × (j ≤ count) × (at ≡ j * slotLength size) × ((i : ℕ) → i < j → Hits size new store i → ⊥)
+Inv-loop store new count size amount j₀ at₀ j at =
+    (amount ≡ slotLength size) × (j ≤ count) × (at ≡ j * slotLength size) × ((i : ℕ) → i < j → Hits size new store i → ⊥)
 
 abbrev μ-loop : tie.MeasureT-loop
 μ-loop store new count size amount j₀ at₀ j at = count - j
@@ -25,8 +26,12 @@ loop-holds : tie.Need-loop-holds Inv-loop μ-loop
 loop-holds c = (c .slot-length .ensures, omega arith, omega arith, λ i h. absurd (not-suc-le-zero h))
 
 -- in a turn, slot j lies in the store
-fits : (c : tie.In-loop Inv-loop μ-loop) → c .before .loop .at + slotLength (c .before .before .before .args .size) ≤ length (c .before .before .before .args .store .now)
-fits c = slot-fits (slotLength (c .before .before .before .args .size)) (c .loop-test .taken) (c .before .before .before .pre .1) (c .before .loop .inv .2)
+module _ (c : tie.In-loop Inv-loop μ-loop) where
+  abbrev start : tie.Start Inv-loop μ-loop
+  start = c .before .before .before
+
+  fits : c .before .loop .at + slotLength (start .args .size) ≤ length (start .args .store .now)
+  fits = slot-fits (slotLength (start .args .size)) (c .loop-test .taken) (start .pre .1) (c .before .loop .inv .2)
 
 mul-if1 : tie.Need-mul-if1 Inv-loop μ-loop
 mul-if1 c = omega (arith, fits c)
@@ -45,16 +50,23 @@ part-is-within-start c = omega (arith, fits (c .before .before .before))
 
 is-within-requires : tie.Need-is-within-requires Inv-loop μ-loop
 is-within-requires c κs =
-    let start = c .before .before .before .before .before .before .before in
-    (omega (arith, start .pre .2), rw (lent-length (start .args .store .now) (c .before .before .before .before .before .loop .at)) (omega (arith, fits (c .before .before .before .before))), omega (arith, size-square (start .args .size) (start .pre .0)))
+    let turn = c .before .before .before .before in
+    let entry = start turn in (
+      omega (arith, entry .pre .2),
+      rw (lent-length (entry .args .store .now) (turn .before .loop .at)) (omega (arith, fits turn)),
+      omega (arith, mul-le-mul (entry .pre .0) (entry .pre .0)),
+    )
 
 returns : tie.Need-returns Inv-loop μ-loop
 returns c =
-    let loop = c .before .before .before .before .before .before .before in
+    let same = c .before .before .before in
+    let loop = same .before .before .before .before in
     record {
       most = omega arith;
       before = loop .loop .inv .3;
-      found = λ h. hit _ _ _ _ (loop .loop .inv .2) (same-bits (record { sfits = c .before .before .before .before .before .if12 .given }) (record { sfits = c .before .before .before .before .if13 .given }) (c .before .before .before .if1 .taken)) (sym (c .before .is-within .ensures) ∙ c .if2 .taken);
+      found = λ h. hit _ _ _ _ (loop .loop .inv .2)
+          (same-bits (record { sfits = same .before .before .if12 .given }) (record { sfits = same .before .if13 .given }) (same .if1 .taken))
+          (sym (c .before .is-within .ensures) ∙ c .if2 .taken);
     }
 
 add-at : tie.Need-add-at Inv-loop μ-loop
@@ -66,7 +78,9 @@ loop-again c =
       loop .loop .inv .0,
       omega arith,
       omega (arith, loop .loop .inv .0, loop .loop .inv .2),
-      misses-more _ _ _ (loop .loop .j) (loop .loop .inv .3) (⊎-elim (λ w. miss-inside _ _ _ _ (loop .loop .inv .2) (sym (w .2 .ensures) ∙ w .3 .left)) (λ w. miss-location _ _ _ _ (loop .loop .inv .2) (λ e. w .left (ap (ofZ w32) e))) (c .if1 .came)),
+      misses-more _ _ _ (loop .loop .j) (loop .loop .inv .3)
+          (⊎-elim (λ w. miss-inside _ _ _ _ (loop .loop .inv .2) (sym (w .2 .ensures) ∙ w .3 .left))
+          (λ w. miss-location _ _ _ _ (loop .loop .inv .2) (λ e. w .left (ap (ofZ w32) e))) (c .if1 .came)),
     )
 
 returns-2 : tie.Need-returns-2 Inv-loop μ-loop

@@ -1,33 +1,52 @@
 -- `follow` meets its contract: the guard is met on a taken zone, which is then empty or arrives.
 -- Assumes nothing.
-use Prim.Native.Nat.{_+_}
+use Prim.Native.Nat.{_+_, _*_, _≤_}
 use mathlib.Core.Path.{_≡_, sym, ap}
+use lib.ListN.{length}
 use native.Mathlib.Omega.{arith}
 use Rattle.zones.specs.Successors.{meetOf}
-use Rattle.zones.proofs.Choices.{true-false}
-use Rattle.search.specs.Automata.{clocks, guardOf}
-use Rattle.search.proofs.Arriving.{gives-of, taken-sized, follows-none, arrives, edge-to, follows, arrives-sound, arrives-at}
-use Rattle.search.proofs.Places.{edge-within}
-use Rattle.search.proofs.Stepping.{meets, asks-limits, guard-scale}
+use Rattle.runs.proofs.Contradictions.{true-false}
+use Rattle.automata.specs.Automata.{clocks, edgeAt, guardOf}
+use Rattle.search.proofs.exploration.Arriving.{gives-of, taken-sized, follows-none, arrives, edge-to, follows, arrives-sound, arrives-at}
+use Rattle.automata.proofs.fields.Counting.{clocks≡, edge≡, asks-edge}
+use Rattle.automata.proofs.fields.Places.{edge-within}
+use Rattle.search.proofs.successor.Stepping.{meets, asks-limits, guard-scale}
 use borrow.Author.Needs.{needs}
 use Rattle.search.proofs.exploration.follow.Statement.{statement}
 use Rattle.search.proofs.exploration.follow.Tie as tie
 
+counts-of-requires : tie.Need-counts-of-requires
+counts-of-requires c κs = c .before .pre .0 .0
+
+edge-at-requires : tie.Need-edge-at-requires
+edge-at-requires c κs = let pre = c .before .before .pre .0 in asks-edge _ (c .counts-of .ensures) (pre .0) (pre .1)
+
+-- ---- with the place of the guard
+module _ (c : tie.After-edge-at) where
+  abbrev entry : tie.Start
+  entry = c .before .before .before
+
+  place≡ : c .edge-at .result ≡ edgeAt (entry .args .automaton .now) (entry .args .i)
+  place≡ = edge≡ _ (c .before .counts-of .ensures) _ (c .edge-at .ensures)
+
+  size≡ : c .before .counts-of .result .clocks ≡ clocks (entry .args .automaton .now)
+  size≡ = clocks≡ _ (c .before .counts-of .ensures)
+
+  inside : edgeAt (entry .args .automaton .now) (entry .args .i) + (3 + 8 * clocks (entry .args .automaton .now))
+      ≤ length (entry .args .automaton .now)
+  inside = edge-within _ (entry .pre .0 .0 .complete) _ (entry .pre .0 .1)
+
 add-at : tie.Need-add-at
-add-at c =
-    let start = c .before .before in
-    let w = edge-within _ (start .pre .0 .0 .complete) _ (start .pre .0 .1) in
-    omega (arith, c .edge-at .ensures)
+add-at c = omega (arith, place≡ c, inside c)
 
 narrow-requires : tie.Need-narrow-requires
 unfolding guardOf
 narrow-requires c κs =
-    let start = c .before .before .before in
-    let a = start .pre .0 .0 in
-    let hi = start .pre .0 .1 in
-    let q = asks-limits _ _ (ap (λ x. x + 3) (c .before .edge-at .ensures)) (c .clocks .ensures) (a .complete .clocks≤)
-    (omega (arith, edge-within _ (a .complete) _ hi)) (guard-scale _ a _ hi) (omega arith)
-    (taken-sized _ a _ hi _ (start .pre .1 .1) (start .pre .1 .2)) in
+    let pre = entry c .pre in
+    let a = pre .0 .0 in
+    let hi = pre .0 .1 in
+    let q = asks-limits _ _ (ap (λ x. x + 3) (place≡ c)) (size≡ c) (a .complete .clocks≤) (omega (arith, inside c)) (guard-scale _ a _ hi)
+    (omega arith) (taken-sized _ a _ hi _ (pre .1 .1) (pre .1 .2)) in
     (a, (q .0, (q .1, λ e. true-false (sym e))))
 
 -- ---- the guard met
@@ -37,7 +56,7 @@ module _ (c : tie.After-narrow) where
 
   met : c .narrow .result ≡ meetOf (clocks (start .args .automaton .now)) (guardOf (start .args .automaton .now) (start .args .i)) (start .args .w)
   unfolding guardOf
-  met = meets _ _ (ap (λ x. x + 3) (c .before .before .edge-at .ensures)) (c .before .clocks .ensures) (c .narrow .ensures)
+  met = meets _ _ (ap (λ x. x + 3) (place≡ (c .before))) (size≡ (c .before)) (c .narrow .ensures)
 
 returns : tie.Need-returns
 returns c =
@@ -67,14 +86,4 @@ returns-2 c =
     (follows _ a _ hi _ (pre .1 .1) (pre .1 .2) (met guard) live (pre .0 .2)) (c .before .arrive .ensures)
 
 pub follow-spec : {M : Type 1} → statement M
-follow-spec =
-    tie.close
-    (tie.spec
-    (λ c κs. search needs)
-    add-at
-    (λ c κs. search needs)
-    narrow-requires
-    returns
-    arrive-requires
-    (λ c. search needs)
-    returns-2)
+follow-spec = tie.close (tie.spec counts-of-requires edge-at-requires add-at narrow-requires returns arrive-requires (λ c. search needs) returns-2)

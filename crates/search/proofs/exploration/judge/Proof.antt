@@ -4,67 +4,64 @@ use Prim.Native.Nat.{ℕ, _+_, _*_, _≤_}
 use mathlib.Core.Path.{_≡_, ap}
 use lib.ListN.{length}
 use native.Mathlib.Omega.{arith}
-use Rattle.search.specs.Slots.{slotLength}
-use Rattle.search.proofs.Judging.{
-  Entered,
-  asks-encode,
-  asks-find,
-  asks-largest,
-  slot-within,
-  next-within,
-  asks-lowered,
-  gives-inside,
-  gives-big,
-  gives-full,
-  gives-kept,
-}
-use Rattle.search.proofs.Stepping.{one-more}
+use Rattle.slots.specs.Slots.{slotLength}
+use Rattle.search.proofs.exploration.Judging.{Entered, asks-encode, asks-find, asks-largest, slot-within, next-within, asks-lowered}
+use Rattle.search.proofs.exploration.Judging.{gives-inside, gives-big, gives-full, gives-kept}
+use Rattle.automata.proofs.fields.Counting.{size≡, few-clocks}
 use borrow.Author.Needs.{needs}
 use Rattle.search.proofs.exploration.judge.Statement.{statement}
 use Rattle.search.proofs.exploration.judge.Tie as tie
 
+counts-of-requires : tie.Need-counts-of-requires
+counts-of-requires c κs = c .before .pre .0 .0
+
 -- ---- with the clocks counted
-module _ (c : tie.After-clocks) where
+module _ (c : tie.After-counts-of) where
   abbrev start : tie.Start
   start = c .before .before
 
+  few : c .counts-of .result .clocks ≤ 8
+  few = few-clocks _ (c .counts-of .ensures) (start .pre .0 .0)
+
   entered : Entered (start .args .automaton .now) (start .args .l) (start .args .w)
-      (start .args .slots) (start .args .count) (start .args .store .now) (c .clocks .result + 1)
+      (start .args .capacity) (start .args .turn) (start .args .store .now) (c .counts-of .result .clocks + 1)
   entered = record {
     accepted = start .pre .0 .0;
     location = start .pre .0 .1;
     away = start .pre .0 .2;
     sized = start .pre .1 .1 .0;
     progress = start .pre .1 .0;
-    size≡ = one-more (c .clocks .ensures);
+    size≡ = size≡ _ (c .counts-of .ensures);
   }
 
 -- ---- with the first slot found that contains it, or none
 module _ (c : tie.After-find) where
-  abbrev amount : tie.After-slot-length
-  amount = c .before .before .before
+  abbrev stride : tie.After-slot-length
+  stride = c .before .before .before
 
   abbrev numbers : tie.After-encode
-  numbers = c .before .before .before .before
+  numbers = stride .before
 
-  abbrev counted : tie.After-clocks
-  counted = c .before .before .before .before .before .before .before
+  abbrev counted : tie.After-counts-of
+  counted = numbers .before .before .before .before
 
 encode-requires : tie.Need-encode-requires
-encode-requires c κs = asks-encode (entered (c .before .before))
+encode-requires c κs = asks-encode (entered (c .before .before .before))
 
 find-requires : tie.Need-find-requires
-find-requires c κs = asks-find (entered (c .before .before .before .before .before .before)) (c .before .before .before .encode .ensures)
+find-requires c κs =
+    let numbers = c .before .before .before in
+    asks-find (entered (numbers .before .before .before .before)) (numbers .encode .ensures)
 
 -- ---- a kept slot contains it
 module _ (c : tie.Then1) where
-  slot-inside : c .before .find .result * amount (c .before) .slot-length .result + slotLength (counted (c .before) .clocks .result + 1)
+  slot-inside : c .before .find .result * stride (c .before) .slot-length .result + slotLength (counted (c .before) .counts-of .result .clocks + 1)
       ≤ length (start (counted (c .before)) .args .store .now)
-  slot-inside = slot-within (entered (counted (c .before))) (amount (c .before) .slot-length .ensures) (c .if1 .taken)
+  slot-inside = slot-within (entered (counted (c .before))) (stride (c .before) .slot-length .ensures) (c .if1 .taken)
 
-  place≡ : c .before .find .result * amount (c .before) .slot-length .result
-      ≡ c .before .find .result * slotLength (counted (c .before) .clocks .result + 1)
-  place≡ = ap (λ (x : ℕ). c .before .find .result * x) (amount (c .before) .slot-length .ensures)
+  place≡ : c .before .find .result * stride (c .before) .slot-length .result
+      ≡ c .before .find .result * slotLength (counted (c .before) .counts-of .result .clocks + 1)
+  place≡ = ap (λ (x : ℕ). c .before .find .result * x) (stride (c .before) .slot-length .ensures)
 
 mul-at : tie.Need-mul-at
 mul-at c = omega (arith, slot-inside c)
@@ -113,9 +110,9 @@ module _ (c : tie.Then3) where
   abbrev last : tie.After-find
   last = find (c .before .before)
 
-  next-inside : start (counted last) .args .count * amount last .slot-length .result + slotLength (counted last .clocks .result + 1)
+  next-inside : start (counted last) .args .turn .count * stride last .slot-length .result + slotLength (counted last .counts-of .result .clocks + 1)
       ≤ length (start (counted last) .args .store .now)
-  next-inside = next-within (entered (counted last)) (amount last .slot-length .ensures) (c .if3 .taken)
+  next-inside = next-within (entered (counted last)) (stride last .slot-length .ensures) (c .if3 .taken)
 
 mul-keep : tie.Need-mul-keep
 mul-keep c = omega (arith, next-inside (c .before))
@@ -123,7 +120,7 @@ mul-keep c = omega (arith, next-inside (c .before))
 keep-requires : tie.Need-keep-requires
 keep-requires c κs =
     let find = last (c .before .before) in
-    let e = amount find .slot-length .ensures in
+    let e = stride find .slot-length .ensures in
     (omega (arith, e, next-inside (c .before .before)), omega (arith, e, asks-largest (entered (counted find)) (numbers find .encode .ensures) .long))
 
 returns-3 : tie.Need-returns-3
@@ -132,7 +129,7 @@ returns-3 c =
     let small = room .before in
     let find = last room in
     gives-kept (entered (counted find)) (numbers find .encode .ensures) (find .find .ensures) (alone (small .before) .if1 .left)
-    (small .before .largest-count .ensures) (small .if2 .left) (room .if3 .taken) (amount find .slot-length .ensures) (c .before .keep .ensures)
+    (small .before .largest-count .ensures) (small .if2 .left) (room .if3 .taken) (stride find .slot-length .ensures) (c .before .keep .ensures)
 
 returns-4 : tie.Need-returns-4
 returns-4 c =
@@ -145,10 +142,10 @@ pub judge-spec : {M : Type 1} → statement M
 judge-spec =
     tie.close
     (tie.spec
-    (λ c κs. search needs)
-    (λ c. search needs)
+    counts-of-requires
+    (λ c. omega (arith, few (c .before)))
     encode-requires
-    (λ c κs. search needs)
+    (λ c κs. omega (arith, few (c .before .before .before .before)))
     (λ c. search needs)
     find-requires
     mul-at

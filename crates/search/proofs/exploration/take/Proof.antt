@@ -6,50 +6,50 @@ use mathlib.Core.List.{List}
 use lib.IntN.{ℤ}
 use lib.ListN.{length}
 use native.Mathlib.Omega.{arith}
-use Rattle.search.specs.Automata.{clocks}
-use Rattle.search.specs.Exploring.{SoundState, Shown}
+use Rattle.automata.specs.Automata.{clocks}
+use Rattle.search.specs.Exploring.{Live}
 use Rattle.search.specs.Instance.{ZoneState}
-use Rattle.search.specs.Slots.{slotLength}
-use Rattle.search.proofs.Expanding.{shown-length}
-use Rattle.search.proofs.Taking.{reads-location, read-location, Onward, Turned, begins, ends, onward, few, slot-inside, location, asks-decode, sound-zone, turned}
+use Rattle.slots.specs.Slots.{slotLength}
+use Rattle.automata.proofs.fields.Counting.{size≡, few-clocks}
+use Rattle.search.proofs.exploration.Judging.{live-length, going-length}
+use Rattle.search.proofs.exploration.Taking.{reads-location, read-location, Onward, Turned, begins, ends, onward, few, slot-inside, location}
+use Rattle.search.proofs.exploration.Taking.{asks-decode, sound-zone, turned}
 use borrow.Author.Needs.{needs}
 use Rattle.search.proofs.exploration.take.Statement.{statement}
 use Rattle.search.proofs.exploration.take.Tie as tie
 
 abbrev Inv-loop : tie.InvT-loop
-Inv-loop automaton store₀ slots size amount t₀ next₀ store t next =
-    (size ≡ suc (clocks automaton)) × (amount ≡ slotLength (suc (clocks automaton))) × ((s₀ : List ℤ) (q₀ : ZoneState) → Shown (suc (clocks automaton)) s₀ q₀ store₀ t₀ → SoundState automaton slots q₀ → q₀ .code ≡ 0 → Onward automaton slots s₀ q₀ next store t)
+Inv-loop automaton store₀ capacity size stride t₀ next₀ store t next =
+    (size ≡ suc (clocks automaton)) × (stride ≡ slotLength (suc (clocks automaton))) ×
+    ((s₀ : List ℤ) (q₀ : ZoneState) → Live automaton capacity s₀ q₀ store₀ t₀ → Onward automaton capacity s₀ q₀ next store t)
 
 abbrev μ-loop : tie.MeasureT-loop
-μ-loop automaton store₀ slots size amount t₀ next₀ store t next = slots - next
+μ-loop automaton store₀ capacity size stride t₀ next₀ store t next = capacity - next
 
-add-size : tie.Need-add-size Inv-loop μ-loop
-add-size c = omega (arith, c .clocks .ensures, c .before .before .pre .0 .complete .clocks≤)
-
-slot-length-requires : tie.Need-slot-length-requires Inv-loop μ-loop
-slot-length-requires c κs = omega (arith, c .clocks .ensures, c .before .before .pre .0 .complete .clocks≤)
+few-of : (c : tie.After-counts-of Inv-loop μ-loop) → c .counts-of .result .clocks ≤ 8
+few-of c = few-clocks _ (c .counts-of .ensures) (c .before .before .pre .0)
 
 loop-holds : tie.Need-loop-holds Inv-loop μ-loop
 loop-holds c =
-    let size : c .before .clocks .result + 1 ≡ suc (clocks (c .before .before .before .args .automaton .now)) = omega (arith, c .before .clocks .ensures) in
-    (size, c .slot-length .ensures ∙ ap slotLength size, λ s₀ q₀ h o g. begins _ _ s₀ q₀ _ _ h o g)
+    let size = size≡ _ (c .before .before .counts-of .ensures) in
+    (size, c .slot-length .ensures ∙ ap slotLength size, λ s₀ q₀ h. begins _ _ h)
 
 -- ---- at the head of the loop
 module _ (c : tie.At-loop Inv-loop μ-loop) where
   abbrev start : tie.Start Inv-loop μ-loop
-  start = c .before .before .before .before
+  start = c .before .before .before .before .before
 
   abbrev automaton : List ℕ
   automaton = start .args .automaton .now
 
-  on : Onward automaton (start .args .slots) (start .pre .1 .base) (start .pre .1 .state) (c .loop .next) (c .loop .store) (c .loop .t)
-  on = let going = start .pre .1 in c .loop .inv .2 (going .base) (going .state) (going .shown) (going .sound) (going .going)
+  on : Onward automaton (start .args .capacity) (start .pre .1 .base) (start .pre .1 .state) (c .loop .next) (c .loop .store) (c .loop .t)
+  on = c .loop .inv .2 (start .pre .1 .base) (start .pre .1 .state) (start .pre .1 .live)
 
   at-entry : length (start .args .store .now) ≡ length (start .pre .1 .base)
-  at-entry = let going = start .pre .1 in shown-length _ (start .pre .0) _ _ _ _ (going .room) (going .shown) (going .sound)
+  at-entry = going-length _ (start .pre .0) (start .pre .1)
 
   now : length (c .loop .store) ≡ length (start .args .store .now)
-  now = shown-length _ (start .pre .0) _ _ _ _ (start .pre .1 .room) (on .shown) (on .sound) ∙ sym at-entry
+  now = live-length _ (start .pre .0) (start .pre .1 .long) (on .live .shown) (on .live .sound) ∙ sym at-entry
 
 -- ---- in a turn
 module _ (c : tie.Then1 Inv-loop μ-loop) where
@@ -66,9 +66,9 @@ module _ (c : tie.Then1 Inv-loop μ-loop) where
   place≡ = ap (λ (x : ℕ). head .loop .next * x) (head .loop .inv .1)
 
   inside : place + slotLength (suc (clocks (automaton head))) ≤ length (head .loop .store)
-  inside = slot-inside (entry .pre .0) (on head) (c .if1 .taken) place≡ (entry .pre .1 .room)
+  inside = slot-inside (entry .pre .0) (on head) (c .if1 .taken) place≡ (entry .pre .1 .long)
 
-  below : head .loop .next < entry .args .slots
+  below : head .loop .next < entry .args .capacity
   below = few (entry .pre .0) (on head) (c .if1 .taken)
 
 mul-at : tie.Need-mul-at Inv-loop μ-loop
@@ -97,34 +97,39 @@ part-decode-start c = omega (arith, inside (c .before .before))
 decode-requires : tie.Need-decode-requires Inv-loop μ-loop
 decode-requires c κs =
     let turn = c .before .before .before in
-    rw (head turn .loop .inv .0) (asks-decode (entry turn .pre .0) (on (head turn)) (turn .if1 .taken) (place≡ turn) (entry turn .pre .1 .room))
+    rw (head turn .loop .inv .0) (asks-decode (entry turn .pre .0) (on (head turn)) (turn .if1 .taken) (place≡ turn) (entry turn .pre .1 .long))
 
 expand-requires : tie.Need-expand-requires Inv-loop μ-loop
 expand-requires c κs =
     let turn = c .before .before .before .before .before in
-    let pre = entry turn .pre in
-    (pre .0, onward (pre .0) (on (head turn)) (turn .if1 .taken) (pre .1 .room), sound-zone (pre .0) (on (head turn)) (turn .if1 .taken) (place≡ turn) (rw (head turn .loop .inv .0) at (c .before .decode .ensures)))
+    let pre = entry turn .pre in (
+      pre .0,
+      onward (pre .0) (on (head turn)) (turn .if1 .taken) (pre .1 .long),
+      sound-zone (pre .0) (on (head turn)) (turn .if1 .taken) (place≡ turn) (rw (head turn .loop .inv .0) at (c .before .decode .ensures)),
+    )
 
 -- ---- after the expansion
 module _ (c : tie.After-expand Inv-loop μ-loop) where
   abbrev turn : tie.Then1 Inv-loop μ-loop
   turn = c .before .before .before .before .before .before
 
-  expanded : (s₀ : List ℤ) (q₀ : ZoneState) → Shown (suc (clocks (automaton (head turn)))) s₀ q₀ (entry turn .args .store .now) (entry turn .args .turn) → SoundState (automaton (head turn)) (entry turn .args .slots) q₀ → q₀ .code ≡ 0 →
-      Turned (automaton (head turn)) (entry turn .args .slots) s₀ q₀ (head turn .loop .next) (c .expand .last .1 .0) (c .expand .result)
-  expanded s₀ q₀ h o g =
-      let w = head turn .loop .inv .2 s₀ q₀ h o g in
+  expanded : (s₀ : List ℤ) (q₀ : ZoneState) →
+      Live (automaton (head turn)) (entry turn .args .capacity) s₀ q₀ (entry turn .args .store .now) (entry turn .args .turn) →
+      Turned (automaton (head turn)) (entry turn .args .capacity) s₀ q₀ (head turn .loop .next) (c .expand .last .1 .0) (c .expand .result)
+  expanded s₀ q₀ h =
+      let w = head turn .loop .inv .2 s₀ q₀ h in
+      let there = location (entry turn .pre .0) w (turn .if1 .taken) (place≡ turn) in
       turned (entry turn .pre .0) w (turn .if1 .taken) (place≡ turn) (rw (head turn .loop .inv .0) at (c .before .before .decode .ensures))
-      (read-location (record { sfits = c .before .before .before .before .before .l .given }) (location (entry turn .pre .0) w (turn .if1 .taken) (place≡ turn))) (c .expand .ensures)
+      (read-location (record { sfits = c .before .before .before .before .before .l .given }) there) (c .expand .ensures)
 
 same-length : tie.Need-same-length Inv-loop μ-loop
 same-length c =
     let after = c .before .before .before in
     let going = entry (turn after) .pre .1 in
-    expanded after _ _ (going .shown) (going .sound) (going .going) .same-length (going .room) ∙ sym (at-entry (head (turn after)))
+    expanded after _ _ (going .live) .same-length (going .long) ∙ sym (at-entry (head (turn after)))
 
 returns : tie.Need-returns Inv-loop μ-loop
-returns c = record { shows = λ s₀ q₀ h o g. expanded (c .before .before .before) s₀ q₀ h o g .stops (c .if2 .taken) }
+returns c = record { shows = λ s₀ q₀ h. expanded (c .before .before .before) s₀ q₀ h .stops (sym (c .before .has-ended .ensures) ∙ c .if2 .taken) }
 
 add-next : tie.Need-add-next Inv-loop μ-loop
 add-next c = omega (arith, below (turn (c .before .before .before)))
@@ -135,13 +140,13 @@ loop-less c = omega (arith, below (turn (c .before .before .before)))
 loop-again : tie.Need-loop-again Inv-loop μ-loop
 loop-again c =
     let inv = head (turn (c .before .before .before)) .loop .inv in
-    (inv .0, inv .1, λ s₀ q₀ h o g. expanded (c .before .before .before) s₀ q₀ h o g .goes-on (c .if2 .left))
+    (inv .0, inv .1, λ s₀ q₀ h. expanded (c .before .before .before) s₀ q₀ h .goes-on (sym (c .before .has-ended .ensures) ∙ c .if2 .left))
 
 same-length-2 : tie.Need-same-length-2 Inv-loop μ-loop
 same-length-2 c = now (c .before .before)
 
 returns-2 : tie.Need-returns-2 Inv-loop μ-loop
-returns-2 c = record { shows = λ s₀ q₀ h o g. ends _ _ s₀ q₀ _ _ _ (c .if1 .left) (c .before .before .loop .inv .2 s₀ q₀ h o g) }
+returns-2 c = record { shows = λ s₀ q₀ h. ends _ _ (c .before .before .loop .inv .2 s₀ q₀ h) (c .if1 .left) }
 
 pub take-spec : {M : Type 1} → statement M
 take-spec =
@@ -149,9 +154,9 @@ take-spec =
     (tie.spec
     Inv-loop
     μ-loop
-    (λ c κs. search needs)
-    add-size
-    slot-length-requires
+    (λ c κs. c .before .pre .0)
+    (λ c. omega (arith, few-of (c .before)))
+    (λ c κs. omega (arith, few-of (c .before)))
     loop-holds
     mul-at
     mul-l
@@ -163,6 +168,7 @@ take-spec =
     (λ c. search needs)
     decode-requires
     expand-requires
+    (λ c κs. search needs)
     same-length
     returns
     add-next

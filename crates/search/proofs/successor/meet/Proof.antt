@@ -9,11 +9,11 @@ use borrow.Author.Needs.{needs}
 use lib.Dec.{eqb}
 use Rattle.zones.specs.declared.zone.Work.{Work}
 use Rattle.zones.specs.Zones.{meetLimits}
-use Rattle.zones.proofs.Choices.{true-false}
-use Rattle.zones.proofs.Limits.{limits-all}
-use Rattle.search.specs.Automata.{limitsAt, noUpper}
-use Rattle.search.specs.declared.automaton.Limits.{Limits}
-use Rattle.search.proofs.Stepping.{turn-ready, turn-met, turn-same}
+use Rattle.runs.proofs.Contradictions.{true-false}
+use Rattle.zones.proofs.places.Limits.{limits-all}
+use Rattle.automata.specs.Automata.{limitsAt, noUpper}
+use Rattle.automata.specs.declared.fields.Limits.{Limits}
+use Rattle.search.proofs.successor.Stepping.{turn-ready, turn-met, turn-same}
 use Rattle.search.proofs.successor.meet.Statement.{statement}
 use Rattle.search.proofs.successor.meet.Tie as tie
 
@@ -68,7 +68,7 @@ loop-again c =
 returns : tie.Need-returns Inv-loop μ-loop
 returns c =
     let start = c .before .before .before in
-    let last : c .before .loop .x - 1 ≡ start .args .n = omega arith in
+    let last : c .before .loop .x - 1 ≡ start .args .c = omega arith in
     let all = limits-all _ _ (start .args .w) last (c .before .loop .inv .2) in
     record { work = all; same = λ e. let s = c .before .loop .inv .3 e in (s .0, ap (λ (v : Work). v .zone) (sym all) ∙ s .1) }
 

@@ -5,7 +5,7 @@ use mathlib.Core.Path.{refl}
 use mathlib.Core.Logic.{⊎-elim}
 use borrow.Author.Needs.{needs}
 use Rattle.zones.specs.Settled.{Begun}
-use Rattle.search.proofs.Stepping.{one-more, met-is, met-ready, none-begun, all-begun}
+use Rattle.search.proofs.successor.Stepping.{one-more, met-is, met-ready, none-begun, all-begun}
 use Rattle.search.proofs.successor.narrow.Statement.{statement}
 use Rattle.search.proofs.successor.narrow.Tie as tie
 
@@ -15,7 +15,7 @@ reduce-from-requires c κs =
     let start = met .before .before in
     let n≤ = start .pre .1 .0 .0 in
     let work = met .meet .ensures .work in
-    let begun : Begun (start .args .n + 1) (c .if1 .first) (met .meet .result .work) =
+    let begun : Begun (start .args .c + 1) (c .if1 .first) (met .meet .result .work) =
     ⊎-elim (λ x. let s = met .meet .ensures .same (x .0 .taken) in all-begun _ n≤ _ (one-more refl) _ (start .pre .1 .1 .1 (s .0)) (s .1) work (x .1))
     (λ x. none-begun _ n≤ (start .args .w) (one-more refl) _ (x .1)) (c .if1 .came) in
     (met-ready _ n≤ _ (one-more refl) _ (start .pre .1 .1 .0 .0) (start .pre .1 .1 .0 .1) work, begun)

@@ -5,14 +5,15 @@ use mathlib.Core.Path.{_≡_, refl, ap, _∙_}
 use native.Mathlib.Omega.{arith}
 use Rattle.zones.specs.Pairs.{atMost}
 use Rattle.zones.specs.Zones.{raiseLimits}
-use Rattle.zones.proofs.Limits.{raise-more, raise-all}
-use Rattle.search.specs.Automata.{limitsAt}
-use Rattle.search.specs.declared.automaton.Limits.{Limits}
+use Rattle.zones.proofs.places.Limits.{raise-more, raise-all}
+use Rattle.automata.specs.Automata.{limitsAt}
+use Rattle.automata.specs.declared.fields.Limits.{Limits}
 use Rattle.search.proofs.successor.raise.Statement.{statement}
 use Rattle.search.proofs.successor.raise.Tie as tie
 
 abbrev Inv-loop : tie.InvT-loop
-Inv-loop automaton at n fraction z₀ x₀ z x = (0 < x) × (x ≤ n + 1) × (z ≡ raiseLimits (limitsAt automaton at) (x - 1) (record { zone = z₀; fraction = fraction }) .zone)
+Inv-loop automaton at n fraction z₀ x₀ z x =
+    (0 < x) × (x ≤ n + 1) × (z ≡ raiseLimits (limitsAt automaton at) (x - 1) (record { zone = z₀; fraction = fraction }) .zone)
 
 abbrev μ-loop : tie.MeasureT-loop
 μ-loop automaton at n fraction z₀ x₀ z x = n + 1 - x
@@ -27,8 +28,9 @@ limits-of-requires c κs = (c .before .before .before .before .before .pre .0, o
 loop-again : tie.Need-loop-again Inv-loop μ-loop
 unfolding limitsAt
 loop-again c =
-    let now = c .before .before .before in
-    (omega arith, omega arith, raise-more _ _ _ (now .loop .inv .0) (now .loop .inv .2) (c .at-most .ensures ∙ ap (λ (l : Limits). atMost (l .hi)) (c .before .limits-of .ensures)))
+    let inv = c .before .before .before .loop .inv in
+    let bound = c .at-most .ensures ∙ ap (λ (l : Limits). atMost (l .hi)) (c .before .limits-of .ensures) in
+    (omega arith, omega arith, raise-more _ _ _ (inv .0) (inv .2) bound)
 
 returns : tie.Need-returns Inv-loop μ-loop
 returns c = raise-all _ _ _ (omega arith) (c .before .loop .inv .2)

@@ -3,7 +3,7 @@ use mathlib.Core.Path.{_≡_, refl, sym, _∙_}
 use native.Mathlib.Nat.{mod-lt}
 use native.Mathlib.Omega.{arith}
 use Rattle.zones.specs.Fractions.{gcdOf}
-use Rattle.zones.proofs.Lowest.{gcd-zero, gcd-step}
+use Rattle.zones.proofs.fractions.Lowest.{gcd-zero, gcd-step}
 use Rattle.zones.proofs.fraction.gcd.Statement.{statement}
 use Rattle.zones.proofs.fraction.gcd.Tie as tie
 

@@ -1,7 +1,7 @@
 -- `Fraction::lowered` meets its contract: 1/0 or not, and the two products compared.
 use native.Mathlib.Omega.{arith}
-use Rattle.zones.proofs.Integers.{product-below}
-use Rattle.zones.proofs.Choices.{lowered-new, lowered-old, lowered-none}
+use Rattle.zones.proofs.pairs.Integers.{product-below}
+use Rattle.zones.proofs.pairs.Choices.{lowered-new, lowered-old, lowered-none}
 use Rattle.zones.proofs.fraction.Fraction.lowered.Statement.{statement}
 use Rattle.zones.proofs.fraction.Fraction.lowered.Tie as tie
 

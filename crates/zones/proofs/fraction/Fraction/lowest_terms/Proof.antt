@@ -2,7 +2,7 @@
 use borrow.Author.Needs.{needs}
 use mathlib.Core.Path.{sym, _∙_}
 use Rattle.zones.specs.Fractions.{lowestTerms}
-use Rattle.zones.proofs.Lowest.{lowest-of-zero}
+use Rattle.zones.proofs.fractions.Lowest.{lowest-of-zero}
 use Rattle.zones.proofs.fraction.Fraction.lowest_terms.Statement.{statement}
 use Rattle.zones.proofs.fraction.Fraction.lowest_terms.Tie as tie
 

@@ -6,8 +6,8 @@ use mir.Syntax.{w64}
 use mir.Val.{SFits}
 use mir.Facts.{toZ-ofZ, toZ-pos}
 use native.Mathlib.Omega.{arith}
-use Rattle.zones.proofs.Integers.{abs-fits, abs-minus}
-use Rattle.zones.proofs.Choices.{pair-is}
+use Rattle.zones.proofs.pairs.Integers.{abs-fits, abs-minus}
+use Rattle.zones.proofs.pairs.Choices.{pair-is}
 use Rattle.zones.proofs.pair.Pair.at_least.Statement.{statement}
 use Rattle.zones.proofs.pair.Pair.at_least.Tie as tie
 

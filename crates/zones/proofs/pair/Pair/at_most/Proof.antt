@@ -3,7 +3,7 @@ use borrow.Author.Needs.{needs}
 use mir.Syntax.{w64}
 use mir.Facts.{toZ-pos}
 use native.Mathlib.Omega.{arith}
-use Rattle.zones.proofs.Choices.{pair-is}
+use Rattle.zones.proofs.pairs.Choices.{pair-is}
 use Rattle.zones.proofs.pair.Pair.at_most.Statement.{statement}
 use Rattle.zones.proofs.pair.Pair.at_most.Tie as tie
 

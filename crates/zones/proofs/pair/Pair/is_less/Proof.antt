@@ -3,7 +3,7 @@ use borrow.Author.Needs.{needs}
 use mir.Syntax.{w64}
 use mir.Val.{SFits}
 use mir.Facts.{toZ-ofZ}
-use Rattle.zones.proofs.Choices.{less-yes, less-no, less-same}
+use Rattle.zones.proofs.pairs.Choices.{less-yes, less-no, less-same}
 use Rattle.zones.proofs.pair.Pair.is_less.Statement.{statement}
 use Rattle.zones.proofs.pair.Pair.is_less.Tie as tie
 

@@ -1,7 +1,7 @@
 -- `Pair::smaller` meets its contract: the pair chosen, and the threshold to the other.
 use borrow.Author.Needs.{needs}
 use mathlib.Core.Path.{sym, _∙_}
-use Rattle.zones.proofs.Choices.{less-shows, not-less-shows, smaller-new, smaller-old}
+use Rattle.zones.proofs.pairs.Choices.{less-shows, not-less-shows, smaller-new, smaller-old}
 use Rattle.zones.proofs.pair.Pair.smaller.Statement.{statement}
 use Rattle.zones.proofs.pair.Pair.smaller.Tie as tie
 

@@ -5,8 +5,8 @@ use mir.Syntax.{w64}
 use mir.Val.{SFits}
 use mir.Facts.{toZ-ofZ}
 use native.Mathlib.Omega.{arith}
-use Rattle.zones.proofs.Integers.{abs-fits, abs-sum}
-use Rattle.zones.proofs.Choices.{sum-is}
+use Rattle.zones.proofs.pairs.Integers.{abs-fits, abs-sum}
+use Rattle.zones.proofs.pairs.Choices.{sum-is}
 use Rattle.zones.proofs.pair.Pair.sum.Statement.{statement}
 use Rattle.zones.proofs.pair.Pair.sum.Tie as tie
 

@@ -5,8 +5,8 @@ use mir.Syntax.{w64}
 use mir.Val.{SFits}
 use mir.Facts.{toZ-ofZ}
 use native.Mathlib.Omega.{arith}
-use Rattle.zones.proofs.Integers.{abs-fits, abs-minus, abs-of-le}
-use Rattle.zones.proofs.Choices.{threshold-is, threshold-none}
+use Rattle.zones.proofs.pairs.Integers.{abs-fits, abs-minus, abs-of-le}
+use Rattle.zones.proofs.pairs.Choices.{threshold-is, threshold-none}
 use Rattle.zones.proofs.pair.Pair.threshold.Statement.{statement}
 use Rattle.zones.proofs.pair.Pair.threshold.Tie as tie
 

@@ -1,6 +1,6 @@
 -- `Bounds::is_below` meets its contract.
 use mathlib.Core.Path.{sym, _∙_}
-use Rattle.zones.proofs.Limits.{below-yes, below-lower}
+use Rattle.zones.proofs.places.Limits.{below-yes, below-lower}
 use borrow.Author.Needs.{needs}
 use Rattle.zones.proofs.zone.Bounds.is_below.Statement.{statement}
 use Rattle.zones.proofs.zone.Bounds.is_below.Tie as tie

@@ -2,8 +2,8 @@
 use mathlib.Core.Path.{ap, _∙_}
 use native.Mathlib.Omega.{arith}
 use Rattle.zones.specs.Zones.{lowerMet}
-use Rattle.zones.proofs.Limits.{met-absent, met-present}
-use Rattle.zones.proofs.Ranges.{upper-ready}
+use Rattle.zones.proofs.places.Limits.{met-absent, met-present}
+use Rattle.zones.proofs.ranges.Ranges.{upper-ready}
 use borrow.Author.Needs.{needs}
 use Rattle.zones.proofs.zone.Bounds.meet.Statement.{statement}
 use Rattle.zones.proofs.zone.Bounds.meet.Tie as tie

@@ -13,9 +13,9 @@ use Rattle.zones.specs.declared.zone.Work.{Work}
 use Rattle.zones.specs.Zones.{pairAt, entry}
 use Rattle.zones.specs.Ranges.{Fits32}
 use Rattle.zones.specs.Reductions.{relaxed, rowSteps, roundSteps, emptyIn, reduceSteps}
-use Rattle.zones.proofs.Ranges.{TurnReady, spread-small, sum-small, turn-narrow, turn-of, skip-of}
-use Rattle.zones.proofs.Rounds.{relaxed-is, relaxed-stays, row-next, row-all, round-all}
-use Rattle.zones.proofs.Progress.{empty-yes, empty-no, empty-none, reduced-next, reduced-stop, reduced-end}
+use Rattle.zones.proofs.ranges.Ranges.{TurnReady, spread-small, sum-small, turn-narrow, turn-of, skip-of}
+use Rattle.zones.proofs.reductions.Rounds.{relaxed-is, relaxed-stays, row-next, row-all, round-all}
+use Rattle.zones.proofs.reductions.Progress.{empty-yes, empty-no, empty-none, reduced-next, reduced-stop, reduced-end}
 use Rattle.zones.proofs.zone.Work.reduce_from.Statement.{statement}
 use Rattle.zones.proofs.zone.Work.reduce_from.Tie as tie
 
@@ -56,8 +56,9 @@ loop3-holds c = (omega arith, omega arith, omega arith, omega arith, refl)
 
 -- past the three reads: what the comparison asks of the pairs and the fraction
 turn : (c : tie.After-sum-arg2 Inv-loop3 μ-loop3 Inv-loop2 μ-loop2 Inv-loop4 μ-loop4 Inv-loop μ-loop) →
-    TurnReady (c .before .before .before .before .loop3 .work) (c .before .before .before .before .before .before .before .before .before .loop .k)
-    (c .before .before .before .before .before .before .before .loop2 .i) (c .before .before .before .before .loop3 .j)
+    let columns = c .before .before .before .before in
+    let rows = columns .before .before .before in
+    TurnReady (columns .loop3 .work) (rows .before .before .loop .k) (rows .loop2 .i) (columns .loop3 .j)
 turn c =
     let columns = c .before .before .before .before in
     let rows = columns .before .before .before in
@@ -85,11 +86,11 @@ lowering c =
     let t = turn (c .before .before) in
     (t .fraction, rw (c .smaller .ensures, c .before .sum .ensures) (turn-narrow _ _ _ _ t))
 
-lowered-in-place-requires : tie.Need-lowered-in-place-requires Inv-loop3 μ-loop3 Inv-loop2 μ-loop2 Inv-loop4 μ-loop4 Inv-loop μ-loop
-lowered-in-place-requires c κs = lowering (c .before .before .before .before)
+after-lowering-requires : tie.Need-after-lowering-requires Inv-loop3 μ-loop3 Inv-loop2 μ-loop2 Inv-loop4 μ-loop4 Inv-loop μ-loop
+after-lowering-requires c κs = lowering (c .before .before .before .before)
 
-lowered-in-place-requires-2 : tie.Need-lowered-in-place-requires-2 Inv-loop3 μ-loop3 Inv-loop2 μ-loop2 Inv-loop4 μ-loop4 Inv-loop μ-loop
-lowered-in-place-requires-2 c κs = lowering (c .before .before .before .before)
+after-lowering-requires-2 : tie.Need-after-lowering-requires-2 Inv-loop3 μ-loop3 Inv-loop2 μ-loop2 Inv-loop4 μ-loop4 Inv-loop μ-loop
+after-lowering-requires-2 c κs = lowering (c .before .before .before .before)
 
 loop3-again : tie.Need-loop3-again Inv-loop3 μ-loop3 Inv-loop2 μ-loop2 Inv-loop4 μ-loop4 Inv-loop μ-loop
 unfolding pairAt
@@ -190,8 +191,8 @@ reduce-from-spec =
     (λ c. omega arith)
     (λ c. omega arith)
     (λ c. omega arith)
-    lowered-in-place-requires
-    lowered-in-place-requires-2
+    after-lowering-requires
+    after-lowering-requires-2
     (λ c. omega arith)
     (λ c. omega arith)
     loop3-again

@@ -10,10 +10,10 @@ use Rattle.zones.specs.Zones.{pairAt}
 use Rattle.zones.specs.Ranges.{Fits32}
 use Rattle.zones.specs.Reductions.{rowSteps, roundSteps, reduceSteps}
 use Rattle.zones.specs.Settled.{Settled, Raised}
-use Rattle.zones.proofs.Columns.{column-step, column-first, zero-row, column-next, column-live}
-use Rattle.zones.proofs.Ranges.{TurnReady, spread-small, sum-small, turn-narrow, turn-of}
-use Rattle.zones.proofs.Rounds.{relaxed-is, round-all}
-use Rattle.zones.proofs.Progress.{reduced-next, reduced-end}
+use Rattle.zones.proofs.settled.Columns.{column-step, column-first, zero-row, column-next, column-live}
+use Rattle.zones.proofs.ranges.Ranges.{TurnReady, spread-small, sum-small, turn-narrow, turn-of}
+use Rattle.zones.proofs.reductions.Rounds.{relaxed-is, round-all}
+use Rattle.zones.proofs.reductions.Progress.{reduced-next, reduced-end}
 use Rattle.zones.proofs.zone.Work.reduce_raised.Statement.{statement}
 use Rattle.zones.proofs.zone.Work.reduce_raised.Tie as tie
 
@@ -60,8 +60,8 @@ loop2-holds c =
 
 -- past the three reads: what the comparison asks of the pairs and the fraction
 turn : (c : tie.After-sum-arg2 Inv-loop2 μ-loop2 Inv-loop μ-loop) →
-    TurnReady (record { zone = c .before .before .before .before .loop2 .z; fraction = c .before .before .before .before .loop2 .f })
-    (c .before .before .before .before .before .before .loop .k) (c .before .before .before .before .loop2 .i) 0
+    let rows = c .before .before .before .before in
+    TurnReady (record { zone = rows .loop2 .z; fraction = rows .loop2 .f }) (rows .before .before .loop .k) (rows .loop2 .i) 0
 unfolding rowSteps
 turn c =
     let rows = c .before .before .before .before in
@@ -81,9 +81,9 @@ smaller-requires c κs =
     let t = turn (c .before) in
     (spread-small (t .at), rw (c .sum .ensures) (sum-small _ _ (t .to) (t .from)))
 
-lowered-in-place-requires : tie.Need-lowered-in-place-requires Inv-loop2 μ-loop2 Inv-loop μ-loop
+after-lowering-requires : tie.Need-after-lowering-requires Inv-loop2 μ-loop2 Inv-loop μ-loop
 unfolding pairAt
-lowered-in-place-requires c κs =
+after-lowering-requires c κs =
     let t = turn (c .before .before .before) in
     let fits : Fits32 (c .before .smaller .result .threshold) =
     rw (c .before .smaller .ensures, c .before .before .sum .ensures) (turn-narrow _ _ _ _ t) in
@@ -100,7 +100,7 @@ loop2-again c =
     let start = middles .before .before .before in
     let d = start .pre .1 in
     let now : Work = record { zone = rows .loop2 .z; fraction = rows .loop2 .f } in
-    let step = relaxed-is now _ _ _ _ _ _ (smaller .before .sum .ensures) (smaller .smaller .ensures) (c .lowered-in-place .ensures) in
+    let step = relaxed-is now _ _ _ _ _ _ (smaller .before .sum .ensures) (smaller .smaller .ensures) (c .after-lowering .ensures) in
     let was = middles .loop .inv .4 (d .base) (d .settled) (d .raised) in
     let o = rows .loop2 .inv .5 (d .base) (d .settled) was in (
       omega arith,
@@ -157,7 +157,7 @@ reduce-raised-spec =
     (λ c. omega arith)
     (λ c. omega arith)
     (λ c. omega arith)
-    lowered-in-place-requires
+    after-lowering-requires
     (λ c. omega arith)
     (λ c. omega arith)
     loop2-again

@@ -7,7 +7,7 @@ use lib.ListN.{length, length-map}
 use native.Mathlib.Omega.{arith}
 use Rattle.zones.specs.declared.pair.Pair.{Pair}
 use Rattle.zones.specs.Zones.{setOf, home, resetPlaces}
-use Rattle.zones.proofs.Places.{home-is, home-below, reset-next, reset-as, reset-all}
+use Rattle.zones.proofs.places.Places.{home-is, home-below, reset-next, reset-as, reset-all}
 use Rattle.zones.proofs.zone.Work.reset.Statement.{statement}
 use Rattle.zones.proofs.zone.Work.reset.Tie as tie
 

@@ -1,0 +1,2 @@
+-- Bytes put at a place.
+pub mod Placed

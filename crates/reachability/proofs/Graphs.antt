@@ -1,0 +1,46 @@
+-- The laws can be met: graphs whose edges are open or shut meet them.
+use Prim.Native.Nat.{ℕ}
+use mathlib.Core.Bool.{Bool, true, false}
+use mathlib.Core.Path.{_≡_, refl}
+use native.Mathlib.Omega.{arith}
+use Rattle.reachability.specs.Search.{empty, zone}
+use Rattle.reachability.specs.Laws.{Laws}
+use Rattle.reachability.specs.Graphs.{passes, graph, points, meaning}
+
+zone-empty : {z f g : Unit {0}} → zone z f ≡ empty g → ⊥
+zone-empty e = let z : _≡_ {A = ℕ} 0 1 = cc in omega arith
+
+shut : (b : Bool) (g : Unit {0}) → b ≡ true → passes b ≡ empty g → ⊥
+shut b g h e = zone-empty (rw h at e)
+
+opened : (b : Bool) (z g : Unit {0}) → passes b ≡ zone z g → b ≡ true
+opened true z g e = refl
+opened false z g e = cc
+
+module _ (edges : ℕ) (from to : ℕ → ℕ) (start target : ℕ) (isOpen : ℕ → Bool) (s₀ e₀ : ℕ) where
+  pub laws : Laws (graph edges from to start target isOpen) (points edges from to start target isOpen)
+      (meaning edges from to start target isOpen) s₀ e₀
+  laws = record {
+    clocks = record { none = λ v. refl; more = λ t u v. refl };
+    tighter = λ f s e h. tt;
+    safe = λ s e. record { enter = λ f b. tt; succ = λ i z f b. tt; lowered = λ z y f b. tt };
+    exact = λ s e. record { enter = λ f b. tt; succ = λ i z f b. tt; lowered = λ z y f b. tt };
+    fine = record { top = tt; enter = λ f b. tt; succ = λ i z f b. tt; lowered = λ z y f h b. tt };
+    one-sided = record {
+      enter-shape = λ f g z j. tt;
+      succ-shape = λ i y z f g l h j. tt;
+      enter-in = λ s e f g z t j b h k. tt;
+      enter-none = λ s e f g j b h. zone-empty j;
+      succ-in = λ s e i y z f g v t l h j b m u w x. tt;
+      succ-none = λ s e i y f g v l h j b m u w. shut (isOpen i) g u j;
+      within-in = λ s e z y f v h k j b m. tt;
+    };
+    both = record {
+      enter-fit = λ s e f g z j b. tt;
+      succ-fit = λ s e i y z f g l h k j b. tt;
+      enter-from = λ s e f g z v j b m. record { time = 0; begins = tt; stays = tt; same = refl };
+      succ-from = λ s e i y z f g v l h k j b m.
+          record { old = tt; time = 0; inside = tt; may = opened (isOpen i) z g j; lands = tt; stays = tt; same = refl };
+      point = λ z h k. (tt, tt);
+    };
+  }

@@ -1,0 +1,14 @@
+-- What is proved of the search over any zones.
+pub mod Lists
+pub mod Paths
+pub mod Judged
+pub mod Later
+pub mod Keeps
+pub mod Inherits
+pub mod Cover
+pub mod Same
+pub mod Reached
+pub mod Robust
+pub mod Capacity
+pub mod Examples
+pub mod Graphs

@@ -1,0 +1,99 @@
+-- Sameness: below the safe fraction a kept zone has every state that runs along its edges end in; below the exact one, no other.
+use Prim.Native.Nat.{ℕ, _<_}
+use mathlib.Core.List.{List, [], _∷_, _++_}
+use mathlib.Core.Path.{_≡_, refl, sym, ap, _∙_, subst}
+use Rattle.runs.specs.Runs.{System, Step, wait, jump, Stand, first, after, last, Steps, Ends}
+use Rattle.reachability.specs.Search.{zone, Zones, Node, first-node, child, search}
+use Rattle.reachability.specs.Meaning.{Meaning}
+use Rattle.reachability.specs.Laws.{Falls, Clocks, OneSided, ExactLaws}
+use Rattle.reachability.proofs.Lists.{All}
+use Rattle.reachability.proofs.Paths.{jumps-append, last-append, steps-append, cut, waited}
+use Rattle.reachability.proofs.Inherits.{Inherited, search-all}
+
+module _ {Z F : Type 0} (A : System) (O : Zones Z F) (M : Meaning A Z F) (L : OneSided A O M) (s e : ℕ) where
+  -- ---- states of runs are in the zone
+  pub record Whole (k : Node Z) : Type 0 where
+    pub shape : M .Shape (k .zone)
+    pub holds : (v : A .Val) → Ends A s e (k .path) (k .at) v → M .In (k .zone) s e v
+
+  module _ (K : Clocks A) where
+    whole-start : (z : Z) (f g : F) → O .enter f ≡ zone z g → M .Safe g s e → Whole (first-node A z)
+    whole-start z f g j b = record {
+      shape = L .enter-shape f g z j;
+      holds = λ v n.
+          let w = waited A s e K (first A) (n .steps) (n .run .1) (n .takes) in
+          subst (M .In z s e) (ap (λ (x : Stand (A .Val)). x .clocks) (sym (w .ends) ∙ n .here))
+          (L .enter-in s e f g z (w .time) j b (n .run .0) (w .stays (n .run .0)));
+    }
+
+    whole-next : (k : Node Z) (i : ℕ) (z : Z) (f g : F) → Whole k → i < A .edges → A .from i ≡ k .at → O .succ i (k .zone) f ≡ zone z g
+        → M .Safe g s e → Whole (child A k i z)
+    whole-next k i z f g h l o j b = record {
+      shape = L .succ-shape i (k .zone) z f g l (h .shape) j;
+      holds = λ v n.
+          let c = cut A s e (first A) (n .steps) (k .path) i (n .run .1) (n .takes) in
+          let y = last A (first A) (c .before) in
+          let w = waited A s e K (after A y (jump i)) (c .rest) (c .on) (c .waits) in
+          let m : M .In (k .zone) s e (y .clocks) =
+          h .holds (y .clocks)
+          (record {
+            steps = c .before;
+            run = (n .run .0, c .steps);
+            takes = c .takes;
+            here = λ t. record { at = (sym (c .may .1) ∙ o) t; clocks = y .clocks };
+          }) in
+          subst (M .In z s e) (ap (λ (x : Stand (A .Val)). x .clocks) (sym (w .ends) ∙ sym (c .same) ∙ n .here))
+          (L .succ-in s e i (k .zone) z f g (y .clocks) (w .time) l (h .shape) j b m (c .may .2) (c .may .3) (w .stays (c .may .3)));
+    }
+
+    pub all-whole : Falls O (λ f. M .Safe f s e) → (cap : ℕ) → M .Safe (search A O cap .frac) s e → All Whole (search A O cap .kept)
+    all-whole fall cap =
+        search-all A O cap fall
+        (record { start = λ z f g j b a m. whole-start z f g j b; next = λ k i z f g h l o j b a m. whole-next k i z f g h l o j b })
+
+  -- ---- states of the zone are of runs
+  pub record Tight (k : Node Z) : Type 0 where
+    pub shape : M .Shape (k .zone)
+    pub fit : M .Fit (k .zone) s e
+    pub ends : (v : A .Val) → M .In (k .zone) s e v → Ends A s e (k .path) (k .at) v
+
+  module _ (s₀ e₀ : ℕ) (X : ExactLaws A O M s₀ e₀) where
+    pub tight-start : (z : Z) (f g : F) → O .enter f ≡ zone z g → M .Exact g s e → Tight (first-node A z)
+    tight-start z f g j b = record {
+      shape = L .enter-shape f g z j;
+      fit = X .enter-fit s e f g z j b;
+      ends = λ v n.
+          let o = X .enter-from s e f g z v j b n in
+          record {
+            steps = wait (o .time) ∷ [];
+            run = (o .begins, (o .stays, tt));
+            takes = refl;
+            here = λ t. record { at = A .start; clocks = o .same t };
+          };
+    }
+
+    pub tight-next : (k : Node Z) (i : ℕ) (z : Z) (f g : F) → Tight k → i < A .edges → A .from i ≡ k .at → O .succ i (k .zone) f ≡ zone z g
+        → M .Exact g s e → Tight (child A k i z)
+    tight-next k i z f g h l c j b = record {
+      shape = L .succ-shape i (k .zone) z f g l (h .shape) j;
+      fit = X .succ-fit s e i (k .zone) z f g l (h .shape) (h .fit) j b;
+      ends = λ v n.
+          let o = X .succ-from s e i (k .zone) z f g v l (h .shape) (h .fit) j b n in
+          let r = h .ends (o .old) (o .inside) in
+          let ys : List Step = jump i ∷ wait (o .time) ∷ [] in
+          let there : Stand (A .Val) = record { at = k .at; clocks = o .old } in
+          let on : Steps A s e there ys = ((l, c, o .may, o .lands), (o .stays, tt)) in
+          record {
+            steps = r .steps ++ ys;
+            run = (r .run .0, steps-append A s e (first A) (r .steps) ys (r .run .1) (subst (λ x. Steps A s e x ys) (sym (r .here)) on));
+            takes = jumps-append (r .steps) ys ∙ ap (λ q. q ++ (i ∷ [])) (r .takes);
+            here =
+                last-append A (first A) (r .steps) ys ∙ ap (λ x. last A x ys) (r .here) ∙ (λ t. record { at = A .to i; clocks = o .same t });
+          };
+    }
+
+    pub tight : Inherited A O Tight (λ f. M .Exact f s e)
+    tight = record { start = λ z f g j b a m. tight-start z f g j b; next = λ k i z f g h l o j b a m. tight-next k i z f g h l o j b }
+
+    pub all-tight : Falls O (λ f. M .Exact f s e) → (cap : ℕ) → M .Exact (search A O cap .frac) s e → All Tight (search A O cap .kept)
+    all-tight fall cap = search-all A O cap fall tight

@@ -1,0 +1,78 @@
+-- The laws of zones that the search rests on: the one-sided ones below the safe fraction, the others below the exact one.
+-- In document 01 the two fractions are one.
+use Prim.Native.Nat.{ℕ, _+_, _<_}
+use mathlib.Core.Bool.{true}
+use mathlib.Core.Path.{_≡_}
+use Rattle.runs.specs.Runs.{System}
+use Rattle.reachability.specs.Search.{empty, zone, fracOf, Zones}
+use Rattle.reachability.specs.Meaning.{Meaning}
+
+-- a bound on the error that only falls
+pub record Falls {Z F : Type 0} (O : Zones Z F) (B : F → Type 0) : Type 0 where
+  pub enter : (f : F) → B (fracOf (O .enter f)) → B f
+  pub succ : (i : ℕ) (z : Z) (f : F) → B (fracOf (O .succ i z f)) → B f
+  pub lowered : (z y : Z) (f : F) → B (O .lowered z y f) → B f
+
+-- and one that stays
+pub record Stays {Z F : Type 0} (O : Zones Z F) (B : F → Type 0) : Type 0 where
+  pub top : B (O .top)
+  pub enter : (f : F) → B f → B (fracOf (O .enter f))
+  pub succ : (i : ℕ) (z : Z) (f : F) → B f → B (fracOf (O .succ i z f))
+  pub lowered : (z y : Z) (f : F) → O .within z y ≡ true → B f → B (O .lowered z y f)
+
+-- waits add up
+pub record Clocks (A : System) : Type 0 where
+  pub none : (v : A .Val) → A .pass 0 v ≡ v
+  pub more : (t u : ℕ) (v : A .Val) → A .pass u (A .pass t v) ≡ A .pass (t + u) v
+
+module _ {Z F : Type 0} (A : System) (O : Zones Z F) (M : Meaning A Z F) where
+  -- every zone has a state of each run that it stands for
+  pub record OneSided : Type 0 where
+    pub enter-shape : (f g : F) (z : Z) → O .enter f ≡ zone z g → M .Shape z
+    pub succ-shape : (i : ℕ) (y z : Z) (f g : F) → i < A .edges → M .Shape y → O .succ i y f ≡ zone z g → M .Shape z
+    pub enter-in : (s e : ℕ) (f g : F) (z : Z) (t : ℕ) → O .enter f ≡ zone z g → M .Safe g s e
+        → A .inv s e (A .start) (A .origin) → A .inv s e (A .start) (A .pass t (A .origin)) → M .In z s e (A .pass t (A .origin))
+    pub enter-none : (s e : ℕ) (f g : F) → O .enter f ≡ empty g → M .Safe g s e → A .inv s e (A .start) (A .origin) → ⊥
+    pub succ-in : (s e i : ℕ) (y z : Z) (f g : F) (v : A .Val) (t : ℕ) → i < A .edges → M .Shape y → O .succ i y f ≡ zone z g → M .Safe g s e
+        → M .In y s e v → A .guard s e i v → A .inv s e (A .to i) (A .reset i v) → A .inv s e (A .to i) (A .pass t (A .reset i v))
+        → M .In z s e (A .pass t (A .reset i v))
+    pub succ-none : (s e i : ℕ) (y : Z) (f g : F) (v : A .Val) → i < A .edges → M .Shape y → O .succ i y f ≡ empty g → M .Safe g s e
+        → M .In y s e v → A .guard s e i v → A .inv s e (A .to i) (A .reset i v) → ⊥
+    pub within-in : (s e : ℕ) (z y : Z) (f : F) (v : A .Val) → M .Shape z → M .Shape y → O .within z y ≡ true → M .Safe (O .lowered z y f) s e
+        → M .In z s e v → M .In y s e v
+
+  -- a state of the first zone: the start and a wait
+  pub record FromStart (s e : ℕ) (v : A .Val) : Type 0 where
+    pub time : ℕ
+    pub begins : A .inv s e (A .start) (A .origin)
+    pub stays : A .inv s e (A .start) (A .pass time (A .origin))
+    pub same : A .pass time (A .origin) ≡ v
+
+  -- a state of a successor: a state of the zone, the jump, and a wait
+  pub record FromZone (s e i : ℕ) (y : Z) (v : A .Val) : Type 0 where
+    pub old : A .Val
+    pub time : ℕ
+    pub inside : M .In y s e old
+    pub may : A .guard s e i old
+    pub lands : A .inv s e (A .to i) (A .reset i old)
+    pub stays : A .inv s e (A .to i) (A .pass time (A .reset i old))
+    pub same : A .pass time (A .reset i old) ≡ v
+
+  -- every state of a zone is one of a run; at `s₀`, `e₀` each has a state (document 01: at 1 and 0)
+  pub record ExactLaws (s₀ e₀ : ℕ) : Type 0 where
+    pub enter-fit : (s e : ℕ) (f g : F) (z : Z) → O .enter f ≡ zone z g → M .Exact g s e → M .Fit z s e
+    pub succ-fit : (s e i : ℕ) (y z : Z) (f g : F) → i < A .edges → M .Shape y → M .Fit y s e → O .succ i y f ≡ zone z g
+        → M .Exact g s e → M .Fit z s e
+    pub enter-from : (s e : ℕ) (f g : F) (z : Z) (v : A .Val) → O .enter f ≡ zone z g → M .Exact g s e → M .In z s e v → FromStart s e v
+    pub succ-from : (s e i : ℕ) (y z : Z) (f g : F) (v : A .Val) → i < A .edges → M .Shape y → M .Fit y s e → O .succ i y f ≡ zone z g
+        → M .Exact g s e → M .In z s e v → FromZone s e i y v
+    pub point : (z : Z) → M .Shape z → M .Fit z s₀ e₀ → (v : A .Val) × M .In z s₀ e₀ v
+
+  pub record Laws (s₀ e₀ : ℕ) : Type 0 where
+    pub clocks : Clocks A
+    pub tighter : (f : F) (s e : ℕ) → M .Exact f s e → M .Safe f s e
+    pub safe : (s e : ℕ) → Falls O (λ f. M .Safe f s e)
+    pub exact : (s e : ℕ) → Falls O (λ f. M .Exact f s e)
+    pub fine : Stays O (λ f. M .Exact f s₀ e₀)
+    pub one-sided : OneSided
+    pub both : ExactLaws s₀ e₀

@@ -1,0 +1,6 @@
+-- The search of document 01 over any zones, what zones mean, the laws that its theorems rest on, and examples.
+pub mod Search
+pub mod Meaning
+pub mod Laws
+pub mod Examples
+pub mod Graphs

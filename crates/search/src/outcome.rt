@@ -1,0 +1,32 @@
+// The search as it stands, and why it stops.
+use zones::fraction::Fraction;
+ghost use mathlib.Core.Path.{_≡_};
+ghost use Rattle.search.specs.Outcomes.{outcomeOf, hasEnded};
+
+// A search that goes on, or has stopped: at the target, or by the number of a refusal. One that goes on when no zone is left to take holds.
+pub enum Outcome {
+    Going,
+    Reached,
+    Refused(u32),
+}
+
+// The number of kept zones, the running fraction, and the outcome so far.
+pub struct Turn {
+    pub count: usize,
+    pub fraction: Fraction,
+    pub outcome: Outcome,
+}
+
+impl Turn {
+    // Whether the search has stopped.
+    pub fn has_ended(self) -> bool
+        ensures { λ r. ⌜ r ≡ hasEnded (outcomeOf (self .outcome)) ⌝ }
+    {
+        let outcome = self.outcome;
+        match outcome {
+            Outcome::Going => false,
+            Outcome::Reached => true,
+            Outcome::Refused(k) => true,
+        }
+    }
+}

@@ -1,0 +1,1 @@
+-- What is proved of slots stands in the folder of their module, slot.

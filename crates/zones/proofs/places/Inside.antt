@@ -1,0 +1,103 @@
+-- The containment test and the largest error count, by places: what they show of every entry.
+-- Assumes nothing.
+use Prim.Native.Nat.{ℕ, zero, suc, _+_, _*_, _/_, _%_, _<_, _≤_}
+use mathlib.Core.Path.{_≡_, refl, sym, subst}
+use mathlib.Core.Bool.{Bool, true, false, cond}
+use mathlib.Core.List.{List}
+use borrow.Author.Tests.{ltb-true, ltb-false}
+use lib.Dec.{ltb}
+use native.Mathlib.Omega.{arith}
+use native.Mathlib.Decide.{ℕ-discrete}
+use native.Mathlib.Nat.{not-suc-le-zero}
+use Rattle.zones.specs.declared.fraction.Fraction.{Fraction}
+use Rattle.zones.specs.declared.pair.Pair.{Pair}
+use Rattle.zones.specs.Fractions.{loweredBy}
+use Rattle.zones.specs.Pairs.{isLess, thresholdOf}
+use Rattle.zones.specs.Zones.{pairAt}
+use Rattle.zones.specs.Containment.{placeOf, withinTo, within, loweredTo, larger, countTo, largestCount}
+use Rattle.zones.specs.Ranges.{Bounded, AllBounded, Fits32, lastCounts, widest}
+use Rattle.runs.specs.Limits.{scale}
+use Rattle.runs.proofs.Contradictions.{true-false}
+use Rattle.zones.proofs.pairs.Choices.{not-less-shows}
+use Rattle.zones.proofs.ranges.Ranges.{lowered-narrow, chosen-narrow, last-here}
+
+-- entry (a, b) stands at place a × 9 + b
+pub at-place : (P : Pair → Type 0) (z : List Pair) (n a b : ℕ) → n ≤ 9 → a < n → b < n → ((k : ℕ) → k < n * 9 → k % 9 < n → P (placeOf z k)) →
+    P (pairAt z a b)
+unfolding pairAt
+at-place P z n a b h ha hb f = let e : (a * 9 + b) % 9 ≡ b = omega arith in f (a * 9 + b) (omega arith) (omega arith)
+
+-- ---- the test, and the fraction where it holds
+module _ (n : ℕ) (z y : List Pair) where
+  -- a test that holds shows that no pair of y is smaller
+  next-shows : (k : ℕ) → (withinTo n k z y ≡ true → (m : ℕ) → m < k → m % 9 < n → isLess (placeOf y m) (placeOf z m) ≡ false) →
+      (s t : Bool) → ltb (k % 9) n ≡ s → isLess (placeOf y k) (placeOf z k) ≡ t → cond s (cond t false (withinTo n k z y)) (withinTo n k z y) ≡ true →
+      (m : ℕ) → m < suc k → m % 9 < n → Dec (m ≡ k) → isLess (placeOf y m) (placeOf z m) ≡ false
+  next-shows k ih true true e f g m hm c d = true-false (sym g)
+  next-shows k ih true false e f g m hm c (yes q) = rw q f
+  next-shows k ih true false e f g m hm c (no q) = ih g m (omega arith) c
+  next-shows k ih false t e f g m hm c (yes q) = absurd (omega (arith, ltb-false (k % 9) n e, rw q at c))
+  next-shows k ih false t e f g m hm c (no q) = ih g m (omega arith) c
+
+  pub within-shows : (k : ℕ) → withinTo n k z y ≡ true → (m : ℕ) → m < k → m % 9 < n → isLess (placeOf y m) (placeOf z m) ≡ false
+  unfolding withinTo
+  within-shows zero e m hm c = absurd (not-suc-le-zero hm)
+  within-shows (suc k) e m hm c =
+      next-shows k (within-shows k) (ltb (k % 9) n) (isLess (placeOf y k) (placeOf z k)) refl refl e m hm c (ℕ-discrete m k)
+
+  -- what each lowering keeps, they all keep
+  pub lowered-ind : (P : Fraction → Type 0) (f : Fraction) (K : ℕ) →
+      ((k : ℕ) (g : Fraction) → k < K → k % 9 < n → P g → P (loweredBy g (thresholdOf (placeOf z k) (placeOf y k)))) → P f → (k : ℕ) → k ≤ K →
+      P (loweredTo n k z y f)
+  unfolding loweredTo
+  lowered-ind P f K s p zero h = p
+  lowered-ind P f K s p (suc k) h = go (lowered-ind P f K s p k (omega arith)) (ltb (k % 9) n) refl
+    where
+      go : P (loweredTo n k z y f) → (t : Bool) → ltb (k % 9) n ≡ t →
+          P (cond t (loweredBy (loweredTo n k z y f) (thresholdOf (placeOf z k) (placeOf y k))) (loweredTo n k z y f))
+      go q true e = s k (loweredTo n k z y f) h (ltb-true (k % 9) n e) q
+      go q false e = q
+
+-- ---- the largest count
+module _ (n : ℕ) (z : List Pair) where
+  larger-le : (a b : ℕ) → (a ≤ larger a b) × (b ≤ larger a b)
+  unfolding larger
+  larger-le a b = go (ltb a b) refl
+    where
+      go : (t : Bool) → ltb a b ≡ t → (a ≤ cond t b a) × (b ≤ cond t b a)
+      go true e = omega (arith, ltb-true a b e)
+      go false e = omega (arith, ltb-false a b e)
+
+  next-count : (k : ℕ) (t : Bool) → ltb (k % 9) n ≡ t → ((m : ℕ) → m < k → m % 9 < n → placeOf z m .p ≤ countTo n k z) → (m : ℕ) →
+      m < suc k → m % 9 < n → Dec (m ≡ k) → placeOf z m .p ≤ cond t (larger (countTo n k z) (placeOf z k .p)) (countTo n k z)
+  next-count k true e ih m hm c (yes q) = rw q (larger-le (countTo n k z) (placeOf z k .p) .1)
+  next-count k true e ih m hm c (no q) = omega (arith, ih m (omega arith) c, larger-le (countTo n k z) (placeOf z k .p) .0)
+  next-count k false e ih m hm c (yes q) = absurd (omega (arith, ltb-false (k % 9) n e, rw q at c))
+  next-count k false e ih m hm c (no q) = ih m (omega arith) c
+
+  pub count-most : (k : ℕ) → (m : ℕ) → m < k → m % 9 < n → placeOf z m .p ≤ countTo n k z
+  unfolding countTo
+  count-most zero m hm c = absurd (not-suc-le-zero hm)
+  count-most (suc k) m hm c = next-count k (ltb (k % 9) n) refl (count-most k) m hm c (ℕ-discrete m k)
+
+  pub largest-most : n ≤ 9 → (a b : ℕ) → a < n → b < n → pairAt z a b .p ≤ largestCount n z
+  largest-most h a b ha hb = at-place (λ q. q .p ≤ largestCount n z) z n a b h ha hb (λ k hk c. count-most (n * 9) k hk c)
+
+-- ---- ranges: each threshold of a test that holds fits, and so does the fraction
+pub bounded-place : (C P n : ℕ) (z : List Pair) (k : ℕ) → AllBounded C P n z → k < n * 9 → k % 9 < n → Bounded C P (placeOf z k)
+unfolding pairAt
+bounded-place C P n z k b hk hc =
+    let e : k / 9 * 9 + k % 9 ≡ k = omega arith in
+    subst (λ (x : ℕ). Bounded C P (placeOf z x)) e (b (k / 9) (k % 9) (omega arith) hc)
+
+module _ (z y : List Pair) (n : ℕ) (new : AllBounded scale lastCounts n z) (old : AllBounded scale lastCounts n y) (h : within n z y ≡ true) where
+  threshold-fits : (k : ℕ) → k < n * 9 → k % 9 < n → Fits32 (thresholdOf (placeOf z k) (placeOf y k))
+  threshold-fits k hk hc =
+      let least = not-less-shows (placeOf z k) (placeOf y k) (within-shows n z y (n * 9) h k hk hc) .0 in
+      chosen-narrow widest widest scale lastCounts last-here (placeOf z k) (placeOf y k)
+      (bounded-place scale lastCounts n z k new hk hc) (bounded-place scale lastCounts n y k old hk hc) least
+
+  pub lowered-fits : (f : Fraction) → Fits32 f → (k : ℕ) → k ≤ n * 9 → Fits32 (loweredTo n k z y f)
+  lowered-fits f p k hk =
+      lowered-ind n z y Fits32 f (n * 9)
+      (λ k g hk hc q. lowered-narrow widest widest g (thresholdOf (placeOf z k) (placeOf y k)) q (threshold-fits k hk hc)) p k hk

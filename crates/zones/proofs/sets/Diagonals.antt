@@ -1,0 +1,95 @@
+-- The diagonal: an entry is (0, 0), or it has m below 0 and, below the running fraction, a value below 0.
+-- Assumes nothing.
+use Prim.Native.Nat.{ℕ, _<_, _≤_}
+use mathlib.Core.Path.{_≡_, refl, sym, ap, subst}
+use mathlib.Core.Bool.{Bool, true, false, cond}
+use mathlib.Core.Logic.{_⊎_, inl, inr, ⊎-elim}
+use borrow.Author.Tests.{ltb-true}
+use lib.Dec.{ltb}
+use lib.ListN.{length}
+use lib.IntN.{pos}
+use lib.Signed.{_≤ℤ_, _<ℤ_, ltZ}
+use native.Mathlib.Omega.{arith}
+use Rattle.zones.specs.declared.fraction.Fraction.{Fraction}
+use Rattle.zones.specs.declared.pair.Pair.{Pair}
+use Rattle.zones.specs.declared.zone.Work.{Work}
+use Rattle.zones.specs.Integers.{up, down}
+use Rattle.zones.proofs.pairs.Integers.{int, le-read, lt-read, ltZ-true}
+use Rattle.zones.specs.Pairs.{zeroPair, isLess, thresholdOf, smallerOf}
+use Rattle.zones.specs.Zones.{entry, lowerAt}
+use Rattle.zones.specs.Values.{valueOf, Below}
+use Rattle.zones.specs.Sets.{In, squareOf}
+use Rattle.runs.proofs.Contradictions.{true-false}
+use Rattle.zones.proofs.pairs.Choices.{less-shows, smaller-cases}
+use Rattle.zones.proofs.sets.Lowering.{lower-limits}
+use Rattle.zones.proofs.places.Places.{lower-place}
+use Rattle.zones.proofs.fractions.Thresholds.{zero-value, threshold-strict, smaller-sound}
+
+-- what is smaller than (0, 0) has m below 0
+less-zero : (q : Pair) → isLess q zeroPair ≡ true → q .m <ℤ pos 0
+unfolding isLess
+less-zero q e = go (ltZ (q .m) (pos 0)) (ltZ (pos 0) (q .m)) (ltb (q .p) 0) refl refl e
+  where
+    go : (a b c : Bool) → ltZ (q .m) (pos 0) ≡ a → ltb (q .p) 0 ≡ c → cond a true (cond b false c) ≡ true → q .m <ℤ pos 0
+    go true b c f g h = ltZ-true (q .m) (pos 0) f
+    go false true c f g h = true-false (sym h)
+    go false false true f g h = let z : ⊥ = omega (arith, ltb-true (q .p) 0 g) in absurd z
+    go false false false f g h = true-false (sym h)
+
+new-threshold : (d q : Pair) → isLess q d ≡ true → smallerOf d q .threshold ≡ thresholdOf q d
+unfolding smallerOf
+new-threshold d q e = rw e
+
+module _ (s e : ℕ) (s> : 0 < s) where
+  pub record Negative (f : Fraction) (q : Pair) : Type 0 where
+    pub m : q .m <ℤ pos 0
+    pub value : Below s e f → valueOf s e q <ℤ pos 0
+
+  abbrev pub Sign : Fraction → Pair → Type 0
+  Sign f q = (q ≡ zeroPair) ⊎ Negative f q
+
+  abbrev pub Signs : ℕ → Work → Type 0
+  Signs n w = (a : ℕ) → a < n → Sign (w .fraction) (entry w a a)
+
+  -- one comparison; f′ is the running fraction after it
+  sign-next : (f f′ : Fraction) (d q : Pair) → (Below s e f′ → Below s e f × Below s e (smallerOf d q .threshold)) → Sign f d →
+      Sign f′ (smallerOf d q .pair)
+  sign-next f f′ d q b (inl z) = smaller-cases d q (λ c. Sign f′ (c .pair)) (λ h. inr (new h)) (λ h. inl z)
+    where
+      new : isLess q d ≡ true → Negative f′ q
+      new h =
+          let m = less-zero q (subst (λ (x : Pair). isLess q x ≡ true) z h) in
+          record {
+            m = m;
+            value = λ t.
+                let k =
+                threshold-strict s e s> q zeroPair m
+                (subst (λ (x : Pair). Below s e (thresholdOf q x)) z (subst (Below s e) (new-threshold d q h) (b t .1))) in
+                let o = zero-value s e in
+                omega (arith, int);
+          }
+  sign-next f f′ d q b (inr g) = inr (record {
+    m = smaller-cases d q (λ c. c .pair .m <ℤ pos 0) (λ h. let k = less-shows q d h .0 in let l = g .m in omega (arith, int)) (λ h. g .m);
+    value = λ t. let x = smaller-sound s e d q (b t .1) .0 in let y = g .value (b t .0) in omega (arith, int);
+  })
+
+  pub lower-signs : (n : ℕ) → n ≤ 9 → (w : Work) (i j : ℕ) (q : Pair) → length (w .zone) ≡ 81 → i < n → j < n → Signs n w → Signs n (lowerAt i j q w)
+  lower-signs n n≤ w i j q size i< j< h a ha =
+      lower-place w i j q size (omega arith) (omega arith) (λ a b p. a ≡ b → Sign (lowerAt i j q w .fraction) p)
+      (λ g. sign-next (w .fraction) (lowerAt i j q w .fraction) (entry w i j) q (lower-limits s e s> w i j q)
+      (subst (λ (x : ℕ). Sign (w .fraction) (entry w i x)) g (h i i<)))
+      a a (omega arith) (λ g. ⊎-elim inl (λ k. inr (record { m = k .m; value = λ t. k .value (lower-limits s e s> w i j q t .0) })) (h a ha)) refl
+
+  -- a zone with a negative diagonal has no valuation below the running fraction
+  pub negative-none : (n : ℕ) (w : Work) (a : ℕ) → a < n → Signs n w → entry w a a .m <ℤ pos 0 → Below s e (w .fraction) → (v : ℕ → ℕ) →
+      In n (squareOf s e w) v → ⊥
+  negative-none n w a ha h m t v i = go (h a ha)
+    where
+      go : Sign (w .fraction) (entry w a a) → ⊥
+      go (inl z) = omega (arith, lt-read m, ap (λ (q : Pair). up (q .m)) z, ap (λ (q : Pair). down (q .m)) z)
+      go (inr k) = omega (arith, lt-read (k .value t), i .gaps a a ha ha)
+
+  -- a diagonal entry whose m is not below 0 is (0, 0)
+  pub sign-zero : (f : Fraction) (q : Pair) → Sign f q → pos 0 ≤ℤ q .m → q ≡ zeroPair
+  sign-zero f q (inl z) h = z
+  sign-zero f q (inr k) h = let z : ⊥ = omega (arith, lt-read (k .m), le-read h) in absurd z

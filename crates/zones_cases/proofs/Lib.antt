@@ -1,2 +1,0 @@
--- What is loaded can be worked on.
-pub mod Readying

@@ -1,2 +1,0 @@
--- What is loaded.
-pub mod Loading

@@ -1,0 +1,95 @@
+//! Answers in places of every length: as many numbers are written as are lent, those past the
+//! eighth stand, and a refusal or an automaton that is not filed writes none.
+
+use crate::calls::{Call, Lent};
+use crate::drawn::Dice;
+use crate::oracle::Cache;
+use crate::table::named;
+use crate::tally::Tally;
+use crate::unsound::record;
+
+const LENGTHS: [usize; 8] = [0, 1, 3, 4, 7, 8, 9, 20];
+const ROUNDS: usize = 8;
+
+/// Kind, n, d, zones, exact n, exact d, again and inside.
+type Numbers = [u64; 8];
+const A: Numbers = [1, 1, 1, 1, 0, 0, 0, 0];
+const B: Numbers = [0, 0, 0, 1, 0, 0, 0, 0];
+const D: Numbers = [1, 1, 0, 1, 0, 0, 0, 0];
+const FILED: Numbers = [1, 4_000_000_001, 4_294_967_291, 4_294_967_295, 0, 0, 0, 0];
+
+/// The call; the automaton; the numbers of the store; the free bytes of the cache, or none for one
+/// that is not sound; the reply; what is told, if anything.
+type Case = (
+    Call,
+    &'static str,
+    usize,
+    Option<usize>,
+    u32,
+    Option<Numbers>,
+);
+
+const CASES: [Case; 19] = [
+    (Call::Search, "A", 9, None, 0, Some(A)),
+    (Call::Search, "B", 9, None, 0, Some(B)),
+    (Call::Search, "D", 9, None, 0, Some(D)),
+    (Call::Search, "J", 9, None, 7, None),
+    (Call::Search, "A", 8, None, 10, None),
+    (Call::LookUp, "G", 0, Some(0), 0, Some(FILED)),
+    (Call::LookUp, "H", 0, Some(9), 0, Some(D)),
+    (Call::LookUp, "K", 0, Some(9), 0, Some(B)),
+    (Call::LookUp, "A", 0, Some(0), 0, None),
+    (Call::LookUp, "J", 0, Some(0), 7, None),
+    (Call::LookUp, "A", 0, None, 11, None),
+    (Call::Consult, "G", 0, Some(0), 0, Some(FILED)),
+    (Call::Consult, "A", 9, Some(55), 0, Some(A)),
+    (Call::Consult, "B", 9, Some(55), 0, Some(B)),
+    (Call::Consult, "D", 9, Some(44), 0, Some(D)),
+    (Call::Consult, "J", 9, Some(55), 7, None),
+    (Call::Consult, "A", 8, Some(55), 10, None),
+    (Call::Consult, "A", 9, None, 11, None),
+    (Call::Consult, "A", 9, Some(54), 12, None),
+];
+
+/// With a verdict that no search gives, to see that it is the filed one.
+fn cache(free: Option<usize>) -> Vec<u8> {
+    let records = vec![
+        record(&named("G"), 1, 4_000_000_001, 4_294_967_291, u32::MAX),
+        record(&named("K"), 0, 0, 0, 1),
+        record(&named("H"), 1, 1, 0, 1),
+    ];
+    let mut bytes = Cache { records }.bytes();
+    match free {
+        Some(free) => bytes.resize(bytes.len() + free, 0x5a),
+        None => bytes[4] = 2,
+    }
+    bytes
+}
+
+fn judge(tally: &mut Tally, dice: &mut Dice, length: usize, case: Case) {
+    let (call, name, store, free, reply, told) = case;
+    let before = Lent::new(dice, &cache(free), &named(name), store).answering(dice, length);
+    let what = format!("{name}, an answer of {length}, {reply}");
+    let after = tally.must(&what, call, &before, reply).lent;
+    let mut answer = before.answer.clone();
+    if let Some(numbers) = told {
+        let written = length.min(8);
+        answer[..written].copy_from_slice(&numbers[..written]);
+    }
+    let filed = match (call, reply) {
+        (Call::LookUp, 0) => u64::from(told.is_some()),
+        _ => before.filed,
+    };
+    tally.check((after.filed, &after.answer) == (filed, &answer), || {
+        format!("{what}, {call:?}: {} and {:?}", after.filed, after.answer)
+    });
+}
+
+pub fn lengths(tally: &mut Tally) {
+    let mut dice = Dice::new(141);
+    for length in LENGTHS.repeat(ROUNDS) {
+        for case in CASES {
+            judge(tally, &mut dice, length, case);
+        }
+    }
+}
