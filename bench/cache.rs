@@ -9,13 +9,15 @@ mod filed;
 #[path = "../tests/library.rs"]
 mod library;
 mod literal;
+mod ordered;
 mod plain;
 mod times;
 
 use draws::Draws;
-use families::{any, family, small, Shape, Shared, LARGEST, MEMBERS, SMALLEST};
+use families::{any, family, small, Shape, Shared, FEW, LARGEST, MEMBERS, SMALLEST};
 use filed::record;
 use literal::{gcd, Verdict};
+use ordered::arranged;
 use times::{best, nanoseconds, opaque};
 
 const SEED: u64 = 340;
@@ -26,6 +28,8 @@ const FREE: usize = 100;
 // What free bytes and store have before, to see that the rest of them stands.
 const UNTOUCHED: u8 = 0xA5;
 const UNUSED: i32 = -7;
+// The longest form.
+const LONGEST: usize = 21_259;
 // Document 01's card A, whose search is short. Limits that are drawn are larger, so it is in no
 // cache.
 const ABSENT: &[u8] = include_bytes!("../examples/A.card");
@@ -83,25 +87,34 @@ fn of_small(records: usize) -> Cache {
 }
 
 // ---- the two sides
-type LookUp = fn(&[u8], &[u8]) -> Result<Option<Verdict>, u32>;
-type Consult = fn(&mut [u8], &[u8], &mut [i32]) -> Result<Verdict, u32>;
+type LookUp = fn(&[u8], &[u8], &mut [u8]) -> Result<Option<Verdict>, u32>;
+type Consult = fn(&mut [u8], &[u8], &mut [u8], &mut [i32]) -> Result<Verdict, u32>;
+
+// Ours, Rust's, and Rust's without a list of the records.
+const LOOKUPS: [LookUp; 3] = [library::look_up, filed::look_up, filed::look_up_walking];
+
+// What a lookup replies and leaves.
+fn found(look_up: LookUp, bytes: &[u8], automaton: &[u8]) -> impl PartialEq {
+    let mut form = vec![UNTOUCHED; LONGEST];
+    (look_up(bytes, automaton, &mut form), form)
+}
 
 // What consulting replies and leaves.
 fn left(consult: Consult, bytes: &[u8], automaton: &[u8]) -> impl PartialEq {
     let (mut cache, mut store) = (bytes.to_vec(), vec![UNUSED; STORE]);
-    let reply = consult(&mut cache, automaton, &mut store);
-    (reply, cache, store)
+    let mut form = vec![UNTOUCHED; LONGEST];
+    let reply = consult(&mut cache, automaton, &mut form, &mut store);
+    (reply, cache, form, store)
 }
 
 fn agree(bytes: &[u8], automaton: &[u8]) {
     assert_eq!(library::sound(bytes), filed::sound(bytes), "soundness");
-    let found = library::look_up(bytes, automaton);
-    assert_eq!(found, filed::look_up(bytes, automaton), "lookup");
-    let walking = filed::look_up_walking(bytes, automaton);
-    assert_eq!(found, walking, "lookup without a list");
+    let [ours, rust, walking] = LOOKUPS.map(|side| found(side, bytes, automaton));
+    assert!(ours == rust, "reply or form of a lookup");
+    assert!(ours == walking, "reply or form of a lookup without a list");
     let ours = left(library::consult, bytes, automaton);
     let rust = left(filed::consult, bytes, automaton);
-    assert!(ours == rust, "reply, cache or store of consulting");
+    assert!(ours == rust, "reply, cache, form or store of consulting");
 }
 
 // Every beginning, and every byte changed in some ways.
@@ -119,18 +132,18 @@ fn edits(bytes: &[u8]) -> Vec<Vec<u8>> {
     edits
 }
 
-// They agree also on caches and automata that are turned down, and on two records that become the
-// same.
+// They agree also on caches and automata that are turned down, on two records that become the same,
+// and on edges that come out of order.
 fn agree_on_edits() {
     let draws = &mut Draws(SEED);
-    let automata = family(draws, &SMALLEST, Shared::Beginnings);
-    for records in [0, 3] {
+    for (shape, records) in [(SMALLEST, 0), (SMALLEST, 3), (FEW, 3)] {
+        let automata = family(draws, &shape, Shared::Beginnings);
         let Cache { bytes, .. } = cache(draws, automata[..records].to_vec());
         for edit in edits(&bytes) {
             agree(&edit, &automata[0]);
             agree(&edit, ABSENT);
         }
-        for edit in edits(ABSENT) {
+        for edit in [edits(ABSENT), edits(&automata[0])].concat() {
             agree(&bytes, &edit);
             agree(&[], &edit);
         }
@@ -142,12 +155,11 @@ fn microseconds<T>(f: impl FnOnce() -> T) -> f64 {
     nanoseconds(f) / 1e3
 }
 
-// Ours, Rust's, and Rust's without a list of the records.
 fn looked_up(times: u32, bytes: &[u8], automaton: &[u8]) -> [f64; 3] {
-    const SIDES: [LookUp; 3] = [library::look_up, filed::look_up, filed::look_up_walking];
     agree(bytes, automaton);
+    let mut form = vec![UNTOUCHED; LONGEST];
     best(times, |i| {
-        microseconds(|| SIDES[i](opaque(bytes), opaque(automaton)))
+        microseconds(|| LOOKUPS[i](opaque(bytes), opaque(automaton), &mut form))
     })
 }
 
@@ -155,9 +167,10 @@ fn consulted(times: u32, bytes: &[u8], automaton: &[u8]) -> [f64; 2] {
     const SIDES: [Consult; 2] = [library::consult, filed::consult];
     agree(bytes, automaton);
     let (mut cache, mut store) = (bytes.to_vec(), vec![UNUSED; STORE]);
+    let mut form = vec![UNTOUCHED; LONGEST];
     best(times, |i| {
         cache.copy_from_slice(bytes);
-        microseconds(|| SIDES[i](opaque(&mut cache), opaque(automaton), &mut store))
+        microseconds(|| SIDES[i](opaque(&mut cache), opaque(automaton), &mut form, &mut store))
     })
 }
 
@@ -184,6 +197,12 @@ fn ask(alike: &str, shared: Shared) {
     ];
     for (asked, at) in hits {
         let [ours, rust] = consulted(40, &bytes, &automata[at]);
+        line(asked, ours, rust);
+    }
+    let largest = &automata[MEMBERS];
+    let drawn = arranged(largest, |edges| Draws(SEED).shuffle(edges));
+    for (asked, automaton) in [("hit, largest", largest), ("hit, drawn", &drawn)] {
+        let [ours, rust] = consulted(40, &bytes, automaton);
         line(asked, ours, rust);
     }
     let [ours, rust, _] = looked_up(40, &bytes, ABSENT);

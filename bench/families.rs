@@ -1,7 +1,12 @@
 // The automata of a cache: families of one automaton each, whose members differ in one number or
-// two.
+// two. All are canonical forms.
+
+// Each program takes some of them.
+#![allow(dead_code)]
+
 use crate::draft::{Draft, Edge, Limit, NO_UPPER};
 use crate::draws::Draws;
+use crate::ordered::form;
 
 pub const MEMBERS: usize = 10;
 const SCALE: u32 = 1_000_000;
@@ -14,6 +19,13 @@ pub struct Shape {
     pub edges: u16,
 }
 
+impl Shape {
+    fn length(&self) -> usize {
+        let [clocks, locations] = [self.clocks, self.locations].map(usize::from);
+        11 + 8 * clocks * locations + self.edges as usize * (3 + 8 * clocks)
+    }
+}
+
 // 19 bytes, and 21,259.
 pub const SMALLEST: Shape = Shape {
     clocks: 1,
@@ -24,6 +36,12 @@ pub const LARGEST: Shape = Shape {
     clocks: 8,
     locations: 64,
     edges: 256,
+};
+
+pub const FEW: Shape = Shape {
+    clocks: 1,
+    locations: 2,
+    edges: 3,
 };
 
 // Of any size, the small more often.
@@ -54,13 +72,14 @@ pub enum Shared {
 }
 
 pub fn family(draws: &mut Draws, shape: &Shape, shared: Shared) -> Vec<Vec<u8>> {
-    let automaton = drawn(draws, shape);
+    let automaton = form(&drawn(draws, shape));
+    assert_eq!(automaton.len(), shape.length(), "no edge is drawn twice");
     let mut members = vec![];
     for number in 0..MEMBERS as u32 {
         let at = place(draws, shape, shared);
         let mut member = automaton.clone();
         member[at..at + 4].copy_from_slice(&number.to_be_bytes());
-        members.push(member);
+        members.push(form(&member));
     }
     members
 }
@@ -81,7 +100,8 @@ fn place(draws: &mut Draws, s: &Shape, shared: Shared) -> usize {
     11 + limits * s.locations as usize + edge * (3 + limits) + 3 + lo
 }
 
-fn drawn(draws: &mut Draws, s: &Shape) -> Vec<u8> {
+// Its edges in any order.
+pub fn drawn(draws: &mut Draws, s: &Shape) -> Vec<u8> {
     let draft = Draft {
         start: 0,
         target: s.locations - 1,

@@ -1,6 +1,7 @@
-// Document 01's shelf in plain Rust, step for step: at each asking whether the cache is sound, then
-// the lookup, then the search and its record.
+// Document 01's shelf in plain Rust, step for step: at each asking the automaton's canonical form,
+// then whether the cache is sound, then the lookup, then the search and its record.
 use crate::literal::{gcd, slot_length, Search, Verdict};
+use crate::ordered;
 
 const HEADER: usize = 5;
 const HEAD: usize = 17;
@@ -90,7 +91,7 @@ fn is_sound(record: &[u8]) -> bool {
         [1, n, d, _] => 0 < n && gcd(n, d) == 1,
         _ => false,
     };
-    terms && refusal(&record[HEAD..]) == 0
+    terms && refusal(&record[HEAD..]) == 0 && ordered::rises(&record[HEAD..])
 }
 
 // How to find that no automaton stands twice: each is compared with all later ones, listed first or
@@ -133,51 +134,65 @@ pub fn sound(cache: &[u8]) -> u32 {
     records(cache, listed).map_or(11, |_| 0)
 }
 
-fn find(cache: &[u8], automaton: &[u8], distinct: Distinct) -> Result<Option<Verdict>, u32> {
+// The length of the canonical form that was written, or a refusal.
+pub fn canonical(automaton: &[u8], form: &mut [u8]) -> Result<usize, u32> {
     match refusal(automaton) {
-        0 => {}
-        number => return Err(number),
+        0 => ordered::write(automaton, form).ok_or(13),
+        number => Err(number),
     }
+}
+
+fn find(cache: &[u8], form: &[u8], distinct: Distinct) -> Result<Option<Verdict>, u32> {
     let mut records = records(cache, distinct).ok_or(11u32)?;
-    Ok(records.find(|r| r[HEAD..] == *automaton).map(verdict))
+    Ok(records.find(|r| r[HEAD..] == *form).map(verdict))
 }
 
 // The verdict filed, or none, or a refusal.
-pub fn look_up(cache: &[u8], automaton: &[u8]) -> Result<Option<Verdict>, u32> {
-    find(cache, automaton, listed)
+pub fn look_up(cache: &[u8], automaton: &[u8], form: &mut [u8]) -> Result<Option<Verdict>, u32> {
+    let length = canonical(automaton, form)?;
+    find(cache, &form[..length], listed)
 }
 
 // The same without a list of the records.
-pub fn look_up_walking(cache: &[u8], automaton: &[u8]) -> Result<Option<Verdict>, u32> {
-    find(cache, automaton, walked)
+pub fn look_up_walking(
+    cache: &[u8],
+    automaton: &[u8],
+    form: &mut [u8],
+) -> Result<Option<Verdict>, u32> {
+    let length = canonical(automaton, form)?;
+    find(cache, &form[..length], walked)
 }
 
-pub fn consult(cache: &mut [u8], automaton: &[u8], store: &mut [i32]) -> Result<Verdict, u32> {
-    if let Some(verdict) = look_up(cache, automaton)? {
+pub fn consult(
+    cache: &mut [u8],
+    automaton: &[u8],
+    form: &mut [u8],
+    store: &mut [i32],
+) -> Result<Verdict, u32> {
+    let length = canonical(automaton, form)?;
+    let form = &form[..length];
+    if let Some(verdict) = find(cache, form, listed)? {
         return Ok(verdict);
     }
     let used = number(cache, 0) as usize;
-    let end = used + HEAD + automaton.len();
+    let end = used + HEAD + length;
     if cache.len() < end || LONGEST < end {
         return Err(12);
     }
-    let search = Search::of(
-        automaton,
-        (store.len() / slot_length(automaton)).min(MOST_SLOTS),
-    );
+    let search = Search::of(form, (store.len() / slot_length(form)).min(MOST_SLOTS));
     search.store(store);
     let verdict = search.answer()?;
-    cache[used..end].copy_from_slice(&record(verdict, automaton));
+    cache[used..end].copy_from_slice(&record(verdict, form));
     cache[..4].copy_from_slice(&(end as u32).to_be_bytes());
     Ok(verdict)
 }
 
-pub fn record([kind, n, d, zones]: Verdict, automaton: &[u8]) -> Vec<u8> {
-    let mut record = ((HEAD + automaton.len()) as u32).to_be_bytes().to_vec();
+pub fn record([kind, n, d, zones]: Verdict, form: &[u8]) -> Vec<u8> {
+    let mut record = ((HEAD + form.len()) as u32).to_be_bytes().to_vec();
     record.push(kind as u8);
     [n, d, zones]
         .iter()
         .for_each(|x| record.extend((*x as u32).to_be_bytes()));
-    record.extend(automaton);
+    record.extend(form);
     record
 }

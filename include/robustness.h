@@ -3,13 +3,19 @@
  * An automaton is a string of bytes, document 01's card; a cache is one, document 01's shelf (docs/FORMAT.md). Any bytes may be
  * passed, and none need checking before. Each pointer comes with a length:
  *   automaton_len, cache_len   bytes
+ *   form_len                   bytes, for the automaton's canonical form: automaton_len are always enough, and ROBUSTNESS_LONGEST
  *   store_len                  numbers of 32 bits, of which a slot takes ROBUSTNESS_SLOT(clocks) for each zone kept
  *   answer_len                 numbers of 64 bits, of which an answer has ROBUSTNESS_ANSWER; it may be smaller or larger, and 0 too
  * A pointer must be valid for its length, what may be written must overlap nothing else that is passed, and a pointer must not be
  * null, even where its length is 0.
  *
- * Each function gives back 0, or the number of a refusal. A refusal changes neither answer nor filed nor the cache, and of the store
- * only 9 and 10 leave a changed one, with the zones kept so far. */
+ * The canonical form of an automaton is the same automaton with its edges in one order: they rise by their bytes, of which the first
+ * that differs decides, and each stands once. Automata that differ only in order and repeats of edges have the same form, and its
+ * runs are theirs. A cache files forms, and its verdict is the form's; a search takes an automaton as drawn.
+ *
+ * Each function gives back 0, or the number of a refusal. A refusal changes neither answer nor filed nor length nor the cache. Of the
+ * store only 9 and 10 leave a changed one, with the zones kept so far. With 1 to 8 and 13 the form's buffer is as it was; with 0 and
+ * any other refusal the form stands in it, and the bytes past the form are as they were. */
 #ifndef ROBUSTNESS_H
 #define ROBUSTNESS_H
 
@@ -34,8 +40,9 @@ enum robustness_reply {
     ROBUSTNESS_PILED_UP = 9,      /* a zone to be kept has an error count above 65,535 */
     ROBUSTNESS_STORE_FULL = 10,   /* a zone to be kept has no slot left in the store: lend a larger one */
     ROBUSTNESS_BAD_CACHE = 11,    /* the cache is not sound */
-    ROBUSTNESS_CACHE_FULL = 12    /* the cache has no room: lend it with more bytes behind those that are used, at least
-                                     ROBUSTNESS_RECORD(automaton_len). Or its used length would need more than four bytes */
+    ROBUSTNESS_CACHE_FULL = 12,   /* the cache has no room: lend it with more bytes behind those that are used, at least
+                                     ROBUSTNESS_RECORD of the form's length. Or its used length would need more than four bytes */
+    ROBUSTNESS_FORM_SHORT = 13    /* form_len is less than the form has bytes, repeats dropped: lend a larger buffer */
 };
 
 /* The numbers of an answer, by their place. As many are written as are lent; any behind the eighth are left alone. */
@@ -56,35 +63,41 @@ enum robustness_kind { ROBUSTNESS_REACHED = 0, ROBUSTNESS_HOLDS = 1 };
 
 /* The numbers of a slot of the store, for an automaton of 1 to 8 clocks: 1 + 2(n + 1)^2. */
 #define ROBUSTNESS_SLOT(clocks) (1 + 2 * ((size_t)(clocks) + 1) * ((size_t)(clocks) + 1))
-/* The bytes of a cache: its header, which alone is an empty cache, and a record for each automaton. The first four say, the highest
- * byte first, how many are used. */
+/* The bytes of a cache: its header, which alone is an empty cache, and a record for each form, of a length that is at most
+ * automaton_len. The first four say, the highest byte first, how many are used. */
 #define ROBUSTNESS_HEADER ((size_t)5)
-#define ROBUSTNESS_RECORD(automaton_len) (17 + (size_t)(automaton_len))
+#define ROBUSTNESS_RECORD(length) (17 + (size_t)(length))
 /* The bytes of the longest automaton. */
 #define ROBUSTNESS_LONGEST ((size_t)21259)
 
 /* Done, or the smallest of 1 to 8 that applies. */
 uint32_t robustness_refusal(const uint8_t *automaton, size_t automaton_len);
 
-/* The search's answer. The kept zones stand in the store, and behind them what was there. Refuses with 1 to 10. */
+/* Writes the canonical form; *length becomes its length. Writing the form's own form changes nothing. Refuses with 1 to 8 and 13. */
+uint32_t robustness_canonical(const uint8_t *automaton, size_t automaton_len, uint8_t *form, size_t form_len,
+                              uint64_t *length);
+
+/* The search's answer. The kept zones stand in the store, and behind them what was there. Edges are taken in the automaton's own
+ * order, so that another order may give another fraction; both are true. Refuses with 1 to 10. */
 uint32_t robustness_search(const uint8_t *automaton, size_t automaton_len, int32_t *store, size_t store_len,
                            uint64_t *answer, size_t answer_len);
 
 /* Makes the cache empty. Refuses with 12 where fewer than ROBUSTNESS_HEADER bytes are lent. */
 uint32_t robustness_make_empty(uint8_t *cache, size_t cache_len);
 
-/* Done where the cache is sound, else 11. */
+/* Done where the cache is sound, else 11. An automaton in it that is not its own form makes it unsound. */
 uint32_t robustness_sound(const uint8_t *cache, size_t cache_len);
 
-/* What is filed of an automaton: *filed becomes 1, with the answer, or 0, and then the answer is as it was. Refuses with 1 to 8 and
- * 11. */
+/* What is filed of an automaton, which is its form's: *filed becomes 1, with the answer, or 0, and then the answer is as it was.
+ * Refuses with 1 to 8, then with 13; then the form is written; then with 11. */
 uint32_t robustness_look_up(const uint8_t *cache, size_t cache_len, const uint8_t *automaton, size_t automaton_len,
-                            uint64_t *filed, uint64_t *answer, size_t answer_len);
+                            uint8_t *form, size_t form_len, uint64_t *filed, uint64_t *answer, size_t answer_len);
 
-/* The filed answer, for which no store is needed, or the search's, which is filed: its record is written behind those that are
- * there. Refuses with 1 to 12. */
-uint32_t robustness_consult(uint8_t *cache, size_t cache_len, const uint8_t *automaton, size_t automaton_len,
-                            int32_t *store, size_t store_len, uint64_t *answer, size_t answer_len);
+/* The answer filed of the form, for which no store is needed, or that of the form's search, which is filed: the form's record is
+ * written behind those that are there. Refuses with 1 to 8, then with 13; then the form is written; then with 11; where nothing is
+ * filed with 12, then as the search does with 9 and 10. */
+uint32_t robustness_consult(uint8_t *cache, size_t cache_len, const uint8_t *automaton, size_t automaton_len, uint8_t *form,
+                            size_t form_len, int32_t *store, size_t store_len, uint64_t *answer, size_t answer_len);
 
 #ifdef __cplusplus
 }

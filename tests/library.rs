@@ -12,6 +12,13 @@ pub type Verdict = [u64; 4];
 #[link(name = "exports", kind = "static")]
 extern "C" {
     pub fn robustness_refusal(automaton: *const u8, automaton_len: usize) -> u32;
+    pub fn robustness_canonical(
+        automaton: *const u8,
+        automaton_len: usize,
+        form: *mut u8,
+        form_len: usize,
+        length: *mut u64,
+    ) -> u32;
     pub fn robustness_search(
         automaton: *const u8,
         automaton_len: usize,
@@ -27,6 +34,8 @@ extern "C" {
         cache_len: usize,
         automaton: *const u8,
         automaton_len: usize,
+        form: *mut u8,
+        form_len: usize,
         filed: *mut u64,
         answer: *mut u64,
         answer_len: usize,
@@ -36,6 +45,8 @@ extern "C" {
         cache_len: usize,
         automaton: *const u8,
         automaton_len: usize,
+        form: *mut u8,
+        form_len: usize,
         store: *mut i32,
         store_len: usize,
         answer: *mut u64,
@@ -58,6 +69,23 @@ fn verdict(number: u32, answer: [u64; LENT]) -> Result<Verdict, u32> {
     Ok([kind, n, d, zones])
 }
 
+pub fn refusal(automaton: &[u8]) -> u32 {
+    unsafe { robustness_refusal(automaton.as_ptr(), automaton.len()) }
+}
+
+/// The length of the form that was written, or a refusal.
+pub fn canonical(automaton: &[u8], form: &mut [u8]) -> Result<usize, u32> {
+    let mut length = BEFORE;
+    let (a, a_len) = (automaton.as_ptr(), automaton.len());
+    let (f, f_len) = (form.as_mut_ptr(), form.len());
+    let number = unsafe { robustness_canonical(a, a_len, f, f_len, &mut length) };
+    if number > 0 {
+        assert_eq!(length, BEFORE, "{number} leaves the length");
+        return Err(number);
+    }
+    Ok(usize::try_from(length).expect("a length"))
+}
+
 pub fn search(automaton: &[u8], store: &mut [i32]) -> Result<Verdict, u32> {
     let mut answer = [BEFORE; LENT];
     let (a, a_len) = (automaton.as_ptr(), automaton.len());
@@ -75,12 +103,13 @@ pub fn sound(cache: &[u8]) -> u32 {
 }
 
 /// The verdict filed, or none, or a refusal.
-pub fn look_up(cache: &[u8], automaton: &[u8]) -> Result<Option<Verdict>, u32> {
+pub fn look_up(cache: &[u8], automaton: &[u8], form: &mut [u8]) -> Result<Option<Verdict>, u32> {
     let (mut filed, mut answer) = (BEFORE, [BEFORE; LENT]);
     let (c, c_len) = (cache.as_ptr(), cache.len());
     let (a, a_len) = (automaton.as_ptr(), automaton.len());
-    let number =
-        unsafe { robustness_look_up(c, c_len, a, a_len, &mut filed, answer.as_mut_ptr(), LENT) };
+    let (f, f_len) = (form.as_mut_ptr(), form.len());
+    let t = answer.as_mut_ptr();
+    let number = unsafe { robustness_look_up(c, c_len, a, a_len, f, f_len, &mut filed, t, LENT) };
     if (number, filed) == (0, 0) {
         assert_eq!(answer, [BEFORE; LENT], "no verdict, so none is written");
         return Ok(None);
@@ -90,12 +119,18 @@ pub fn look_up(cache: &[u8], automaton: &[u8]) -> Result<Option<Verdict>, u32> {
     verdict(number, answer).map(Some)
 }
 
-pub fn consult(cache: &mut [u8], automaton: &[u8], store: &mut [i32]) -> Result<Verdict, u32> {
+pub fn consult(
+    cache: &mut [u8],
+    automaton: &[u8],
+    form: &mut [u8],
+    store: &mut [i32],
+) -> Result<Verdict, u32> {
     let mut answer = [BEFORE; LENT];
     let (c, c_len) = (cache.as_mut_ptr(), cache.len());
     let (a, a_len) = (automaton.as_ptr(), automaton.len());
+    let (f, f_len) = (form.as_mut_ptr(), form.len());
     let (s, s_len) = (store.as_mut_ptr(), store.len());
-    let number =
-        unsafe { robustness_consult(c, c_len, a, a_len, s, s_len, answer.as_mut_ptr(), LENT) };
+    let t = answer.as_mut_ptr();
+    let number = unsafe { robustness_consult(c, c_len, a, a_len, f, f_len, s, s_len, t, LENT) };
     verdict(number, answer)
 }

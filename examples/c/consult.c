@@ -1,7 +1,10 @@
 /* consult CACHE NUMBERS FILE..: an office's everyday loop. Reads the cache (document 01's shelf) in the file CACHE, an empty one if
  * there is none, and consults it for the automaton (document 01's card) in each FILE, lending a store of so many NUMBERS. Prints a
  * line for each, and on standard error each growth of the cache. Then writes the cache to a new file and renames that over CACHE,
- * so that whoever reads it finds the old or the new one whole. One such program at a time may write a cache. */
+ * so that whoever reads it finds the old or the new one whole. One such program at a time may write a cache.
+ *
+ * Offices may draw the edges of one automaton in different orders, some of them twice: the cache files its canonical form, so they
+ * meet one record. north.card and south.card beside this file are such a pair. */
 #define _POSIX_C_SOURCE 200809L
 #include <errno.h>
 #include <inttypes.h>
@@ -47,31 +50,37 @@ static int read_file(const char *name, struct bytes *bytes)
     return fclose(file) != 0 || failed ? -1 : 0;
 }
 
+/* The first four bytes say how many are used of a cache, and how many a form has. */
+static size_t said(const uint8_t *bytes)
+{
+    return (size_t)bytes[0] << 24 | (size_t)bytes[1] << 16 | (size_t)bytes[2] << 8 | bytes[3];
+}
+
 /* Of a cache what is used is written, so that it has no room to spare when it is read again. */
 static void write_cache(const struct bytes *cache, const char *name)
 {
-    const uint8_t *c = cache->start;
-    size_t used = (size_t)c[0] << 24 | (size_t)c[1] << 16 | (size_t)c[2] << 8 | c[3];
+    size_t used = said(cache->start);
     char *fresh = malloc(strlen(name) + sizeof ".new");
     if (fresh == NULL)
         fail("malloc");
     FILE *file = fopen(strcat(strcpy(fresh, name), ".new"), "wb");
-    if (file == NULL || fwrite(c, 1, used, file) != used || fflush(file) != 0 || fsync(fileno(file)) != 0 || fclose(file) != 0
-        || rename(fresh, name) != 0)
+    if (file == NULL || fwrite(cache->start, 1, used, file) != used || fflush(file) != 0 || fsync(fileno(file)) != 0
+        || fclose(file) != 0 || rename(fresh, name) != 0)
         fail(fresh);
 }
 
-/* After 12 it is tried once more, with room for one record more. */
+/* After 12 it is tried once more, with room for one record more: that of the form, which stands in its buffer. */
 static void consult(struct bytes *cache, const char *name, const struct bytes *automaton, int32_t *store, size_t store_len)
 {
+    static uint8_t form[ROBUSTNESS_LONGEST];
     uint64_t answer[ROBUSTNESS_ANSWER];
-    uint32_t reply = robustness_consult(cache->start, cache->length, automaton->start, automaton->length, store, store_len,
-                                        answer, ROBUSTNESS_ANSWER);
+    uint32_t reply = robustness_consult(cache->start, cache->length, automaton->start, automaton->length, form, sizeof form,
+                                        store, store_len, answer, ROBUSTNESS_ANSWER);
     if (reply == ROBUSTNESS_CACHE_FULL) {
-        resize(cache, cache->length + ROBUSTNESS_RECORD(automaton->length));
+        resize(cache, cache->length + ROBUSTNESS_RECORD(said(form)));
         fprintf(stderr, "%s: the cache grows to %zu bytes\n", name, cache->length);
-        reply = robustness_consult(cache->start, cache->length, automaton->start, automaton->length, store, store_len,
-                                   answer, ROBUSTNESS_ANSWER);
+        reply = robustness_consult(cache->start, cache->length, automaton->start, automaton->length, form, sizeof form,
+                                   store, store_len, answer, ROBUSTNESS_ANSWER);
     }
     if (reply != ROBUSTNESS_DONE)
         printf("%s: refused %" PRIu32 "\n", name, reply);

@@ -2,6 +2,7 @@
 
 use crate::draft::{Draft, Edge, Limit};
 use crate::drawn::{self, Dice, Lean, Size};
+use crate::forms;
 use crate::oracle;
 use crate::table::{self, named, with_byte};
 use std::collections::BTreeSet;
@@ -78,7 +79,7 @@ pub fn small(dice: &mut Dice, count: usize) -> Vec<Vec<u8>> {
         let size = Size {
             clocks: dice.range(1, 2),
             locations: dice.range(1, 2),
-            edges: dice.range(0, 2),
+            edges: dice.range(0, 3),
         };
         let lean = some_lean(dice);
         all.push(drawn::drawn(dice, lean, &size).bytes());
@@ -87,20 +88,78 @@ pub fn small(dice: &mut Dice, count: usize) -> Vec<Vec<u8>> {
     all
 }
 
-/// Edges that are all alike, and one more with limits of its own.
-pub fn long(clocks: usize, edges: usize, last: Limit) -> Draft {
-    let edge = |limit: Limit| Edge {
-        from: 0,
-        to: 1,
-        reset: 1,
-        guard: vec![limit; clocks],
+/// Their canonical forms, each once.
+pub fn forms(automata: &[Vec<u8>]) -> Vec<Vec<u8>> {
+    unique(automata.iter().map(|a| forms::form(a)).collect())
+}
+
+/// The same but for order and repeats of edges: each stands at least once.
+pub fn shuffled(dice: &mut Dice, automaton: &[u8]) -> Vec<u8> {
+    let form = forms::form(automaton);
+    let (head, mut edges) = forms::parts(&form);
+    let different = edges.len();
+    let repeats = if different > 0 {
+        dice.below(8).min(256 - different)
+    } else {
+        0
     };
-    let mut edges = vec![edge((3, 600)); edges];
-    edges.push(edge(last));
+    for _ in 0..repeats {
+        edges.push(edges[dice.below(different)]);
+    }
+    for end in (1..edges.len()).rev() {
+        edges.swap(end, dice.below(end + 1));
+    }
+    forms::joined(head, &edges)
+}
+
+/// A form whose edges differ in their first lo, so that they rise, and the last also in its other
+/// limits.
+pub fn long(clocks: usize, edges: usize, last: Limit) -> Draft {
+    let edge = |lo: usize, limit: Limit| {
+        let mut guard = vec![limit; clocks];
+        guard[0].0 = lo as u32;
+        Edge {
+            from: 0,
+            to: 1,
+            reset: 0,
+            guard,
+        }
+    };
+    let mut all: Vec<Edge> = (0..edges).map(|lo| edge(lo, (3, 600))).collect();
+    all.push(edge(edges, last));
     Draft {
         start: 0,
         target: 2,
         invariants: vec![vec![(0, 700); clocks]; 3],
-        edges,
+        edges: all,
     }
+}
+
+/// A form whose edges differ in one byte alone, which rises from 0: the from, the to, the resets,
+/// or the last byte of a limit.
+pub fn rising(clocks: usize, edges: usize, place: usize) -> Vec<u8> {
+    let locations = if place < 2 { 64 } else { 2 };
+    let draft = Draft {
+        start: 0,
+        target: locations - 1,
+        invariants: vec![vec![(0, 700); clocks]; usize::from(locations)],
+        edges: Vec::new(),
+    };
+    let mut all = vec![0; edges * (3 + 8 * clocks)];
+    let mut each: Vec<&mut [u8]> = all.chunks_mut(3 + 8 * clocks).collect();
+    for (number, edge) in each.iter_mut().enumerate() {
+        edge[place] = number as u8;
+    }
+    let each: Vec<&[u8]> = each.into_iter().map(|edge| &*edge).collect();
+    forms::joined(&draft.bytes(), &each)
+}
+
+/// The longest form: document 01's largest automaton with edges that all differ.
+pub fn longest() -> Vec<u8> {
+    let mut largest = named("largest");
+    let first_edge = forms::parts(&largest).0.len();
+    for (hi, edge) in largest[first_edge..].chunks_mut(67).skip(63).enumerate() {
+        edge[7..11].copy_from_slice(&(hi as u32).to_be_bytes());
+    }
+    forms::form(&largest)
 }

@@ -2,15 +2,17 @@
 //! by the second cache.
 
 use crate::drawn::Dice;
+use crate::forms;
 use crate::library::{
-    robustness_consult, robustness_look_up, robustness_make_empty, robustness_refusal,
-    robustness_search, robustness_sound,
+    robustness_canonical, robustness_consult, robustness_look_up, robustness_make_empty,
+    robustness_refusal, robustness_search, robustness_sound,
 };
 use crate::oracle::{self, Verdict};
 
 #[derive(Clone, Copy, PartialEq, Eq, Debug)]
 pub enum Call {
     Refusal,
+    Canonical,
     Search,
     MakeEmpty,
     Sound,
@@ -23,6 +25,8 @@ pub enum Call {
 pub struct Lent {
     pub cache: Vec<u8>,
     pub automaton: Vec<u8>,
+    pub form: Vec<u8>,
+    pub length: u64,
     pub store: Vec<i32>,
     pub filed: u64,
     pub answer: Vec<u64>,
@@ -36,25 +40,49 @@ fn random_number(dice: &mut Dice) -> u64 {
     u64::from(dice.range(1, u32::MAX)) << dice.range(0, 32)
 }
 
+/// The bytes of the canonical form, unless the automaton is turned down.
+pub fn form_length(automaton: &[u8]) -> Option<usize> {
+    let accepted = oracle::refusal(automaton).is_ok();
+    accepted.then(|| forms::form(automaton).len())
+}
+
 impl Lent {
-    /// With random contents of the store and of the numbers, to see which of them stand. The answer
-    /// has room for a verdict, and often for more or less than its eight numbers.
+    /// With random contents of the store, the form and the numbers, to see which of them stand. The
+    /// answer has room for a verdict, and often for more or less than its eight numbers; the form's
+    /// buffer has all the bytes that it needs, and often no more.
     pub fn new(dice: &mut Dice, cache: &[u8], automaton: &[u8], store: usize) -> Lent {
         let lent = Lent {
             cache: cache.to_vec(),
             automaton: automaton.to_vec(),
+            form: Vec::new(),
+            length: random_number(dice),
             store: (0..store).map(|_| dice.range(1, u32::MAX) as i32).collect(),
             filed: random_number(dice),
             answer: Vec::new(),
         };
-        let length = dice.pick(&[4, 7, 8, 8, 9, 20]);
-        lent.answering(dice, length)
+        let all = automaton.len();
+        let room = form_length(automaton).map_or([0, 1, all], |form| [form, all, all + 20]);
+        let (length, room) = (dice.pick(&[4, 7, 8, 8, 9, 20]), dice.pick(&room));
+        lent.answering(dice, length).forming(dice, room)
+    }
+
+    /// With a buffer of another length for the form.
+    pub fn forming(mut self, dice: &mut Dice, length: usize) -> Lent {
+        self.form = random_bytes(dice, length);
+        self
     }
 
     /// With an answer of another length.
     pub fn answering(mut self, dice: &mut Dice, length: usize) -> Lent {
         self.answer = (0..length).map(|_| random_number(dice)).collect();
         self
+    }
+
+    /// Whether the automaton's form was written, and the bytes past it are as they were before.
+    pub fn formed(&self, before: &Lent) -> bool {
+        let form = forms::form(&before.automaton);
+        let past = before.form.get(form.len()..);
+        self.form.starts_with(&form) && self.form.get(form.len()..) == past
     }
 
     /// The first four numbers of an answer that has them.
@@ -75,6 +103,8 @@ impl Lent {
 /// Where all of it stands. The pointers may reach past the parts, where guards are.
 pub struct Places {
     pub automaton: *const u8,
+    pub form: *mut u8,
+    pub length: *mut u64,
     pub cache: *mut u8,
     pub store: *mut i32,
     pub filed: *mut u64,
@@ -85,17 +115,23 @@ impl Places {
     /// The library's reply. What stands at the places must be as long as what is to be lent.
     pub fn call(&self, call: Call, lent: &Lent) -> u32 {
         let (a, a_len) = (self.automaton, lent.automaton.len());
+        let (f, f_len) = (self.form, lent.form.len());
         let (c, c_len) = (self.cache, lent.cache.len());
         let (s, s_len) = (self.store, lent.store.len());
         let (t, t_len) = (self.answer, lent.answer.len());
         unsafe {
             match call {
                 Call::Refusal => robustness_refusal(a, a_len),
+                Call::Canonical => robustness_canonical(a, a_len, f, f_len, self.length),
                 Call::Search => robustness_search(a, a_len, s, s_len, t, t_len),
                 Call::MakeEmpty => robustness_make_empty(c, c_len),
                 Call::Sound => robustness_sound(c, c_len),
-                Call::LookUp => robustness_look_up(c, c_len, a, a_len, self.filed, t, t_len),
-                Call::Consult => robustness_consult(c, c_len, a, a_len, s, s_len, t, t_len),
+                Call::LookUp => {
+                    robustness_look_up(c, c_len, a, a_len, f, f_len, self.filed, t, t_len)
+                }
+                Call::Consult => {
+                    robustness_consult(c, c_len, a, a_len, f, f_len, s, s_len, t, t_len)
+                }
             }
         }
     }
@@ -137,12 +173,16 @@ impl<T: Copy + PartialEq + From<u8>> Guarded<T> {
 /// The library's reply, with what it leaves in place of what was lent. None if it wrote past that.
 pub fn proved(call: Call, lent: &mut Lent) -> Option<u32> {
     let mut automaton = Guarded::new(&lent.automaton);
+    let mut form = Guarded::new(&lent.form);
+    let mut length = Guarded::new(&[lent.length]);
     let mut cache = Guarded::new(&lent.cache);
     let mut store = Guarded::new(&lent.store);
     let mut filed = Guarded::new(&[lent.filed]);
     let mut answer = Guarded::new(&lent.answer);
     let places = Places {
         automaton: automaton.start(),
+        form: form.start(),
+        length: length.start(),
         cache: cache.start(),
         store: store.start(),
         filed: filed.start(),
@@ -150,6 +190,8 @@ pub fn proved(call: Call, lent: &mut Lent) -> Option<u32> {
     };
     let reply = places.call(call, lent);
     lent.automaton = automaton.part()?;
+    lent.form = form.part()?;
+    lent.length = length.part()?[0];
     lent.cache = cache.part()?;
     lent.store = store.part()?;
     lent.filed = filed.part()?[0];
@@ -157,21 +199,30 @@ pub fn proved(call: Call, lent: &mut Lent) -> Option<u32> {
     Some(reply)
 }
 
-/// The reply that document 01 asks for, with what it leaves in place of what was lent.
+/// The reply that documents 01 and 02 ask for, with what it leaves in place of what was lent.
 pub fn expected(call: Call, lent: &mut Lent) -> u32 {
+    let Lent {
+        cache,
+        automaton,
+        form,
+        store,
+        ..
+    } = lent;
     let done = match call {
-        Call::Refusal => oracle::refusal(&lent.automaton),
-        Call::Search => {
-            oracle::searched(&lent.automaton, &mut lent.store).map(|verdict| lent.tell(verdict))
+        Call::Refusal => oracle::refusal(automaton),
+        Call::Canonical => {
+            oracle::canonical(automaton, form).map(|form| lent.length = form.len() as u64)
         }
-        Call::MakeEmpty => oracle::make_empty(&mut lent.cache),
-        Call::Sound => oracle::sound(&lent.cache),
-        Call::LookUp => oracle::look_up(&lent.cache, &lent.automaton).map(|found| {
+        Call::Search => oracle::searched(automaton, store).map(|verdict| lent.tell(verdict)),
+        Call::MakeEmpty => oracle::make_empty(cache),
+        Call::Sound => oracle::sound(cache),
+        Call::LookUp => oracle::look_up(cache, automaton, form).map(|found| {
             lent.filed = u64::from(found.is_some());
             found.into_iter().for_each(|verdict| lent.tell(verdict));
         }),
-        Call::Consult => oracle::consult(&mut lent.cache, &lent.automaton, &mut lent.store)
-            .map(|verdict| lent.tell(verdict)),
+        Call::Consult => {
+            oracle::consult(cache, automaton, form, store).map(|verdict| lent.tell(verdict))
+        }
     };
     done.err().unwrap_or(0)
 }

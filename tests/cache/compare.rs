@@ -1,6 +1,7 @@
 //! Holds the proved library's cache, document 01's shelf, to a second one: every reply, every byte
-//! of the cache, every number of the store, and what lies around them. A used length that needs
-//! more than four bytes is left out, since it takes 4 GiB. The last line is 'N passed, M failed'.
+//! of the cache and of the form's buffer, every number of the store, and what lies around them. A
+//! used length that needs more than four bytes is left out, since it takes 4 GiB. The last line is
+//! 'N passed, M failed'.
 
 mod automata;
 mod calls;
@@ -10,6 +11,8 @@ mod checks;
 mod draft;
 #[path = "../search/drawn.rs"]
 mod drawn;
+#[path = "../forms.rs"]
+mod forms;
 mod grown;
 #[path = "../lengths.rs"]
 mod lengths;
@@ -30,12 +33,39 @@ mod tally;
 mod told;
 mod unsound;
 
+use calls::Call;
 use std::process::ExitCode;
 use tally::Tally;
 
+/// Every label that the comparison has to meet.
+fn labels() -> Vec<String> {
+    let mut labels: Vec<String> = vec!["LookUp not there".into()];
+    for verdict in ["reached", "n/d", "any error", "in part"] {
+        for call in ["Search", "LookUp", "Consult filed", "Consult searched"] {
+            labels.push(format!("{} {}", call, verdict));
+        }
+    }
+    for change in ["as drawn", "sorted", "without repeats"] {
+        labels.push(format!("Canonical {}", change));
+    }
+    let numbers: [(Call, &[u32]); 7] = [
+        (Call::Refusal, &[0, 1, 2, 3, 4, 5, 6, 7, 8]),
+        (Call::Canonical, &[1, 2, 3, 4, 5, 6, 7, 8, 13]),
+        (Call::Search, &[1, 2, 3, 4, 5, 6, 7, 8, 9, 10]),
+        (Call::MakeEmpty, &[0, 12]),
+        (Call::Sound, &[0, 11]),
+        (Call::LookUp, &[1, 2, 3, 4, 5, 6, 7, 8, 11, 13]),
+        (Call::Consult, &[1, 2, 3, 4, 5, 6, 7, 8, 9, 10, 11, 12, 13]),
+    ];
+    for (call, replies) in numbers {
+        labels.extend(replies.iter().map(|reply| format!("{:?} {}", call, reply)));
+    }
+    labels
+}
+
 fn main() -> ExitCode {
     let mut tally = Tally::default();
-    let parts: [fn(&mut Tally); 12] = [
+    let parts: [fn(&mut Tally); 13] = [
         order::layout,
         order::empty,
         order::room,
@@ -43,6 +73,7 @@ fn main() -> ExitCode {
         order::order,
         told::lengths,
         unsound::singly,
+        unsound::out_of_order,
         unsound::cut,
         unsound::every_byte,
         grown::shared_beginnings,
@@ -59,5 +90,5 @@ fn main() -> ExitCode {
             part(&mut tally, round);
         }
     }
-    tally.sum_up()
+    tally.sum_up(labels())
 }

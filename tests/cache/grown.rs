@@ -1,11 +1,12 @@
 //! Caches grown from empty by nothing but consulting.
 
 use crate::automata;
-use crate::calls::{random_bytes, Call, Lent};
+use crate::calls::{form_length, random_bytes, Call, Lent};
 use crate::draft::Draft;
 use crate::drawn::Dice;
+use crate::forms;
 use crate::lengths::{slot, used};
-use crate::oracle::Cache;
+use crate::oracle::{self, Cache};
 use crate::rings;
 use crate::table::named;
 use crate::tally::Tally;
@@ -14,7 +15,7 @@ use std::collections::BTreeMap;
 
 struct Grown {
     cache: Vec<u8>,
-    /// What the first answer for an automaton was: kind, n, d, zones.
+    /// What the first answer for a form was: kind, n, d, zones.
     filed: BTreeMap<Vec<u8>, [u64; 4]>,
 }
 
@@ -28,25 +29,31 @@ impl Grown {
         }
     }
 
-    /// Beside the comparison, what document 01 says of any consulting, without a second cache.
+    /// Beside the comparison, what documents 01 and 02 say of any consulting, without a second
+    /// cache.
     fn consult(&mut self, tally: &mut Tally, what: &str, before: &Lent) {
         let left = tally.call(what, Call::Consult, before);
         let after = left.lent;
-        let automaton = &before.automaton;
+        let accepted = oracle::refusal(&before.automaton).is_ok();
+        let form = accepted.then(|| forms::form(&before.automaton));
+        let filed = form.as_ref().and_then(|form| self.filed.get(form));
         let same_cache = after.cache == before.cache;
-        let lawful = match (left.reply, self.filed.get(automaton)) {
-            (0, Some(verdict)) => {
-                *verdict == after.verdict() && same_cache && after.store == before.store
-            }
-            (0, None) => used(&after.cache) == used(&before.cache) + 17 + automaton.len(),
-            (9, filed) | (10, filed) => same_cache && filed.is_none(),
-            (_, filed) => same_cache && after.store == before.store && filed.is_none(),
+        let same = same_cache && after.store == before.store;
+        let lawful = match (left.reply, &form, filed) {
+            (0, Some(_), Some(verdict)) => *verdict == after.verdict() && same,
+            (0, Some(form), None) => used(&after.cache) == used(&before.cache) + 17 + form.len(),
+            (9 | 10, Some(_), None) => same_cache,
+            (11 | 12, Some(_), None) => same,
+            (13, Some(form), _) => before.form.len() < form.len() && after == *before,
+            (1..=8, None, None) => after == *before,
+            _ => false,
         };
-        tally.check(lawful, || {
-            format!("{}: reply {} against 01", what, left.reply)
+        let written = matches!(left.reply, 1..=8 | 13) || after.formed(before);
+        tally.check(lawful && written, || {
+            format!("{}: reply {} against 01 and 02", what, left.reply)
         });
-        if left.reply == 0 {
-            self.filed.insert(automaton.clone(), after.verdict());
+        if let (0, Some(form)) = (left.reply, form) {
+            self.filed.insert(form, after.verdict());
         }
         self.cache = after.cache;
     }
@@ -54,11 +61,28 @@ impl Grown {
     fn look_up(&self, tally: &mut Tally, dice: &mut Dice, what: &str, automaton: &[u8]) {
         let before = Lent::new(dice, &self.cache, automaton, 0);
         let after = tally.must(what, Call::LookUp, &before, 0).lent;
-        let filed = self.filed.get(automaton);
+        let filed = self.filed.get(&forms::form(automaton));
         let found = filed.map_or(after.filed == 0, |verdict| {
             after.filed == 1 && *verdict == after.verdict()
         });
         tally.check(found, || format!("{}: not what was filed", what));
+    }
+}
+
+/// Shuffled half of the time, and now and then with a buffer that may be too short for the form.
+fn asked(dice: &mut Dice, cache: &[u8], automaton: &[u8], store: usize) -> Lent {
+    let form = form_length(automaton);
+    let automaton = match form {
+        Some(_) if dice.chance(50) => automata::shuffled(dice, automaton),
+        _ => automaton.to_vec(),
+    };
+    let lent = Lent::new(dice, cache, &automaton, store);
+    match form {
+        Some(length) if dice.chance(5) => {
+            let length = length - dice.below(2);
+            lent.forming(dice, length)
+        }
+        _ => lent,
     }
 }
 
@@ -78,7 +102,7 @@ pub fn large(tally: &mut Tally, round: u64) {
             dice.one(&automata)
         };
         let store = dice.pick(&STORES);
-        let before = Lent::new(&mut dice, &grown.cache, automaton, store);
+        let before = asked(&mut dice, &grown.cache, automaton, store);
         grown.consult(tally, &what, &before);
         tally.call(&what, Call::Refusal, &before);
         if turn % 20 == 0 {
@@ -92,11 +116,11 @@ pub fn large(tally: &mut Tally, round: u64) {
     every_store(tally, &mut dice, &grown);
 }
 
-/// The filed verdict is the search's at every store that lets the search finish, and no smaller
-/// store does.
+/// The filed verdict is the search's of the form at every store that lets the search finish, and no
+/// smaller store does.
 fn every_store(tally: &mut Tally, dice: &mut Dice, grown: &Grown) {
     for (turn, (automaton, verdict)) in grown.filed.iter().enumerate() {
-        let what = format!("filed automaton {} with a store of its own", turn);
+        let what = format!("filed form {} with a store of its own", turn);
         let exact = verdict[3] as usize * slot(automaton);
         for store in [exact, exact + 1, exact + 50 * slot(automaton)] {
             let before = Lent::new(dice, &grown.cache, automaton, store);
@@ -132,20 +156,20 @@ pub fn narrow(tally: &mut Tally, round: u64) {
             let what = format!("{}, turn {}", title, turn);
             let automaton = dice.one(&automata);
             let store = dice.pick(&STORES[..7]);
-            let before = Lent::new(&mut dice, &grown.cache, automaton, store);
+            let before = asked(&mut dice, &grown.cache, automaton, store);
             grown.consult(tally, &what, &before);
             grown.look_up(tally, &mut dice, &what, automaton);
         }
     }
 }
 
-/// Automata that are alike up to the last byte, or but for one of the first fields.
+/// Forms that are alike up to the last byte, or but for one of the first fields.
 fn alike(clocks: usize) -> Vec<Vec<u8>> {
     let full = || automata::long(clocks, 255, (3, 500));
     let changes: [fn(&mut Draft); 8] = [
         |_| (),
         |d| d.edges[255].guard.last_mut().expect("a clock").1 = 501,
-        |d| d.edges[255].reset = 0,
+        |d| d.edges[255].reset = 1,
         |d| d.edges[255].to = 2,
         |d| d.edges[254].to = 2,
         |d| d.start = 1,
@@ -161,7 +185,7 @@ fn alike(clocks: usize) -> Vec<Vec<u8>> {
         change(&mut draft);
         all.push(draft.bytes());
     }
-    all
+    automata::forms(&all)
 }
 
 /// Only automata that differ late, or early and at equal length, tell a whole comparison from one
@@ -200,7 +224,8 @@ pub fn large_counts(tally: &mut Tally) {
     grown.consult(tally, "9, before it", &filed);
     let before = Lent::new(&mut dice, &grown.cache, &automaton, 65_535 * 19 + 1);
     tally.must("9", Call::Search, &before, 9);
-    tally.must("9", Call::Consult, &before, 9);
+    let after = tally.must("9", Call::Consult, &before, 9).lent;
+    tally.check(after.formed(&before), || "9: the form".into());
     let before = Lent::new(&mut dice, &grown.cache[..60], &automaton, 65_535 * 19);
     tally.must("9 without room", Call::Consult, &before, 12);
 }
@@ -208,20 +233,20 @@ pub fn large_counts(tally: &mut Tally) {
 /// A used length that comes to need its first byte, once written and once read.
 pub fn past_three_bytes(tally: &mut Tally) {
     let mut dice = Dice::new(141);
-    let largest = named("largest");
+    let longest = automata::longest();
     let turned = |turn: usize| {
-        let mut automaton = largest.clone();
+        let mut automaton = longest.clone();
         automaton[16..18].copy_from_slice(&(turn as u16).to_be_bytes());
         automaton
     };
-    let count = (1 << 24) / (17 + largest.len());
+    let count = (1 << 24) / (17 + longest.len());
     let records = (0..count).map(|turn| record(&turned(turn), 0, 0, 0, 63));
     let cache = Cache {
         records: records.collect(),
     };
     let mut lent = cache.bytes();
     lent.resize((1 << 24) + 30_000, 7);
-    let before = Lent::new(&mut dice, &lent, &turned(count), 63 * slot(&largest));
+    let before = Lent::new(&mut dice, &lent, &turned(count), 63 * slot(&longest));
     let left = tally
         .must("past three bytes", Call::Consult, &before, 0)
         .lent;

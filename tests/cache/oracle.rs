@@ -1,11 +1,14 @@
-//! A second cache, document 01's shelf, written from that document alone, to hold the proved one
-//! against. It copies every record out; to file a verdict it writes the whole used part anew.
+//! A second cache, document 01's shelf with document 02's one order of edges, written from these
+//! documents alone, to hold the proved one against. It copies every record out; to file a verdict
+//! it writes the whole used part anew.
 
+use crate::forms;
 use crate::search::{self, Outcome};
 use std::collections::BTreeSet;
 
 const BAD: u32 = 11;
 const FULL: u32 = 12;
+const SHORT: u32 = 13;
 const VERSION: u8 = 1;
 const HEADER: usize = 5;
 
@@ -128,12 +131,12 @@ impl Cache {
     fn lawful(&self) -> bool {
         let automata: BTreeSet<&[u8]> = self.records.iter().map(|r| &r.automaton[..]).collect();
         automata.len() == self.records.len()
-            && automata.iter().all(|a| refusal(a).is_ok())
+            && automata.iter().all(|a| is_canonical(a))
             && self.records.iter().all(|r| r.verdict.lawful())
     }
 
-    fn filed(&self, automaton: &[u8]) -> Option<Verdict> {
-        let record = self.records.iter().find(|r| r.automaton == automaton)?;
+    fn filed(&self, form: &[u8]) -> Option<Verdict> {
+        let record = self.records.iter().find(|r| r.automaton == form)?;
         Some(record.verdict)
     }
 
@@ -159,6 +162,20 @@ pub fn refusal(automaton: &[u8]) -> Result<(), u32> {
     }
 }
 
+/// Free of 1 to 8, and its own canonical form.
+fn is_canonical(automaton: &[u8]) -> bool {
+    refusal(automaton).is_ok() && forms::form(automaton) == automaton
+}
+
+/// Writes the canonical form into the lent buffer, and gives it back.
+pub fn canonical(automaton: &[u8], lent: &mut [u8]) -> Result<Vec<u8>, u32> {
+    refusal(automaton)?;
+    let form = forms::form(automaton);
+    let place = lent.get_mut(..form.len()).ok_or(SHORT)?;
+    place.copy_from_slice(&form);
+    Ok(form)
+}
+
 pub fn searched(automaton: &[u8], store: &mut [i32]) -> Result<Verdict, u32> {
     Verdict::of(search::search(automaton, store))
 }
@@ -173,25 +190,32 @@ pub fn sound(lent: &[u8]) -> Result<(), u32> {
     Cache::read(lent).map(|_| ()).ok_or(BAD)
 }
 
-pub fn look_up(lent: &[u8], automaton: &[u8]) -> Result<Option<Verdict>, u32> {
-    refusal(automaton)?;
-    Ok(Cache::read(lent).ok_or(BAD)?.filed(automaton))
+pub fn look_up(lent: &[u8], automaton: &[u8], form: &mut [u8]) -> Result<Option<Verdict>, u32> {
+    let form = canonical(automaton, form)?;
+    Ok(Cache::read(lent).ok_or(BAD)?.filed(&form))
 }
 
-pub fn consult(lent: &mut [u8], automaton: &[u8], store: &mut [i32]) -> Result<Verdict, u32> {
-    if let Some(verdict) = look_up(lent, automaton)? {
+/// From the form on, nothing asks for the automaton as it was drawn.
+pub fn consult(
+    lent: &mut [u8],
+    automaton: &[u8],
+    form: &mut [u8],
+    store: &mut [i32],
+) -> Result<Verdict, u32> {
+    let form = canonical(automaton, form)?;
+    let mut cache = Cache::read(lent).ok_or(BAD)?;
+    if let Some(verdict) = cache.filed(&form) {
         return Ok(verdict);
     }
-    let mut cache = Cache::read(lent).ok_or(BAD)?;
-    let length = cache.length() + 17 + automaton.len();
+    let length = cache.length() + 17 + form.len();
     // Lengths past four bytes are not run: such a cache would take 4 GiB.
     if length > lent.len() || u32::try_from(length).is_err() {
         return Err(FULL);
     }
-    let verdict = searched(automaton, store)?;
+    let verdict = searched(&form, store)?;
     cache.records.push(Record {
         verdict,
-        automaton: automaton.to_vec(),
+        automaton: form,
     });
     lent[..length].copy_from_slice(&cache.bytes());
     Ok(verdict)

@@ -1,8 +1,9 @@
 //! Room, the making of an empty cache, and which refusal comes before which.
 
 use crate::automata;
-use crate::calls::{random_bytes, Call, Lent};
+use crate::calls::{form_length, random_bytes, Call, Lent};
 use crate::drawn::Dice;
+use crate::forms;
 use crate::lengths::slot;
 use crate::oracle::{Cache, Verdict};
 use crate::table::{named, with_byte};
@@ -75,7 +76,7 @@ pub fn room(tally: &mut Tally) {
     let automata = [("A", 1), ("B", 1), ("D", 1), ("E", 0), ("largest", 63)];
     for (cache, (name, zones)) in caches.iter().flat_map(|c| automata.map(|a| (c, a))) {
         let automaton = named(name);
-        let (used, need) = (cache.bytes(), 17 + automaton.len());
+        let (used, need) = (cache.bytes(), 17 + forms::form(&automaton).len());
         let exact = zones * slot(&automaton);
         let stores = [0, exact.saturating_sub(1), exact];
         let frees = (0..30).chain(need - 20..need + 3);
@@ -90,11 +91,11 @@ pub fn room(tally: &mut Tally) {
             };
             let left = tally.must(&what, Call::Consult, &before, reply);
             let right = match reply {
-                12 => left.lent == before,
+                12 => left.lent.cache == before.cache && left.lent.store == before.store,
                 10 => left.lent.cache == before.cache,
                 _ => left.lent.cache != before.cache,
             };
-            tally.check(right, || what.clone());
+            tally.check(right && left.lent.formed(&before), || what.clone());
         }
     }
 }
@@ -111,8 +112,9 @@ pub fn full(tally: &mut Tally) {
             let after = tally.must(&what, Call::Consult, &before, 0).lent;
             let Verdict { kind, n, d, zones } = record.verdict;
             let filed = [u32::from(kind), n, d, zones].map(u64::from);
-            let stands = after.cache == before.cache && after.store == before.store;
-            tally.check(stands && after.verdict() == filed, || what.clone());
+            let same = after.cache == before.cache && after.store == before.store;
+            let right = same && after.verdict() == filed && after.formed(&before);
+            tally.check(right, || what.clone());
         }
     }
 }
@@ -160,7 +162,12 @@ fn all_asked() -> Vec<Asked> {
         .map(|(number, a)| asked(number, false, a));
     let filed = ["G", "K", "H"].map(|name| asked(0, true, named(name)));
     let others = ["A", "B", "D"].map(|name| asked(0, false, named(name)));
-    refused.chain(filed).chain(others).collect()
+    // The same in another order, and with a repeat.
+    let k = named("K");
+    let (head, edges) = forms::parts(&k);
+    let drawn = [[2, 0, 1, 2], [1, 1, 2, 0]].map(|order| order.map(|i| edges[i]));
+    let drawn = drawn.map(|edges| asked(0, true, forms::joined(head, &edges)));
+    refused.chain(filed).chain(others).chain(drawn).collect()
 }
 
 /// The first number that isn't 0, in the order given.
@@ -172,33 +179,67 @@ fn first(numbers: &[u32]) -> u32 {
         .unwrap_or(0)
 }
 
-/// Of several reasons to refuse the first in the order of document 01 counts: 1 to 8; 11; what is
-/// filed needs no more; 12; then the search. Those that aren't filed keep one zone of one clock.
+/// Lent with a buffer that has a byte too few for the form, or none where there is no form.
+fn shortened(dice: &mut Dice, lent: Lent) -> Lent {
+    let length = form_length(&lent.automaton).unwrap_or(0);
+    lent.forming(dice, length.saturating_sub(1))
+}
+
+/// A cache with its number, the numbers of the store, and whether the form's buffer is too short.
+type Setting<'a> = (&'a (u32, Vec<u8>), usize, bool);
+
+/// Of several reasons to refuse the first in the order of documents 01 and 02 counts: 1 to 8; 13;
+/// then the form is written and stands; 11; what is filed needs no more; 12; then the search. Those
+/// that aren't filed keep one zone of one clock.
+fn judge(tally: &mut Tally, dice: &mut Dice, asked: &Asked, setting: Setting) {
+    let ((bad, cache), store, is_short) = setting;
+    let what = format!(
+        "{} with {}, store {}, short {}",
+        asked.number, bad, store, is_short
+    );
+    let mut before = Lent::new(dice, cache, &asked.automaton, store);
+    if is_short {
+        before = shortened(dice, before);
+    }
+    let (unsound, full) = if *bad == 11 { (11, 0) } else { (0, *bad) };
+    let (short, small) = (
+        if is_short { 13 } else { 0 },
+        if store < 9 { 10 } else { 0 },
+    );
+    let written = first(&[asked.number, short]);
+    let looked = first(&[written, unsound]);
+    let consulted = if asked.filed {
+        looked
+    } else {
+        first(&[looked, full, small])
+    };
+    tally.must(&what, Call::Refusal, &before, asked.number);
+    tally.must(&what, Call::Sound, &before, unsound);
+    tally.call(&what, Call::Search, &before);
+    let forming = [
+        (Call::Canonical, written),
+        (Call::LookUp, looked),
+        (Call::Consult, consulted),
+    ];
+    for (call, reply) in forming {
+        let after = tally.must(&what, call, &before, reply).lent;
+        let right = match written {
+            0 => after.formed(&before),
+            _ => after == before,
+        };
+        tally.check(right, || format!("{}, {:?}: the form", what, call));
+    }
+}
+
 pub fn order(tally: &mut Tally) {
     let mut dice = Dice::new(131);
     let caches = caches(&mut dice);
-    let stores = [0, 8, 9];
-    let pairs = caches
-        .iter()
-        .flat_map(|cache| stores.map(|store| (cache, store)));
-    let pairs: Vec<_> = pairs.collect();
+    let stores = [0, 8, 9].map(|store| [(store, false), (store, true)]);
     for asked in all_asked() {
-        for &((bad, cache), store) in &pairs {
-            let what = format!("{} with {}, store {}", asked.number, bad, store);
-            let before = Lent::new(&mut dice, cache, &asked.automaton, store);
-            let (unsound, full) = if *bad == 11 { (11, 0) } else { (0, *bad) };
-            let small = if store < 9 { 10 } else { 0 };
-            let looked = first(&[asked.number, unsound]);
-            let consulted = if asked.filed {
-                looked
-            } else {
-                first(&[looked, full, small])
-            };
-            tally.must(&what, Call::Refusal, &before, asked.number);
-            tally.must(&what, Call::Sound, &before, unsound);
-            tally.must(&what, Call::LookUp, &before, looked);
-            tally.must(&what, Call::Consult, &before, consulted);
-            tally.call(&what, Call::Search, &before);
+        for cache in &caches {
+            for (store, is_short) in stores.concat() {
+                judge(tally, &mut dice, &asked, (cache, store, is_short));
+            }
         }
     }
 }

@@ -5,7 +5,7 @@ use crate::calls::{random_bytes, Call, Lent};
 use crate::drawn::Dice;
 use crate::oracle::{self, Cache, Record, Verdict};
 use crate::tally::Tally;
-use crate::unsound::{put, VERDICTS};
+use crate::unsound::{disorders, put, VERDICTS};
 
 const TURNS: usize = 9_000;
 
@@ -19,10 +19,10 @@ fn verdict(dice: &mut Dice, lawful: bool) -> Verdict {
 }
 
 /// A sound cache of a few records.
-fn sound(dice: &mut Dice, automata: &[Vec<u8>]) -> Cache {
-    let first = dice.below(automata.len() - 5);
+fn sound(dice: &mut Dice, forms: &[Vec<u8>]) -> Cache {
+    let first = dice.below(forms.len() - 5);
     let count = dice.range(0, 5) as usize;
-    let some = &automata[first..first + count];
+    let some = &forms[first..first + count];
     let records = some.iter().map(|automaton| Record {
         verdict: verdict(dice, true),
         automaton: automaton.clone(),
@@ -40,7 +40,7 @@ fn spoil_records(dice: &mut Dice, cache: &mut Cache) {
     }
     let (k, other) = (dice.below(count), dice.below(count));
     let automaton = &mut cache.records[k].automaton;
-    match dice.range(0, 5) {
+    match dice.range(0, 6) {
         0 => cache.records.swap(k, other),
         1 => cache.records[k].verdict = verdict(dice, false),
         2 => cache.records.insert(other, cache.records[k].clone()),
@@ -49,6 +49,10 @@ fn spoil_records(dice: &mut Dice, cache: &mut Cache) {
         4 if !automaton.is_empty() => {
             let at = dice.below(automaton.len());
             automaton[at] = dice.pick(&[0, 1, 2, 3, 9, 255]);
+        }
+        // Nor need it have left edges.
+        5 if oracle::refusal(automaton).is_ok() && automaton[10] > 0 => {
+            *automaton = dice.one(&disorders(automaton)).clone();
         }
         _ => {
             automaton.truncate(dice.range(0, 30) as usize);
@@ -75,8 +79,8 @@ fn spoil_bytes(dice: &mut Dice, bytes: &mut Vec<u8>, used: usize) {
     }
 }
 
-fn damaged(dice: &mut Dice, automata: &[Vec<u8>]) -> Vec<u8> {
-    let mut cache = sound(dice, automata);
+fn damaged(dice: &mut Dice, forms: &[Vec<u8>]) -> Vec<u8> {
+    let mut cache = sound(dice, forms);
     for _ in 0..dice.pick(&[0, 0, 1, 1, 2]) {
         spoil_records(dice, &mut cache);
     }
@@ -100,7 +104,7 @@ fn asked(dice: &mut Dice, automata: &[Vec<u8>], cache: &[u8]) -> Vec<u8> {
         let end = 5 + usize::from(cache[8]);
         let first = &cache[22..end.clamp(22, cache.len())];
         if oracle::refusal(first).is_ok() {
-            return first.to_vec();
+            return automata::shuffled(dice, first);
         }
     }
     if dice.chance(80) {
@@ -112,13 +116,20 @@ fn asked(dice: &mut Dice, automata: &[Vec<u8>], cache: &[u8]) -> Vec<u8> {
 pub fn damage(tally: &mut Tally, round: u64) {
     let mut dice = Dice::new(71 + 1_000 * round);
     let automata = automata::small(&mut dice, 40);
+    let forms = automata::forms(&automata);
     for turn in 0..TURNS {
         let what = format!("random damage, round {}, turn {}", round, turn);
-        let cache = damaged(&mut dice, &automata);
+        let cache = damaged(&mut dice, &forms);
         let automaton = asked(&mut dice, &automata, &cache);
         let store = dice.pick(&[0, 8, 9, 20, 100, 400]);
         let before = Lent::new(&mut dice, &cache, &automaton, store);
-        for call in [Call::Sound, Call::LookUp, Call::Consult] {
+        let before = if dice.chance(10) {
+            let length = dice.below(automaton.len() + 1);
+            before.forming(&mut dice, length)
+        } else {
+            before
+        };
+        for call in [Call::Canonical, Call::Sound, Call::LookUp, Call::Consult] {
             tally.call(&what, call, &before);
         }
     }

@@ -19,7 +19,8 @@ const D: Numbers = [1, 1, 0, 1, 0, 0, 0, 0];
 const FILED: Numbers = [1, 4_000_000_001, 4_294_967_291, 4_294_967_295, 0, 0, 0, 0];
 
 /// The call; the automaton; the numbers of the store; the free bytes of the cache, or none for one
-/// that is not sound; the reply; what is told, if anything.
+/// that is not sound; the reply, where 13 has a byte too few for the form; what is told, if
+/// anything.
 type Case = (
     Call,
     &'static str,
@@ -29,7 +30,7 @@ type Case = (
     Option<Numbers>,
 );
 
-const CASES: [Case; 19] = [
+const CASES: [Case; 23] = [
     (Call::Search, "A", 9, None, 0, Some(A)),
     (Call::Search, "B", 9, None, 0, Some(B)),
     (Call::Search, "D", 9, None, 0, Some(D)),
@@ -41,6 +42,8 @@ const CASES: [Case; 19] = [
     (Call::LookUp, "A", 0, Some(0), 0, None),
     (Call::LookUp, "J", 0, Some(0), 7, None),
     (Call::LookUp, "A", 0, None, 11, None),
+    (Call::LookUp, "G", 0, Some(0), 13, None),
+    (Call::LookUp, "A", 0, None, 13, None),
     (Call::Consult, "G", 0, Some(0), 0, Some(FILED)),
     (Call::Consult, "A", 9, Some(55), 0, Some(A)),
     (Call::Consult, "B", 9, Some(55), 0, Some(B)),
@@ -49,6 +52,8 @@ const CASES: [Case; 19] = [
     (Call::Consult, "A", 8, Some(55), 10, None),
     (Call::Consult, "A", 9, None, 11, None),
     (Call::Consult, "A", 9, Some(54), 12, None),
+    (Call::Consult, "G", 0, Some(0), 13, None),
+    (Call::Consult, "A", 8, Some(55), 13, None),
 ];
 
 /// With a verdict that no search gives, to see that it is the filed one.
@@ -68,7 +73,11 @@ fn cache(free: Option<usize>) -> Vec<u8> {
 
 fn judge(tally: &mut Tally, dice: &mut Dice, length: usize, case: Case) {
     let (call, name, store, free, reply, told) = case;
-    let before = Lent::new(dice, &cache(free), &named(name), store).answering(dice, length);
+    let automaton = named(name);
+    let mut before = Lent::new(dice, &cache(free), &automaton, store).answering(dice, length);
+    if reply == 13 {
+        before = before.forming(dice, automaton.len() - 1);
+    }
     let what = format!("{name}, an answer of {length}, {reply}");
     let after = tally.must(&what, call, &before, reply).lent;
     let mut answer = before.answer.clone();

@@ -3,6 +3,7 @@
 use crate::automata;
 use crate::calls::{random_bytes, Call, Lent};
 use crate::drawn::Dice;
+use crate::forms;
 use crate::oracle::{Cache, Record, Verdict};
 use crate::table::{named, with_byte};
 use crate::tally::Tally;
@@ -260,6 +261,67 @@ pub fn singly(tally: &mut Tally) {
     headers(tally, &mut dice);
     refused_automata(tally, &mut dice);
     twice(tally, &mut dice);
+}
+
+/// Every exchange of neighbouring edges of a form, and every edge doubled, where it stands and
+/// behind the others. The lengths around them are put right.
+pub fn disorders(form: &[u8]) -> Vec<Vec<u8>> {
+    let (head, edges) = forms::parts(form);
+    let mut all = Vec::new();
+    for k in 1..edges.len() {
+        let mut exchanged = edges.clone();
+        exchanged.swap(k - 1, k);
+        all.push(exchanged);
+    }
+    for (k, edge) in edges.iter().enumerate() {
+        for to in [k, edges.len()] {
+            let mut doubled = edges.clone();
+            doubled.insert(to, edge);
+            all.push(doubled);
+        }
+    }
+    all.iter().map(|edges| forms::joined(head, edges)).collect()
+}
+
+/// Forms whose edges differ in any of their fields, of one edge up to as many as there can be.
+fn forms_of_edges() -> Vec<Vec<u8>> {
+    let mut all = vec![named("A"), named("K"), automata::rising(1, 2, 2)];
+    for place in [0, 1, 6, 10] {
+        all.push(automata::rising(1, 64, place));
+    }
+    for place in [2, 6, 66] {
+        all.push(automata::rising(8, 20, place));
+    }
+    all.push(automata::rising(1, 255, 6));
+    all.push(automata::rising(1, 256, 10));
+    all
+}
+
+/// A record whose edges do not rise, for every operation, beside the same with its form.
+pub fn out_of_order(tally: &mut Tally) {
+    let mut dice = Dice::new(151);
+    for (turn, form) in forms_of_edges().into_iter().enumerate() {
+        let mut cache = base();
+        cache.records.retain(|r| r.automaton != form);
+        let at = turn % (cache.records.len() + 1);
+        cache.records.insert(at, record(&form, 1, 3, 2, 5));
+        let what = format!("form {} as record {}", turn, at);
+        judge(tally, &mut dice, &case(what, cache.bytes(), true));
+        for (variant, automaton) in disorders(&form).into_iter().enumerate() {
+            let what = format!("form {} as record {}, disorder {}", turn, at, variant);
+            cache.records[at].automaton = automaton.clone();
+            let case = case(what, cache.bytes(), false);
+            judge(tally, &mut dice, &case);
+            let before = Lent::new(&mut dice, &case.cache, &form, 0);
+            tally.must(&case.what, Call::LookUp, &before, 11);
+            tally.must(&case.what, Call::Consult, &before, 11);
+            // Where one edge more is one too many, it is turned down as drawn.
+            let drawn = Lent::new(&mut dice, &case.cache, &automaton, 0);
+            let reply = if automaton[9..11] == [1, 1] { 4 } else { 11 };
+            tally.must(&case.what, Call::LookUp, &drawn, reply);
+            tally.must(&case.what, Call::Consult, &drawn, reply);
+        }
+    }
 }
 
 /// A cache cut at every byte, with its used length and with that of the cut, and every used length

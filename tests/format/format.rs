@@ -11,7 +11,7 @@ mod ranges;
 
 use checks::Checks;
 use document::{dump, Dump};
-use library::{consult, look_up, make_empty, search, sound, Verdict};
+use library::{canonical, consult, look_up, make_empty, search, sound, Verdict};
 use std::process::ExitCode;
 
 // What bytes and stores have before, to see that they stand.
@@ -41,15 +41,23 @@ impl Format {
         search(&self.automaton.bytes(), &mut store) == Ok(HOLDS) && store == slot
     }
 
-    // With lent bytes and numbers to spare, which stand.
+    // A buffer that has just enough bytes for any form of the automaton's.
+    fn room(&self) -> Vec<u8> {
+        vec![BYTE; self.automaton.bytes().len()]
+    }
+
+    // With lent bytes and numbers to spare, which stand. The automaton is its own form.
     fn is_filed(&self) -> bool {
         let (mut expected, mut numbers) = (self.cache.bytes(), self.slot.numbers());
+        let mut form = self.room();
+        form.extend([BYTE; 3]);
         let mut cache = vec![BYTE; expected.len() + 3];
         let mut store = vec![NUMBER; numbers.len() + 3];
         expected.extend([BYTE; 3]);
         numbers.extend([NUMBER; 3]);
         make_empty(&mut cache) == 0
-            && consult(&mut cache, &self.automaton.bytes(), &mut store) == Ok(HOLDS)
+            && consult(&mut cache, &self.automaton.bytes(), &mut form, &mut store) == Ok(HOLDS)
+            && form == [&self.automaton.bytes()[..], &[BYTE; 3]].concat()
             && cache == expected
             && store == numbers
     }
@@ -58,20 +66,32 @@ impl Format {
         let expected = self.cache.bytes();
         let mut cache = vec![BYTE; expected.len()];
         let mut store = vec![NUMBER; self.slot.numbers().len()];
+        let mut form = self.room();
         make_empty(&mut cache) == 0
-            && consult(&mut cache, &self.automaton.bytes(), &mut store) == Ok(HOLDS)
+            && consult(&mut cache, &self.automaton.bytes(), &mut form, &mut store) == Ok(HOLDS)
             && cache == expected
     }
 
     fn is_found(&self) -> bool {
         let (cache, automaton) = (self.cache.bytes(), self.automaton.bytes());
-        sound(&cache) == 0 && look_up(&cache, &automaton) == Ok(Some(HOLDS))
+        sound(&cache) == 0 && look_up(&cache, &automaton, &mut self.room()) == Ok(Some(HOLDS))
+    }
+
+    // It has one edge, which is in order; no byte is to spare.
+    fn is_canonical(&self) -> bool {
+        let (automaton, mut form) = (self.automaton.bytes(), self.room());
+        canonical(&automaton, &mut form) == Ok(automaton.len()) && form == automaton
     }
 
     // No store is asked for where the verdict is filed.
     fn is_consulted_again(&self) -> bool {
         let mut cache = self.cache.bytes();
-        consult(&mut cache, &self.automaton.bytes(), &mut []) == Ok(HOLDS)
+        consult(
+            &mut cache,
+            &self.automaton.bytes(),
+            &mut self.room(),
+            &mut [],
+        ) == Ok(HOLDS)
             && cache == self.cache.bytes()
     }
 
@@ -92,10 +112,13 @@ impl Format {
             automaton.resize(length, 0);
             automaton[at] = byte;
             let (mut cache, mut store) = (self.cache.bytes(), self.slot.numbers());
+            let mut form = self.room();
             search(&automaton, &mut store) == Err(number)
-                && look_up(&cache, &automaton) == Err(number)
-                && consult(&mut cache, &automaton, &mut store) == Err(number)
+                && canonical(&automaton, &mut form) == Err(number)
+                && look_up(&cache, &automaton, &mut form) == Err(number)
+                && consult(&mut cache, &automaton, &mut form, &mut store) == Err(number)
                 && (cache, store) == (self.cache.bytes(), self.slot.numbers())
+                && form == self.room()
         })
     }
 
@@ -113,8 +136,8 @@ impl Format {
         cache[4] = 2;
         let before = cache.clone();
         sound(&cache) == 11
-            && look_up(&cache, &automaton) == Err(11)
-            && consult(&mut cache, &automaton, &mut []) == Err(11)
+            && look_up(&cache, &automaton, &mut self.room()) == Err(11)
+            && consult(&mut cache, &automaton, &mut self.room(), &mut []) == Err(11)
             && cache == before
     }
 
@@ -123,7 +146,8 @@ impl Format {
         let mut cache = vec![BYTE; self.cache.bytes().len() - 1];
         let empty = make_empty(&mut cache);
         let before = cache.clone();
-        let reply = consult(&mut cache, &self.automaton.bytes(), &mut [NUMBER; 9]);
+        let (automaton, mut form) = (self.automaton.bytes(), self.room());
+        let reply = consult(&mut cache, &automaton, &mut form, &mut [NUMBER; 9]);
         let mut short = [BYTE; 4];
         empty == 0
             && reply == Err(12)
@@ -131,11 +155,23 @@ impl Format {
             && make_empty(&mut short) == 12
             && short == [BYTE; 4]
     }
+
+    // 13: a byte too few for the form.
+    fn form_is_too_long(&self) -> bool {
+        let (mut cache, automaton) = (self.cache.bytes(), self.automaton.bytes());
+        let mut form = self.room();
+        form.pop();
+        let before = form.clone();
+        canonical(&automaton, &mut form) == Err(13)
+            && look_up(&cache, &automaton, &mut form) == Err(13)
+            && consult(&mut cache, &automaton, &mut form, &mut []) == Err(13)
+            && (cache, form) == (self.cache.bytes(), before)
+    }
 }
 
 type Check = (&'static str, fn(&Format) -> bool);
 
-const CHECKS: [Check; 20] = [
+const CHECKS: [Check; 22] = [
     ("the tables add up", Format::tables_add_up),
     ("the ranges of lengths", Format::lengths_are_ranged),
     ("the versions", Format::versions_are_said),
@@ -164,13 +200,15 @@ const CHECKS: [Check; 20] = [
         "consulting the cache changes nothing",
         Format::is_consulted_again,
     ),
+    ("the automaton is its own form", Format::is_canonical),
     ("the ranges of counts", Format::counts_are_ranged),
     ("the ranges of limits", Format::limits_are_ranged),
-    ("the refusals are 1 to 12", Format::refusals_are_listed),
+    ("the refusals are 1 to 13", Format::refusals_are_listed),
     ("refusals 1 to 8", Format::automata_are_refused),
     ("refusal 10", Format::store_is_full),
     ("refusal 11", Format::cache_is_bad),
     ("refusal 12", Format::cache_is_full),
+    ("refusal 13", Format::form_is_too_long),
 ];
 
 fn main() -> ExitCode {

@@ -119,6 +119,6 @@ impl Format {
         let numbers = table(&self.text, "Refusals")
             .into_iter()
             .map(|row| row[0].clone());
-        numbers.eq((1..=12).map(|number: u32| number.to_string()))
+        numbers.eq((1..=13).map(|number: u32| number.to_string()))
     }
 }

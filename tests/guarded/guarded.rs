@@ -17,6 +17,8 @@ mod damage;
 mod draft;
 #[path = "../search/drawn.rs"]
 mod drawn;
+#[path = "../forms.rs"]
+mod forms;
 mod guards;
 mod heap;
 mod inputs;

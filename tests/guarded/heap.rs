@@ -1,6 +1,6 @@
 //! The calls that valgrind watches. Each slice is a block of the heap with nothing behind it, and
-//! what the library must not depend on is left uninitialised: the store, filed, the answer and the
-//! free bytes of a cache.
+//! what the library must not depend on is left uninitialised: the form's buffer, its length, the
+//! store, filed, the answer and the free bytes of a cache.
 
 use crate::calls::{self, Call, Lent, Places};
 use crate::checks::Checks;
@@ -46,12 +46,16 @@ pub fn compare(checks: &mut Checks, what: &str, call: Call, before: &Lent) {
     let mut after = before.clone();
     let reply = calls::proved(call, &mut after);
     let mut automaton = Block::new(&before.automaton, before.automaton.len());
+    let mut form = Block::new(&before.form, 0);
+    let mut length = Block::new(&[before.length], 0);
     let mut cache = Block::new(&before.cache, known(call, &before.cache));
     let mut store = Block::new(&before.store, 0);
     let mut filed = Block::new(&[before.filed], 0);
     let mut answer = Block::new(&before.answer, 0);
     let places = Places {
         automaton: automaton.start(),
+        form: form.start(),
+        length: length.start(),
         cache: cache.start(),
         store: store.start(),
         filed: filed.start(),
@@ -61,12 +65,14 @@ pub fn compare(checks: &mut Checks, what: &str, call: Call, before: &Lent) {
     let parts = [
         reply == Some(got),
         automaton.agrees(&before.automaton, &after.automaton),
+        form.agrees(&before.form, &after.form),
+        length.agrees(&[before.length], &[after.length]),
         cache.agrees(&before.cache, &after.cache),
         store.agrees(&before.store, &after.store),
         filed.agrees(&[before.filed], &[after.filed]),
         answer.agrees(&before.answer, &after.answer),
     ];
-    checks.check(parts == [true; 6], || {
+    checks.check(parts == [true; 8], || {
         format!("{what}, {call:?} on the heap: {got}, as before: {parts:?}")
     });
 }

@@ -1,7 +1,7 @@
 //! What is lent: automata, caches and stores, random, grown or damaged.
 
 use crate::automata;
-use crate::calls::{random_bytes, Lent};
+use crate::calls::{form_length, random_bytes, Lent};
 use crate::damage::{counts, noise, spoil};
 use crate::draft::recount;
 use crate::drawn::{self, Dice, Lean, Size};
@@ -30,7 +30,8 @@ impl Grown {
         for automaton in some {
             let before = used(&bytes);
             // A search may give up, and an automaton may be there already.
-            let _ = library::consult(&mut bytes, automaton, &mut [0; STORE]);
+            let mut form = vec![0; automaton.len()];
+            let _ = library::consult(&mut bytes, automaton, &mut form, &mut [0; STORE]);
             if used(&bytes) > before {
                 borders.push(used(&bytes));
             }
@@ -65,9 +66,23 @@ fn miscounted(dice: &mut Dice, automaton: &[u8]) -> Vec<u8> {
     bytes
 }
 
+/// The bytes for the form: often just enough or one too few, also none, or as many as drawn.
+fn room(dice: &mut Dice, automaton: &[u8]) -> usize {
+    let all = automaton.len();
+    let form = form_length(automaton).unwrap_or(all);
+    match dice.range(0, 9) {
+        0 => 0,
+        1 => form.saturating_sub(1),
+        2 => dice.below(all + 1),
+        3..=5 => form,
+        6 | 7 => all,
+        _ => all + dice.below(100),
+    }
+}
+
 /// The free bytes behind a cache's used part, some just enough for a record and some one too few.
 fn free(dice: &mut Dice, automaton: &[u8]) -> Vec<u8> {
-    let record = 17 + automaton.len() as u32;
+    let record = 17 + form_length(automaton).unwrap_or(automaton.len()) as u32;
     let count = match dice.range(0, 4) {
         0 => 0,
         1 => record,
@@ -105,6 +120,7 @@ impl Inputs {
     pub fn new(dice: &mut Dice, caches: usize) -> Inputs {
         let mut automata = automata::accepted(dice, 60);
         automata.extend(automata::small(dice, 60));
+        automata.push(automata::longest());
         let caches = (0..caches).map(|_| Grown::new(dice, &automata)).collect();
         Inputs { automata, caches }
     }
@@ -113,9 +129,14 @@ impl Inputs {
         match dice.range(0, 11) {
             0..=6 if dice.chance(50) => {
                 let other = dice.one(&self.automata);
-                cache.filed(dice).unwrap_or_else(|| other.clone())
+                let filed = cache.filed(dice).unwrap_or_else(|| other.clone());
+                automata::shuffled(dice, &filed)
             }
-            0..=6 => dice.one(&self.automata).clone(),
+            0..=4 => dice.one(&self.automata).clone(),
+            5..=6 => {
+                let automaton = dice.one(&self.automata);
+                automata::shuffled(dice, automaton)
+            }
             7 | 8 => damaged_automaton(dice),
             9 => {
                 let automaton = dice.one(&self.automata);
@@ -139,7 +160,8 @@ impl Inputs {
             _ => spoil(dice, &mut cache, &grown.borders),
         }
         let store = store(dice, &automaton);
-        let answer = dice.range(0, 10) as usize;
-        Lent::new(dice, &cache, &automaton, store).answering(dice, answer)
+        let (answer, room) = (dice.below(11), room(dice, &automaton));
+        let lent = Lent::new(dice, &cache, &automaton, store);
+        lent.answering(dice, answer).forming(dice, room)
     }
 }

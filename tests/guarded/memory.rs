@@ -12,6 +12,9 @@ fn read(places: &Places, lent: &mut Lent) {
     unsafe {
         let copy = slice::from_raw_parts(places.automaton, lent.automaton.len());
         lent.automaton.copy_from_slice(copy);
+        let copy = slice::from_raw_parts(places.form, lent.form.len());
+        lent.form.copy_from_slice(copy);
+        lent.length = *places.length;
         let copy = slice::from_raw_parts(places.cache, lent.cache.len());
         lent.cache.copy_from_slice(copy);
         let copy = slice::from_raw_parts(places.store, lent.store.len());
@@ -24,6 +27,8 @@ fn read(places: &Places, lent: &mut Lent) {
 
 pub struct Memory {
     automaton: Pages,
+    form: Pages,
+    length: Pages,
     cache: Pages,
     store: Pages,
     filed: Pages,
@@ -34,6 +39,8 @@ impl Memory {
     pub fn new() -> Memory {
         Memory {
             automaton: Pages::new(MOST_BYTES),
+            form: Pages::new(MOST_BYTES),
+            length: Pages::new(8),
             cache: Pages::new(MOST_BYTES),
             store: Pages::new(MOST_BYTES),
             filed: Pages::new(8),
@@ -44,6 +51,8 @@ impl Memory {
     pub fn all(&mut self) -> Vec<&mut Pages> {
         vec![
             &mut self.automaton,
+            &mut self.form,
+            &mut self.length,
             &mut self.cache,
             &mut self.store,
             &mut self.filed,
@@ -55,6 +64,8 @@ impl Memory {
     pub fn call(&mut self, call: Call, lent: &mut Lent, guard: Guard) -> u32 {
         let places = Places {
             automaton: self.automaton.place(&lent.automaton, guard),
+            form: self.form.place(&lent.form, guard),
+            length: self.length.place(&[lent.length], guard),
             cache: self.cache.place(&lent.cache, guard),
             store: self.store.place(&lent.store, guard),
             filed: self.filed.place(&[lent.filed], guard),

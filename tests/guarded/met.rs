@@ -7,23 +7,28 @@ use std::collections::BTreeMap;
 const LEAST: usize = 40;
 
 /// The replies to be met. Not 9: 65,535 zones have to be kept before it (tests/cache has it).
-const POSSIBLE: [(Call, &[u32]); 6] = [
+const POSSIBLE: [(Call, &[u32]); 7] = [
     (Call::Refusal, &[0, 1, 2, 3, 4, 5, 6, 7, 8]),
+    (Call::Canonical, &[0, 1, 2, 3, 4, 5, 6, 7, 8, 13]),
     (Call::Search, &[0, 1, 2, 3, 4, 5, 6, 7, 8, 10]),
     (Call::MakeEmpty, &[0, 12]),
     (Call::Sound, &[0, 11]),
-    (Call::LookUp, &[0, 1, 2, 3, 4, 5, 6, 7, 8, 11]),
-    (Call::Consult, &[0, 1, 2, 3, 4, 5, 6, 7, 8, 10, 11, 12]),
+    (Call::LookUp, &[0, 1, 2, 3, 4, 5, 6, 7, 8, 11, 13]),
+    (Call::Consult, &[0, 1, 2, 3, 4, 5, 6, 7, 8, 10, 11, 12, 13]),
 ];
 
-/// What else is to be met: a slice of length 0, an automaton that is filed or comes to be.
-const OTHERS: [&str; 6] = [
+/// What else is to be met: a slice of length 0, an automaton that is filed or comes to be, one that
+/// is not its own form, and a buffer with no byte more than the form.
+const OTHERS: [&str; 9] = [
     "Refusal, no automaton",
     "Search, no store",
     "Sound, no cache",
     "LookUp, filed",
     "Consult, filed now",
     "Consult, filed now, no answer",
+    "Canonical, no form",
+    "Canonical, another order or a repeat",
+    "Canonical, no byte more",
 ];
 
 fn label(call: Call, reply: u32) -> String {
@@ -33,7 +38,13 @@ fn label(call: Call, reply: u32) -> String {
 /// Which of the others a call is.
 fn others(call: Call, before: &Lent, after: &Lent) -> &'static [&'static str] {
     let none = before.answer.is_empty();
+    let full = after.length == after.form.len() as u64;
     match call {
+        Call::Canonical if before.form.is_empty() => &OTHERS[6..7],
+        Call::Canonical if after.form == before.form => &[],
+        Call::Canonical if after.form.starts_with(&before.automaton) => &[],
+        Call::Canonical if full => &OTHERS[7..9],
+        Call::Canonical => &OTHERS[7..8],
         Call::Refusal if before.automaton.is_empty() => &OTHERS[..1],
         Call::Search if before.store.is_empty() => &OTHERS[1..2],
         Call::Sound if before.cache.is_empty() => &OTHERS[2..3],

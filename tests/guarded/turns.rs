@@ -1,4 +1,4 @@
-//! A turn: all six functions, called on what a seed draws.
+//! A turn: all seven functions, called on what a seed draws.
 
 use crate::calls::{self, Call, Lent};
 use crate::checks::Checks;
@@ -15,8 +15,9 @@ use std::sync::atomic::{AtomicU64, Ordering};
 /// More than any turn takes: a call that goes round for ever is a fault too.
 const MOST_SECONDS: u32 = 30;
 
-const CALLS: [Call; 6] = [
+const CALLS: [Call; 7] = [
     Call::Refusal,
+    Call::Canonical,
     Call::Search,
     Call::MakeEmpty,
     Call::Sound,

@@ -160,7 +160,7 @@ fn guard_out_of_range(automaton: &[u8]) -> bool
 }
 
 // The smallest number of document 01's "Turned down" that applies to an automaton, and 0 where none does.
-pub fn refusal(automaton: &[u8]) -> u32
+pub(crate) fn refusal(automaton: &[u8]) -> u32
     ensures { λ r. ⌜ r ≡ refusalOf (now (automaton .entry)) ⌝ }
 {
     let length = automaton.len();

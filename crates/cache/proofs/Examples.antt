@@ -1,11 +1,15 @@
--- Card A consulted: computed from the definitions of a cache and from the search's own example of card A.
+-- Card A consulted, drawn once and with its edge twice: computed from the definitions of a cache and from the search's own example of card A.
 -- Assumes nothing.
 use mathlib.Core.Bool.{true}
 use mathlib.Core.Path.{_≡_, refl, ap}
-use Rattle.encoding.specs.Numbers.{be16At, be32At, be32}
+use Rattle.encoding.specs.Numbers.{be16At, be32At, be16, be32}
 use Rattle.encoding.specs.Bytes.{sameBytes}
+use Rattle.order.specs.Edges.{bytesLess, rising, insertEdge, sorted}
+use Rattle.order.specs.Laid.{edgeBytes, edgesFrom, joined}
 use Rattle.automata.specs.Automata.{edgeIn, firsts, guardOf, inByte, invariantIn, invariantOf, limitsAt, resetSet, resetsOf}
+use Rattle.automata.specs.Canonical.{isCanonical, inOrder, canonicalOf}
 use Rattle.automata.specs.Refusals.{outOfRangeAt, refusalOf, some}
+use Rattle.canonical.specs.Writing.{formRefusal}
 use Rattle.search.specs.declared.verdict.Answer.the-variants.{Refused}
 use Rattle.search.specs.declared.verdict.Holding.the-variants.{Below}
 use Rattle.search.specs.declared.verdict.Verdict.the-variants.{Holds}
@@ -14,12 +18,13 @@ use Rattle.search.specs.Verdicts.{holdingOf, numbersOf, verdictOf, soundNumbers
 use Rattle.search.proofs.answers.Examples as search
 use Rattle.search.proofs.answers.Given.{promised}
 use Rattle.search.proofs.answers.Numbers.{numbers-are-sound}
-use Rattle.cache.specs.Placing.{placed}
+use Rattle.encoding.specs.Placing.{placed}
 use Rattle.cache.specs.Layouts.{version1}
 use Rattle.cache.specs.Records.{measured, soundRecord, filedAs, numberBytes, recordOf}
 use Rattle.cache.specs.Lookups.{lookUp, isAbsent}
 use Rattle.cache.specs.Caches.{split, recordsIn, total, allSound, soundRecords, distinct, soundHeader, soundAs}
 use Rattle.cache.specs.Consulting.{lookUpAs, full, appended, filing, answerTo, consultAnswerAs, searched, consultCacheAs}
+use Rattle.cache.specs.Drawn.{consultAnswer, consultCache}
 use Rattle.cache.specs.Examples.{automatonA, empty, holds, AllRight, examples}
 
 -- the search's case I: card A with stores of 8 and of 9 numbers
@@ -35,9 +40,11 @@ unfolding numbersOf
 lowest = numbers-are-sound automatonA (Holds (Below (record { n = 1; d = 1 }))) 1 (rw answer-9 at (promised automatonA 9 .given))
 
 pub all-right : AllRight examples
-unfolding be16At be32At edgeIn firsts guardOf inByte invariantIn invariantOf limitsAt outOfRangeAt refusalOf resetSet resetsOf some be32 sameBytes
-    holdingOf numbersOf verdictOf placed measured soundRecord filedAs numberBytes recordOf lookUp isAbsent split recordsIn total allSound soundRecords
-    distinct soundHeader soundAs lookUpAs full appended filing answerTo consultAnswerAs searched consultCacheAs
+unfolding be16At be32At edgeIn firsts guardOf inByte invariantIn invariantOf limitsAt outOfRangeAt refusalOf resetSet resetsOf some
+    be16 be32 sameBytes bytesLess rising insertEdge sorted edgeBytes edgesFrom joined inOrder canonicalOf formRefusal
+    holdingOf numbersOf verdictOf placed measured isCanonical soundRecord filedAs numberBytes recordOf lookUp isAbsent split recordsIn total
+    allSound soundRecords distinct soundHeader soundAs lookUpAs full appended filing answerTo consultAnswerAs searched consultCacheAs
+    consultAnswer consultCache
 all-right = (
   (answer-9, ap (filing version1 (empty 58) automatonA) answer-9),
   (
@@ -49,8 +56,14 @@ all-right = (
         (
           (rw lowest refl, rw lowest refl),
           (
-            (refl, refl),
-            ((rw lowest refl, rw lowest refl), tt),
+            (rw lowest refl, rw lowest refl),
+            (
+              (refl, refl),
+              (
+                (refl, refl),
+                ((rw lowest refl, rw lowest refl), ((rw lowest refl, rw lowest refl), tt)),
+              ),
+            ),
           ),
         ),
       ),

@@ -1,6 +1,6 @@
--- The theory of a cache, from the bytes up: what is put at a place, one record, records one after another, sound caches, consulting, growing.
+-- The theory of a cache, from the bytes up: one record, records one after another, sound caches, consulting, growing.
 pub mod layouts
 pub mod caches
 pub mod consulting
-pub mod Growing
+pub mod growing
 pub mod Examples

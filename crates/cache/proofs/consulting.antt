@@ -2,3 +2,5 @@
 pub mod Asking
 pub mod Ways
 pub mod Filing
+pub mod Drawn
+pub mod Meeting

@@ -1,14 +1,13 @@
--- "Consulting: 1 to 8; 11; if the card's bytes are there, the filed verdict, nothing changed; 12; then the search, 9 and 10 included; a new
--- record is written into the free tail of the lent shelf, the used length follows, other bytes stand." In any layout L, then in version 1.
+-- "Consulting: .. 11; if the card's bytes are there, the filed verdict, nothing changed; 12; then the search, 9 and 10 included; a new
+-- record is written into the free tail of the lent shelf, the used length follows, other bytes stand." In any layout L, of a form b.
 use Prim.Native.Nat.{ℕ, _+_, _≤_}
 use mathlib.Core.Bool.{Bool, not, cond, _&&_, _||_}
 use mathlib.Core.List.{List, [], _∷_, _++_}
 use mathlib.Core.Path.{_≡_}
-use lib.Dec.{ltb, eqb}
+use lib.Dec.{ltb}
 use lib.IntN.{ℤ}
 use lib.ListN.{length}
 use Rattle.encoding.specs.Numbers.{be32}
-use Rattle.automata.specs.Refusals.{refusalOf}
 use Rattle.search.specs.declared.verdict.Answer.{Answer}
 use Rattle.search.specs.declared.verdict.Answer.the-variants.{Found, Refused}
 use Rattle.search.specs.Verdicts.{numbersOf}
@@ -16,8 +15,8 @@ use Rattle.search.specs.Answers.{searchAnswer, searchStore}
 use Rattle.cache.specs.declared.layout.Layout.{Layout}
 use Rattle.cache.specs.declared.lookup.Lookup.{Lookup}
 use Rattle.cache.specs.declared.lookup.Lookup.the-variants as lookup
-use Rattle.cache.specs.Placing.{placed}
-use Rattle.cache.specs.Layouts.{headerLength, longest, version1}
+use Rattle.encoding.specs.Placing.{placed}
+use Rattle.cache.specs.Layouts.{headerLength, longest}
 use Rattle.cache.specs.Records.{recordOf}
 use Rattle.cache.specs.Lookups.{lookUp, isAbsent}
 use Rattle.cache.specs.Caches.{usedOf, recordsOf, soundAs}
@@ -35,9 +34,7 @@ makeEmptyAs L c = cond (ltb (length c) headerLength) c (placed 0 (emptyHeader L)
 
 -- ---- asking
 unfoldable pub lookUpAs : Layout → List ℕ → List ℕ → Lookup
-lookUpAs L c b =
-    cond (not (eqb (refusalOf b) 0)) (lookup.Refused (refusalOf b))
-    (cond (soundAs L c) (lookUp L (recordsOf L c) b) (lookup.Refused 11))
+lookUpAs L c b = cond (soundAs L c) (lookUp L (recordsOf L c) b) (lookup.Refused 11)
 
 -- ---- filing
 -- 12: "too few free bytes for the new record or header, or the new used length needs more than 4 bytes"
@@ -88,19 +85,3 @@ consultCacheAs L c b amount = cond (searched L c b) (filing L c b (searchAnswer 
 
 unfoldable pub consultStoreAs : Layout → List ℕ → List ℕ → List ℤ → List ℤ
 consultStoreAs L c b s = cond (searched L c b) (searchStore b s) s
-
--- ---- "version 1"
-abbrev pub makeEmptyCache : List ℕ → List ℕ
-makeEmptyCache c = makeEmptyAs version1 c
-
-abbrev pub lookUpIn : List ℕ → List ℕ → Lookup
-lookUpIn c b = lookUpAs version1 c b
-
-abbrev pub consultAnswer : List ℕ → List ℕ → ℕ → Answer
-consultAnswer c b amount = consultAnswerAs version1 c b amount
-
-abbrev pub consultCache : List ℕ → List ℕ → ℕ → List ℕ
-consultCache c b amount = consultCacheAs version1 c b amount
-
-abbrev pub consultStore : List ℕ → List ℕ → List ℤ → List ℤ
-consultStore c b s = consultStoreAs version1 c b s

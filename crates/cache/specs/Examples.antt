@@ -7,11 +7,13 @@ use Rattle.search.specs.declared.verdict.Answer.{Answer}
 use Rattle.search.specs.declared.verdict.Answer.the-variants.{Found, Refused}
 use Rattle.search.specs.declared.verdict.Holding.the-variants.{Below}
 use Rattle.search.specs.declared.verdict.Verdict.the-variants.{Holds}
-use Rattle.cache.specs.Consulting.{consultAnswer, consultCache}
+use Rattle.cache.specs.Drawn.{consultAnswer, consultCache}
 
--- `amount` is the length of the store
+-- `room` is the length of the buffer for the form, `amount` that of the store
 pub record Example : Type 0 where
   pub cache : List ℕ
+  pub automaton : List ℕ
+  pub room : ℕ
   pub amount : ℕ
   pub answer : Answer
   pub after : List ℕ
@@ -22,8 +24,16 @@ automatonA =
     0 ∷ 0 ∷ 0 ∷ 38 ∷ 1 ∷ 1 ∷ 2 ∷ 0 ∷ 1 ∷ 0 ∷ 1 ∷ 0 ∷ 0 ∷ 0 ∷ 0 ∷ 0 ∷ 0 ∷ 0 ∷ 5 ∷ 0 ∷ 0 ∷ 0 ∷ 0 ∷ 0 ∷ 0 ∷ 0 ∷ 9 ∷
     0 ∷ 1 ∷ 0 ∷ 0 ∷ 0 ∷ 0 ∷ 7 ∷ 255 ∷ 255 ∷ 255 ∷ 255 ∷ []
 
+-- the same with its edge drawn twice: its form is card A
+abbrev pub twiceA : List ℕ
+twiceA =
+    0 ∷ 0 ∷ 0 ∷ 49 ∷ 1 ∷ 1 ∷ 2 ∷ 0 ∷ 1 ∷ 0 ∷ 2 ∷ 0 ∷ 0 ∷ 0 ∷ 0 ∷ 0 ∷ 0 ∷ 0 ∷ 5 ∷ 0 ∷ 0 ∷ 0 ∷ 0 ∷ 0 ∷ 0 ∷ 0 ∷ 9 ∷
+    0 ∷ 1 ∷ 0 ∷ 0 ∷ 0 ∷ 0 ∷ 7 ∷ 255 ∷ 255 ∷ 255 ∷ 255 ∷ 0 ∷ 1 ∷ 0 ∷ 0 ∷ 0 ∷ 0 ∷ 7 ∷ 255 ∷ 255 ∷ 255 ∷ 255 ∷ []
+
 abbrev pub Right : Example → Type 0
-Right x = (consultAnswer (x .cache) automatonA (x .amount) ≡ x .answer) × (consultCache (x .cache) automatonA (x .amount) ≡ x .after)
+Right x =
+    (consultAnswer (x .cache) (x .automaton) (x .room) (x .amount) ≡ x .answer)
+    × (consultCache (x .cache) (x .automaton) (x .room) (x .amount) ≡ x .after)
 
 abbrev pub AllRight : List Example → Type 0
 AllRight [] = Unit {0}
@@ -50,13 +60,20 @@ otherVersion = 0 ∷ 0 ∷ 0 ∷ 5 ∷ 2 ∷ []
 abbrev twice : List ℕ
 twice = 0 ∷ 0 ∷ 0 ∷ 115 ∷ 1 ∷ (recordA ++ recordA)
 
+-- the record of an automaton that draws its one edge twice
+abbrev doubled : List ℕ
+doubled = 0 ∷ 0 ∷ 0 ∷ 71 ∷ 1 ∷ (0 ∷ 0 ∷ 0 ∷ 66 ∷ 1 ∷ 0 ∷ 0 ∷ 0 ∷ 1 ∷ 0 ∷ 0 ∷ 0 ∷ 1 ∷ 0 ∷ 0 ∷ 0 ∷ 1 ∷ twiceA)
+
 abbrev pub examples : List Example
 examples =
-    record { cache = empty 58; amount = 9; answer = holds; after = filed 3 }
-    ∷ record { cache = empty 55; amount = 9; answer = holds; after = filed 0 }
-    ∷ record { cache = empty 58; amount = 8; answer = Refused 10; after = empty 58 }
-    ∷ record { cache = empty 54; amount = 8; answer = Refused 12; after = empty 54 }
-    ∷ record { cache = filed 0; amount = 0; answer = holds; after = filed 0 }
-    ∷ record { cache = otherVersion; amount = 9; answer = Refused 11; after = otherVersion }
-    ∷ record { cache = twice; amount = 9; answer = Refused 11; after = twice }
+    record { cache = empty 58; automaton = automatonA; room = 38; amount = 9; answer = holds; after = filed 3 }
+    ∷ record { cache = empty 55; automaton = twiceA; room = 38; amount = 9; answer = holds; after = filed 0 }
+    ∷ record { cache = empty 58; automaton = automatonA; room = 38; amount = 8; answer = Refused 10; after = empty 58 }
+    ∷ record { cache = empty 54; automaton = automatonA; room = 40; amount = 8; answer = Refused 12; after = empty 54 }
+    ∷ record { cache = filed 0; automaton = automatonA; room = 38; amount = 0; answer = holds; after = filed 0 }
+    ∷ record { cache = filed 0; automaton = twiceA; room = 38; amount = 0; answer = holds; after = filed 0 }
+    ∷ record { cache = otherVersion; automaton = automatonA; room = 38; amount = 9; answer = Refused 11; after = otherVersion }
+    ∷ record { cache = otherVersion; automaton = twiceA; room = 37; amount = 9; answer = Refused 13; after = otherVersion }
+    ∷ record { cache = twice; automaton = automatonA; room = 38; amount = 9; answer = Refused 11; after = twice }
+    ∷ record { cache = doubled; automaton = automatonA; room = 38; amount = 9; answer = Refused 11; after = doubled }
     ∷ []

@@ -2,10 +2,10 @@
 use Prim.Native.Nat.{ℕ, _+_, _≤_}
 use mathlib.Core.Bool.{Bool, cond, _&&_}
 use mathlib.Core.List.{List, _∷_, _++_}
-use lib.Dec.{leb, eqb}
+use lib.Dec.{leb}
 use lib.ListN.{length, getD, drop}
 use Rattle.encoding.specs.Numbers.{be32At, be32}
-use Rattle.automata.specs.Refusals.{refusalOf}
+use Rattle.automata.specs.Canonical.{isCanonical}
 use Rattle.search.specs.declared.verdict.Numbers.{Numbers}
 use Rattle.search.specs.Verdicts.{verdictOf, soundNumbers}
 use Rattle.cache.specs.declared.layout.Layout.{Layout}
@@ -29,9 +29,9 @@ unfoldable pub measured : Layout → List ℕ → ℕ
 measured L s = cond (leb (L .head) (be32At s 0) && leb (be32At s 0) (length s)) (be32At s 0) 0
 
 -- ---- what it says
--- its numbers are those of a verdict, and its automaton is "free of 1 to 8"
+-- its numbers are those of a verdict, and its automaton is "free of 1 to 8" and its own form
 unfoldable pub soundRecord : Layout → List ℕ → Bool
-soundRecord L r = soundNumbers (recordNumbers L r) && eqb (refusalOf (recordAutomaton L r)) 0
+soundRecord L r = soundNumbers (recordNumbers L r) && isCanonical (recordAutomaton L r)
 
 unfoldable pub filedAs : Layout → List ℕ → Lookup
 filedAs L r = Filed (verdictOf (recordNumbers L r)) (recordZones L r)

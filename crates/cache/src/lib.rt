@@ -1,20 +1,20 @@
 // The cache of verdicts, document 01's shelf: asked first, and filled by the search.
 mod layout;
 pub mod lookup;
-mod placing;
 mod record;
 mod records;
 
-use automata::refusal;
+use canonical::form::Form;
+use canonical::write_canonical;
 use encoding::be32;
 use encoding::bytes_of;
+use encoding::put;
 use layout::HEADER;
 use layout::LONGEST;
 use layout::Layout;
 use layout::VERSION_AT;
 use layout::version_1;
 use lookup::Lookup;
-use placing::put;
 use record::write;
 use records::all_distinct;
 use records::look_in;
@@ -26,12 +26,15 @@ use search::verdict::numbers_of;
 ghost use mathlib.Core.Path.{_≡_};
 ghost use Prim.Native.Nat.{_+_, _≤_};
 ghost use lib.ListN.{length};
+ghost use Rattle.canonical.specs.Writing.{formBuffer};
 ghost use Rattle.search.specs.Given.{Given};
 ghost use Rattle.cache.specs.Layouts.{Laid, headerLength};
 ghost use Rattle.cache.specs.Records.{recordOf, Fits};
 ghost use Rattle.cache.specs.Caches.{usedOf, soundAs, sound};
-ghost use Rattle.cache.specs.Consulting.{Room, Searches, appended, filing, makeEmptyReply, makeEmptyCache, lookUpIn, consultAnswer};
-ghost use Rattle.cache.specs.Consulting.{consultCache, consultStore};
+ghost use Rattle.cache.specs.Layouts.{version1};
+ghost use Rattle.cache.specs.Consulting.{Room, Searches, appended, filing, makeEmptyReply, lookUpAs, consultAnswerAs, consultCacheAs};
+ghost use Rattle.cache.specs.Consulting.{consultStoreAs};
+ghost use Rattle.cache.specs.Drawn.{makeEmptyCache, lookUpIn, consultAnswer, consultCache, consultStore};
 ghost use Rattle.cache.specs.Growing.{Carried};
 
 // An empty cache: 0, or 12 if it has no room.
@@ -79,19 +82,26 @@ pub fn sound(cache: &[u8]) -> bool
     sound_as(cache, version_1())
 }
 
-// What a cache says of an automaton. It only reads.
-pub fn look_up(cache: &[u8], automaton: &[u8]) -> Lookup
-    ensures { λ r. ⌜ r ≡ lookUpIn (now (cache .entry)) (now (automaton .entry)) ⌝ }
+// What a cache says of a form.
+fn look_up_form(cache: &[u8], form: &[u8]) -> Lookup
+    ensures { λ r. ⌜ r ≡ lookUpAs version1 (now (cache .entry)) (now (form .entry)) ⌝ }
 {
-    let number = refusal(automaton);
-    if number != 0 {
-        return Lookup::Refused(number);
-    }
     if sound(cache) {
         let used = be32(cache, 0) as usize;
-        return look_in(&cache[HEADER..used], version_1(), automaton);
+        return look_in(&cache[HEADER..used], version_1(), form);
     }
     Lookup::Refused(11)
+}
+
+// What a cache says of an automaton, whose form is written first. It only reads the cache.
+pub fn look_up(cache: &[u8], automaton: &[u8], form: &mut [u8]) -> Lookup
+    ensures { λ r. ⌜ r ≡ lookUpIn (now (cache .entry)) (now (automaton .entry)) (length (now (form .entry))) ⌝ }
+    ensures { λ r. ⌜ now (form .exit) ≡ formBuffer (now (automaton .entry)) (now (form .entry)) ⌝ }
+{
+    match write_canonical(automaton, form) {
+        Form::Written(length) => look_up_form(cache, &form[..length]),
+        Form::Refused(k) => Lookup::Refused(k),
+    }
 }
 
 // ---- filing
@@ -141,16 +151,31 @@ fn search_and_file(cache: &mut [u8], layout: Layout, automaton: &[u8], store: &m
 }
 
 // ---- consulting
-// The verdict of an automaton: the filed one, or the search's, which is filed.
-pub fn consult(cache: &mut [u8], automaton: &[u8], store: &mut [i32]) -> Answer
-    ensures { λ r. ⌜ r ≡ consultAnswer (now (cache .entry)) (now (automaton .entry)) (length (now (store .entry))) ⌝ }
-    ensures { λ r. ⌜ now (cache .exit) ≡ consultCache (now (cache .entry)) (now (automaton .entry)) (length (now (store .entry))) ⌝ }
-    ensures { λ r. ⌜ now (store .exit) ≡ consultStore (now (cache .entry)) (now (automaton .entry)) (now (store .entry)) ⌝ }
+// The verdict of a form: the filed one, or the search's, which is filed.
+fn consult_form(cache: &mut [u8], form: &[u8], store: &mut [i32]) -> Answer
+    ensures { λ r. ⌜ r ≡ consultAnswerAs version1 (now (cache .entry)) (now (form .entry)) (length (now (store .entry))) ⌝ }
+    ensures { λ r. ⌜ now (cache .exit) ≡ consultCacheAs version1 (now (cache .entry)) (now (form .entry)) (length (now (store .entry))) ⌝ }
+    ensures { λ r. ⌜ now (store .exit) ≡ consultStoreAs version1 (now (cache .entry)) (now (form .entry)) (now (store .entry)) ⌝ }
+{
+    match look_up_form(cache, form) {
+        Lookup::Filed(v, zones) => Answer::Found(v, zones),
+        Lookup::Absent => search_and_file(cache, version_1(), form, store),
+        Lookup::Refused(k) => Answer::Refused(k),
+    }
+}
+
+// The verdict of an automaton: that of its form, which is written first.
+pub fn consult(cache: &mut [u8], automaton: &[u8], form: &mut [u8], store: &mut [i32]) -> Answer
+    ensures { λ r. ⌜ r ≡ consultAnswer (now (cache .entry)) (now (automaton .entry)) (length (now (form .entry))) (length (now (store .entry))) ⌝ }
+    ensures { λ r. ⌜ now (cache .exit)
+        ≡ consultCache (now (cache .entry)) (now (automaton .entry)) (length (now (form .entry))) (length (now (store .entry))) ⌝ }
+    ensures { λ r. ⌜ now (form .exit) ≡ formBuffer (now (automaton .entry)) (now (form .entry)) ⌝ }
+    ensures { λ r. ⌜ now (store .exit)
+        ≡ consultStore (now (cache .entry)) (now (automaton .entry)) (length (now (form .entry))) (now (store .entry)) ⌝ }
     ensures { λ r. ⌜ Carried (now (cache .entry)) (now (automaton .entry)) r (now (cache .exit)) ⌝ }
 {
-    match look_up(cache, automaton) {
-        Lookup::Filed(v, zones) => Answer::Found(v, zones),
-        Lookup::Absent => search_and_file(cache, version_1(), automaton, store),
-        Lookup::Refused(k) => Answer::Refused(k),
+    match write_canonical(automaton, form) {
+        Form::Written(length) => consult_form(cache, &form[..length], store),
+        Form::Refused(k) => Answer::Refused(k),
     }
 }

@@ -1,10 +1,10 @@
 // One record of a cache.
 use crate::layout::Layout;
 use crate::lookup::Lookup;
-use crate::placing::put;
-use automata::refusal;
+use canonical::is_canonical;
 use encoding::be32;
 use encoding::bytes_of;
+use encoding::put;
 use search::verdict::Numbers;
 use search::verdict::numbers_sound;
 use search::verdict::verdict_of;
@@ -12,11 +12,11 @@ ghost use mathlib.Core.Path.{_≡_};
 ghost use Prim.Native.Nat.{_+_, _≤_};
 ghost use lib.ListN.{length};
 ghost use Rattle.cache.specs.Layouts.{Laid};
-ghost use Rattle.cache.specs.Placing.{placed};
+ghost use Rattle.encoding.specs.Placing.{placed};
 ghost use Rattle.cache.specs.Records.{recordNumbers, measured, soundRecord, filedAs, numberBytes, recordOf, NumbersFit, Fits};
 
 // The length of the record that the bytes begin with, 0 where they begin with none.
-pub fn measure(bytes: &[u8], layout: Layout) -> usize
+pub(crate) fn measure(bytes: &[u8], layout: Layout) -> usize
     requires { ⌜ Laid layout ⌝ }
     ensures { λ r. ⌜ r ≡ measured layout (now (bytes .entry)) ⌝ }
 {
@@ -49,19 +49,19 @@ fn read_numbers(bytes: &[u8], layout: Layout) -> Numbers
     }
 }
 
-pub fn record_sound(bytes: &[u8], layout: Layout) -> bool
+pub(crate) fn record_sound(bytes: &[u8], layout: Layout) -> bool
     requires { ⌜ Laid layout ⌝ }
     requires { ⌜ layout .head ≤ length (now bytes) ⌝ }
     ensures { λ r. ⌜ r ≡ soundRecord layout (now (bytes .entry)) ⌝ }
 {
     let head = layout.head;
     if numbers_sound(read_numbers(bytes, layout)) {
-        return refusal(&bytes[head..]) == 0;
+        return is_canonical(&bytes[head..]);
     }
     false
 }
 
-pub fn filed(bytes: &[u8], layout: Layout) -> Lookup
+pub(crate) fn filed(bytes: &[u8], layout: Layout) -> Lookup
     requires { ⌜ Laid layout ⌝ }
     requires { ⌜ layout .head ≤ length (now bytes) ⌝ }
     ensures { λ r. ⌜ r ≡ filedAs layout (now (bytes .entry)) ⌝ }
@@ -85,7 +85,7 @@ fn write_numbers(free: &mut [u8], layout: Layout, x: Numbers)
 }
 
 // The free part of a cache begins with a record: field after field, then the automaton.
-pub fn write(free: &mut [u8], layout: Layout, x: Numbers, zones: u32, automaton: &[u8])
+pub(crate) fn write(free: &mut [u8], layout: Layout, x: Numbers, zones: u32, automaton: &[u8])
     requires { ⌜ Laid layout ⌝ }
     requires { ⌜ layout .head + length (now automaton) ≤ length (now free) ⌝ }
     requires { ⌜ Fits layout x zones (now automaton) ⌝ }

@@ -11,7 +11,7 @@ ghost use Rattle.cache.specs.Caches.{soundRecords, distinct, recordsIn};
 ghost use Rattle.cache.specs.Lookups.{lookUp, neitherFiled, bothNew};
 
 // Whether sound records fill the bytes exactly.
-pub fn records_sound(bytes: &[u8], layout: Layout) -> bool
+pub(crate) fn records_sound(bytes: &[u8], layout: Layout) -> bool
     requires { ⌜ Laid layout ⌝ }
     ensures { λ r. ⌜ r ≡ soundRecords layout (now (bytes .entry)) ⌝ }
 {
@@ -32,7 +32,7 @@ pub fn records_sound(bytes: &[u8], layout: Layout) -> bool
 }
 
 // What the records say of an automaton: the first one with its bytes.
-pub fn look_in(bytes: &[u8], layout: Layout, automaton: &[u8]) -> Lookup
+pub(crate) fn look_in(bytes: &[u8], layout: Layout, automaton: &[u8]) -> Lookup
     requires { ⌜ Laid layout ⌝ }
     ensures { λ r. ⌜ r ≡ lookUp layout (recordsIn layout (now (bytes .entry))) (now (automaton .entry)) ⌝ }
 {
@@ -88,7 +88,7 @@ fn both_new(bytes: &[u8], layout: Layout, a: &[u8], b: &[u8]) -> bool
 }
 
 // Whether no automaton stands in two of the records: two of them against all that follow, at each turn.
-pub fn all_distinct(bytes: &[u8], layout: Layout) -> bool
+pub(crate) fn all_distinct(bytes: &[u8], layout: Layout) -> bool
     requires { ⌜ Laid layout ⌝ }
     ensures { λ r. ⌜ r ≡ distinct layout (recordsIn layout (now (bytes .entry))) ⌝ }
 {

@@ -9,6 +9,9 @@ be16At s at = getD s at 0 * 256 + getD s (at + 1) 0
 unfoldable pub be32At : List ℕ → ℕ → ℕ
 be32At s at = be16At s at * 65536 + be16At s (at + 2)
 
--- the four bytes of a number, the largest first
+-- the two bytes of a number, and its four, the largest first
+unfoldable pub be16 : ℕ → List ℕ
+be16 x = x / 256 % 256 ∷ x % 256 ∷ []
+
 unfoldable pub be32 : ℕ → List ℕ
 be32 x = x / 16777216 % 256 ∷ x / 65536 % 256 ∷ x / 256 % 256 ∷ x % 256 ∷ []

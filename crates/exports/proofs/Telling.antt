@@ -1,16 +1,18 @@
--- Numbers written over what was there, one by one; and an answer or a lookup told in numbers, by its case.
+-- Numbers written over what was there, one by one; and an answer, a lookup or a form told in numbers, by its case.
 -- Assumes nothing.
 use Prim.Native.Nat.{ℕ, zero, suc, _<_, _≤_}
 use mathlib.Core.List.{List, [], _∷_}
 use mathlib.Core.Path.{_≡_, refl, ap, _∙_}
 use lib.ListN.{length, take, getD, set}
 use native.Mathlib.Omega.{arith}
+use Rattle.canonical.specs.declared.form.Form.{Form}
+use Rattle.canonical.specs.declared.form.Form.the-variants as form
 use Rattle.search.specs.declared.verdict.Answer.{Answer}
 use Rattle.search.specs.declared.verdict.Answer.the-variants.{Found, Refused}
 use Rattle.search.specs.declared.verdict.Verdict.{Verdict}
 use Rattle.cache.specs.declared.lookup.Lookup.{Lookup}
 use Rattle.cache.specs.declared.lookup.Lookup.the-variants as lookup
-use Rattle.exports.specs.Replies.{verdictNumbers, over, answerNumber, told, lookupNumber, filedTold, lookupTold}
+use Rattle.exports.specs.Replies.{verdictNumbers, over, answerNumber, told, lookupNumber, filedTold, lookupTold, formNumber, formTold}
 
 -- ---- `write_over`: a turn writes the next number; where nothing is left to write, or no room, all are written
 pub over-turn : (xs old : List ℕ) (i : ℕ) → i < length xs → set (over (take i xs) old) i (getD xs i 0) ≡ over (take (suc i) xs) old
@@ -53,3 +55,13 @@ module _ {l : Lookup} (was : ℕ) (old : List ℕ) where
   pub tells-turned-down : (k : ℕ) → l ≡ lookup.Refused k → (k ≡ lookupNumber l) × ((was ≡ filedTold l was) × (old ≡ lookupTold l old))
   unfolding lookupNumber filedTold lookupTold told
   tells-turned-down k e = rw e (refl, (refl, refl))
+
+-- ---- `tell_form`
+module _ {w : Form} (old : ℕ) where
+  pub tells-written : (n : ℕ) → w ≡ form.Written n → (0 ≡ formNumber w) × (n ≡ formTold w old)
+  unfolding formNumber formTold
+  tells-written n e = rw e (refl, refl)
+
+  pub tells-unwritten : (k : ℕ) → w ≡ form.Refused k → (k ≡ formNumber w) × (old ≡ formTold w old)
+  unfolding formNumber formTold
+  tells-unwritten k e = rw e (refl, refl)

@@ -5,6 +5,8 @@ use cache::look_up;
 use cache::lookup::Lookup;
 use cache::make_empty;
 use cache::sound;
+use canonical::form::Form;
+use canonical::write_canonical;
 use search::search;
 use search::verdict::Answer;
 use search::verdict::Verdict;
@@ -14,8 +16,11 @@ ghost use lib.ListN.{length};
 ghost use Rattle.automata.specs.Refusals.{refusalOf};
 ghost use Rattle.search.specs.Answers.{searchAnswer, searchStore};
 ghost use Rattle.cache.specs.Caches.{sound};
-ghost use Rattle.cache.specs.Consulting.{makeEmptyReply, makeEmptyCache, lookUpIn, consultAnswer, consultCache, consultStore};
+ghost use Rattle.cache.specs.Consulting.{makeEmptyReply};
+ghost use Rattle.cache.specs.Drawn.{makeEmptyCache, lookUpIn, consultAnswer, consultCache, consultStore};
+ghost use Rattle.canonical.specs.Writing.{formAnswer, formBuffer};
 ghost use Rattle.exports.specs.Replies.{verdictNumbers, over, answerNumber, told, lookupNumber, filedTold, lookupTold, soundNumber};
+ghost use Rattle.exports.specs.Replies.{formNumber, formTold};
 
 // What is told of a verdict: kind, n, d, zones; then exact n, exact d, again and inside, which are 0 until later changes have them.
 fn verdict_numbers(v: Verdict, zones: u32) -> [u64; 8]
@@ -78,6 +83,30 @@ pub extern "C" fn robustness_refusal(automaton: &[u8]) -> u32
     refusal(automaton)
 }
 
+// What came of writing a form: 0 with its length, or the refusal's number alone.
+fn tell_form(written: Form, length: &mut u64) -> u32
+    ensures { λ r. ⌜ r ≡ formNumber written ⌝ }
+    ensures { λ r. ⌜ now (length .exit) ≡ formTold written (now (length .entry)) ⌝ }
+{
+    match written {
+        Form::Written(n) => {
+            *length = n as u64;
+            0
+        }
+        Form::Refused(k) => k,
+    }
+}
+
+// The form of an automaton, its edges in order and each once; and its length.
+#[no_mangle]
+pub extern "C" fn robustness_canonical(automaton: &[u8], form: &mut [u8], written: &mut u64) -> u32
+    ensures { λ r. ⌜ r ≡ formNumber (formAnswer (now (automaton .entry)) (length (now (form .entry)))) ⌝ }
+    ensures { λ r. ⌜ now (form .exit) ≡ formBuffer (now (automaton .entry)) (now (form .entry)) ⌝ }
+    ensures { λ r. ⌜ now (written .exit) ≡ formTold (formAnswer (now (automaton .entry)) (length (now (form .entry)))) (now (written .entry)) ⌝ }
+{
+    tell_form(write_canonical(automaton, form), written)
+}
+
 // The search's answer, told; the kept zones stand in the store.
 #[no_mangle]
 pub extern "C" fn robustness_search(automaton: &[u8], store: &mut [i32], answer: &mut [u64]) -> u32
@@ -105,34 +134,44 @@ pub extern "C" fn robustness_sound(cache: &[u8]) -> u32
     if sound(cache) { 0 } else { 11 }
 }
 
-// What is filed of an automaton, told.
+// What is filed of an automaton, told; its form is written first.
 #[no_mangle]
 pub extern "C" fn robustness_look_up(
     cache: &[u8],
     automaton: &[u8],
+    form: &mut [u8],
     filed: &mut u64,
     answer: &mut [u64],
 ) -> u32
-    ensures { λ r. ⌜ r ≡ lookupNumber (lookUpIn (now (cache .entry)) (now (automaton .entry))) ⌝ }
-    ensures { λ r. ⌜ now (filed .exit) ≡ filedTold (lookUpIn (now (cache .entry)) (now (automaton .entry))) (now (filed .entry)) ⌝ }
-    ensures { λ r. ⌜ now (answer .exit) ≡ lookupTold (lookUpIn (now (cache .entry)) (now (automaton .entry))) (now (answer .entry)) ⌝ }
+    ensures { λ r. ⌜ r ≡ lookupNumber (lookUpIn (now (cache .entry)) (now (automaton .entry)) (length (now (form .entry)))) ⌝ }
+    ensures { λ r. ⌜ now (form .exit) ≡ formBuffer (now (automaton .entry)) (now (form .entry)) ⌝ }
+    ensures { λ r. ⌜ now (filed .exit)
+        ≡ filedTold (lookUpIn (now (cache .entry)) (now (automaton .entry)) (length (now (form .entry)))) (now (filed .entry)) ⌝ }
+    ensures { λ r. ⌜ now (answer .exit)
+        ≡ lookupTold (lookUpIn (now (cache .entry)) (now (automaton .entry)) (length (now (form .entry)))) (now (answer .entry)) ⌝ }
 {
-    tell_lookup(look_up(cache, automaton), filed, answer)
+    tell_lookup(look_up(cache, automaton, form), filed, answer)
 }
 
-// The filed verdict, or that of the search, which is filed; told.
+// The filed verdict, or that of the search, which is filed; told. The form is written first.
 #[no_mangle]
 pub extern "C" fn robustness_consult(
     cache: &mut [u8],
     automaton: &[u8],
+    form: &mut [u8],
     store: &mut [i32],
     answer: &mut [u64],
 ) -> u32
-    ensures { λ r. ⌜ r ≡ answerNumber (consultAnswer (now (cache .entry)) (now (automaton .entry)) (length (now (store .entry)))) ⌝ }
-    ensures { λ r. ⌜ now (cache .exit) ≡ consultCache (now (cache .entry)) (now (automaton .entry)) (length (now (store .entry))) ⌝ }
-    ensures { λ r. ⌜ now (store .exit) ≡ consultStore (now (cache .entry)) (now (automaton .entry)) (now (store .entry)) ⌝ }
+    ensures { λ r. ⌜ r
+        ≡ answerNumber (consultAnswer (now (cache .entry)) (now (automaton .entry)) (length (now (form .entry))) (length (now (store .entry)))) ⌝ }
+    ensures { λ r. ⌜ now (cache .exit)
+        ≡ consultCache (now (cache .entry)) (now (automaton .entry)) (length (now (form .entry))) (length (now (store .entry))) ⌝ }
+    ensures { λ r. ⌜ now (form .exit) ≡ formBuffer (now (automaton .entry)) (now (form .entry)) ⌝ }
+    ensures { λ r. ⌜ now (store .exit)
+        ≡ consultStore (now (cache .entry)) (now (automaton .entry)) (length (now (form .entry))) (now (store .entry)) ⌝ }
     ensures { λ r. ⌜ now (answer .exit)
-        ≡ told (consultAnswer (now (cache .entry)) (now (automaton .entry)) (length (now (store .entry)))) (now (answer .entry)) ⌝ }
+        ≡ told (consultAnswer (now (cache .entry)) (now (automaton .entry)) (length (now (form .entry))) (length (now (store .entry))))
+        (now (answer .entry)) ⌝ }
 {
-    tell(consult(cache, automaton, store), answer)
+    tell(consult(cache, automaton, form, store), answer)
 }

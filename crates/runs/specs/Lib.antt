@@ -2,4 +2,5 @@
 pub mod Limits
 pub mod Runs
 pub mod Timed
+pub mod Renumbering
 pub mod Examples

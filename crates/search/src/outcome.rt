@@ -19,7 +19,7 @@ pub struct Turn {
 
 impl Turn {
     // Whether the search has stopped.
-    pub fn has_ended(self) -> bool
+    pub(crate) fn has_ended(self) -> bool
         ensures { λ r. ⌜ r ≡ hasEnded (outcomeOf (self .outcome)) ⌝ }
     {
         let outcome = self.outcome;

@@ -63,7 +63,7 @@ fn meet(automaton: &[u8], at: usize, c: usize, w: Work, settled: bool) -> Met
 }
 
 // The limits at `at` are met, and the zone is reduced. A settled zone is its own reduction: every middle index is left out.
-pub fn narrow(automaton: &[u8], at: usize, c: usize, w: Work, settled: bool) -> Reduced
+pub(crate) fn narrow(automaton: &[u8], at: usize, c: usize, w: Work, settled: bool) -> Reduced
     requires { ⌜ Accepted (now automaton) ⌝ }
     requires { ⌜ (c ≤ 8) × (at + 8 * c ≤ length (now automaton)) ⌝ }
     requires { ⌜ OnScale scale c (limitsAt (now automaton) at) × Sized stepCounts (suc c) w ⌝ }
@@ -92,7 +92,7 @@ fn raise(automaton: &[u8], at: usize, c: usize, w: Work) -> Work
 }
 
 // The zone, which is settled, enters location l after a reset.
-pub fn enter(automaton: &[u8], l: usize, w: Work, resets: [bool; 9]) -> Reduced
+pub(crate) fn enter(automaton: &[u8], l: usize, w: Work, resets: [bool; 9]) -> Reduced
     requires { ⌜ Accepted (now automaton) × (l < locations (now automaton)) ⌝ }
     requires { ⌜ Sized (10 * counts) (suc (clocks (now automaton))) w × Settled (suc (clocks (now automaton))) w ⌝ }
     ensures { λ r. ⌜ r ≡ arrivalOf (now (automaton .entry)) l (setOf resets) w ⌝ }

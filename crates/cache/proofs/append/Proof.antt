@@ -4,10 +4,10 @@ use mathlib.Core.Path.{sym, ap, _∙_}
 use lib.ListN.{length}
 use borrow.Author.Needs.{needs}
 use Rattle.encoding.specs.Numbers.{be32}
-use Rattle.cache.specs.Placing.{placed}
+use Rattle.encoding.specs.Placing.{placed}
 use Rattle.cache.specs.Records.{recordOf}
 use Rattle.cache.specs.Consulting.{appended}
-use Rattle.cache.proofs.placing.Placed.{lent-placed}
+use Rattle.encoding.proofs.Placed.{lent-placed}
 use Rattle.cache.proofs.layouts.Written.{written-length}
 use Rattle.cache.proofs.append.Statement.{statement}
 use Rattle.cache.proofs.append.Tie as tie

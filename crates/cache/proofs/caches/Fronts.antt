@@ -9,15 +9,15 @@ use lib.ListN.{length, take, drop, length-append, length-drop, List·getD-append
 use lib.Seq.{length-take-le, drop-append-le, take-at, drop-drop, getD-drop}
 use native.Mathlib.Omega.{arith}
 use Rattle.encoding.specs.Numbers.{be32}
+use Rattle.encoding.proofs.Numbers.{be32-back}
 use Rattle.cache.specs.declared.layout.Layout.{Layout}
 use Rattle.cache.specs.Layouts.{headerLength, versionAt, longest, Laid}
-use Rattle.cache.specs.Placing.{placed}
+use Rattle.encoding.specs.Placing.{placed}
 use Rattle.cache.specs.Records.{measured, soundRecord, recordAutomaton}
 use Rattle.cache.specs.Lookups.{lookUp, isAbsent}
 use Rattle.cache.specs.Caches.{usedOf, versionOf, recordBytes, recordsIn, recordsOf, total, allSound, distinct, soundAs}
 use Rattle.cache.specs.Consulting.{Room, appended, emptyHeader}
 use Rattle.cache.proofs.layouts.Measured.{append-be32}
-use Rattle.cache.proofs.layouts.Written.{be32-back}
 use Rattle.cache.proofs.records.Splitting.{no-records, records-append, total-append}
 use Rattle.cache.proofs.records.Walking.{drop-take}
 use Rattle.cache.proofs.records.Looking.{distinct-append, sound-append}
@@ -87,7 +87,7 @@ with-front {p = p} f r h =
     let tail : length (drop versionAt p) ≡ length p - versionAt = length-drop versionAt p in
     record {
       long = omega (arith, size, f .long);
-      says = be32-back n rest h ∙ omega (arith, size, f .long);
+      says = be32-back n rest (omega (arith, h)) ∙ omega (arith, size, f .long);
       version = List·getD-append (drop versionAt p) r 0 0 (omega (arith, tail, f .long)) ∙ getD-drop versionAt p 0 0 ∙ f .version;
       bytes = drop-append-le 1 (drop versionAt p) r (omega (arith, tail, f .long)) ∙ ap (λ (t : List ℕ). t ++ r) (drop-drop 1 versionAt p ∙ f .bytes);
     }

@@ -7,7 +7,6 @@ use mathlib.Core.Path.{_≡_, refl, sym, ap, _∙_}
 use borrow.Author.Tests.{lt-ltb, le-ltb, ltb-false, eq-eqb, ne-eqb, le-leb, lt-leb}
 use lib.Dec.{ltb, eqb}
 use lib.ListN.{length, take, drop}
-use Rattle.automata.specs.Refusals.{refusalOf}
 use Rattle.search.specs.declared.verdict.Answer.{Answer}
 use Rattle.search.specs.declared.verdict.Answer.the-variants.{Found, Refused}
 use Rattle.search.specs.declared.verdict.Numbers.{Numbers}
@@ -15,7 +14,7 @@ use Rattle.search.specs.declared.verdict.Verdict.{Verdict}
 use Rattle.search.specs.Verdicts.{numbersOf}
 use Rattle.cache.specs.declared.layout.Layout.{Layout}
 use Rattle.cache.specs.declared.lookup.Lookup.the-variants as lookup
-use Rattle.cache.specs.Placing.{placed}
+use Rattle.encoding.specs.Placing.{placed}
 use Rattle.cache.specs.Layouts.{headerLength, longest}
 use Rattle.cache.specs.Records.{recordOf}
 use Rattle.cache.specs.Lookups.{lookUp}
@@ -111,19 +110,12 @@ module _ (L : Layout) (c : List ℕ) where
           sound-distinct h q g = g ∙ sym (by-records ∙ rw (sym h ∙ q) refl)
 
 -- ---- asking
-module _ (L : Layout) (c b : List ℕ) {k : ℕ} (e : k ≡ refusalOf b) where
-  pub asks-refused : (k ≡ 0 → ⊥) → lookup.Refused k ≡ lookUpAs L c b
+module _ (L : Layout) (c b : List ℕ) {t : Bool} (g : t ≡ soundAs L c) where
+  pub asks-unsound : t ≡ false → lookup.Refused 11 ≡ lookUpAs L c b
   unfolding lookUpAs
-  asks-refused h = rw (lookUpAs, ne-eqb (refusalOf b) 0 (λ z. h (e ∙ z))) (ap lookup.Refused e)
+  asks-unsound q = rw (lookUpAs, sym g ∙ q) refl
 
-  module _ (z : k ≡ 0) {t : Bool} (g : t ≡ soundAs L c) where
-    pub asks-unsound : t ≡ false → lookup.Refused 11 ≡ lookUpAs L c b
-    unfolding lookUpAs
-    asks-unsound q = rw (lookUpAs, eq-eqb (refusalOf b) 0 (sym e ∙ z), sym g ∙ q) refl
-
-    pub asks-sound : t ≡ true → {used : ℕ} → used ≡ usedOf c
-        → lookUp L (recordsIn L (take (used - headerLength) (drop headerLength c))) b ≡ lookUpAs L c b
-    unfolding lookUpAs
-    asks-sound q u =
-        rw (lookUpAs, eq-eqb (refusalOf b) 0 (sym e ∙ z), sym g ∙ q)
-        (ap (λ (x : ℕ). lookUp L (recordsIn L (take (x - headerLength) (drop headerLength c))) b) u)
+  pub asks-sound : t ≡ true → {used : ℕ} → used ≡ usedOf c
+      → lookUp L (recordsIn L (take (used - headerLength) (drop headerLength c))) b ≡ lookUpAs L c b
+  unfolding lookUpAs
+  asks-sound q u = rw (lookUpAs, sym g ∙ q) (ap (λ (x : ℕ). lookUp L (recordsIn L (take (x - headerLength) (drop headerLength c))) b) u)

@@ -12,6 +12,7 @@ use native.Mathlib.Omega.{arith}
 use Rattle.encoding.specs.Bytes.{sameBytes}
 use Rattle.encoding.proofs.Equality.{equal-same}
 use Rattle.automata.specs.Refusals.{refusalOf}
+use Rattle.automata.specs.Canonical.{isCanonical}
 use Rattle.search.specs.declared.verdict.Answer.{Answer}
 use Rattle.search.specs.declared.verdict.Answer.the-variants.{Found, Refused}
 use Rattle.search.specs.declared.verdict.Verdict.{Verdict}
@@ -22,7 +23,7 @@ use Rattle.search.proofs.answers.Given.{promised}
 use Rattle.cache.specs.declared.layout.Layout.{Layout}
 use Rattle.cache.specs.declared.lookup.Lookup.the-variants as lookup
 use Rattle.cache.specs.Layouts.{headerLength, longest, Laid}
-use Rattle.cache.specs.Placing.{placed}
+use Rattle.encoding.specs.Placing.{placed}
 use Rattle.cache.specs.Records.{measured, recordOf}
 use Rattle.cache.specs.Lookups.{lookUp, isAbsent}
 use Rattle.cache.specs.Caches.{recordsOf, soundAs}
@@ -50,14 +51,14 @@ given-refused : (b : List ℕ) (k : ℕ) → Given b (Refused k) → refusalOf b
 unfolding Given
 given-refused b k g ok n9 n10 = ⊎-elim (λ h. absurd (omega (arith, h .0, h .1))) (λ h. ⊎-elim n9 n10 (h .1)) g
 
-pub refused-store : (L : Layout) (c b : List ℕ) (s : List ℤ) (k : ℕ) → consultAnswerAs L c b (length s) ≡ Refused k → (k ≡ 9 → ⊥) → (k ≡ 10 → ⊥)
-    → consultStoreAs L c b s ≡ s
-refused-store L c b s k = go (way L c b (length s))
+pub refused-store : (L : Layout) (c b : List ℕ) (s : List ℤ) (k : ℕ) → refusalOf b ≡ 0 → consultAnswerAs L c b (length s) ≡ Refused k
+    → (k ≡ 9 → ⊥) → (k ≡ 10 → ⊥) → consultStoreAs L c b s ≡ s
+refused-store L c b s k ok = go (way L c b (length s))
   where
     go : {r : Answer} {c′ : List ℕ} → Way L c b (length s) r c′ → r ≡ Refused k → (k ≡ 9 → ⊥) → (k ≡ 10 → ⊥) → consultStoreAs L c b s ≡ s
     go (told v zones a f) e n9 n10 = f 0 s .2
     go (turned-down j f) e n9 n10 = f 0 s .2
-    go (stopped j a f) e n9 n10 = absurd (given-refused b k (rw (f ∙ e) at (promised b (length s) .given)) (a .accepted) n9 n10)
+    go (stopped j a f) e n9 n10 = absurd (given-refused b k (rw (f ∙ e) at (promised b (length s) .given)) ok n9 n10)
     go (filed v zones a f g) e n9 n10 = cc
 
 -- ---- an empty cache
@@ -102,10 +103,10 @@ module _ {L : Layout} (laid : Laid L) (c b : List ℕ) (amount : ℕ) (v : Verdi
   pub filed-records : recordsOf L (appended c new) ≡ recordsOf L c ++ (new ∷ [])
   filed-records = appended-records c new facts room laid measured-all (omega (arith, size, laid))
 
-  pub filed-sound : soundAs L (appended c new) ≡ true
+  pub filed-sound : isCanonical b ≡ true → soundAs L (appended c new) ≡ true
   unfolding isAbsent
-  filed-sound =
-      appended-sound c new facts room laid measured-all (omega (arith, size, laid)) (record-sound laid b v zones given short (a .accepted))
+  filed-sound ok =
+      appended-sound c new facts room laid measured-all (omega (arith, size, laid)) (record-sound laid b v zones given short ok)
       (ap (λ (x : List ℕ). isAbsent (lookUp L (recordsOf L c) x)) (written-automaton laid (numbersOf v) zones b) ∙ ap isAbsent (a .there))
 
   -- what is looked up there: what was there, else the new verdict of b
@@ -118,14 +119,15 @@ module _ {L : Layout} (laid : Laid L) (c b : List ℕ) (amount : ℕ) (v : Verdi
       ap (λ (rs : List (List ℕ)). lookUp L rs x) filed-records ∙ look-append L (recordsOf L c) new x
       ∙ (λ i. cond (isAbsent old) (cond (sameBytes (own i) x) (filed-back laid b v zones given short i) lookup.Absent) old)
 
-pub sound-stays : {L : Layout} → Laid L → (c b : List ℕ) (amount : ℕ) → soundAs L c ≡ true → soundAs L (consultCacheAs L c b amount) ≡ true
-sound-stays {L} laid c b amount h = go (way L c b amount)
+pub sound-stays : {L : Layout} → Laid L → (c b : List ℕ) (amount : ℕ) → isCanonical b ≡ true → soundAs L c ≡ true
+    → soundAs L (consultCacheAs L c b amount) ≡ true
+sound-stays {L} laid c b amount ok h = go (way L c b amount)
   where
     go : {r : Answer} {c′ : List ℕ} → Way L c b amount r c′ → soundAs L c′ ≡ true
     go (told v zones a f) = h
     go (turned-down k f) = h
     go (stopped k a f) = h
-    go (filed v zones a f e) = filed-sound laid c b amount v zones a f e
+    go (filed v zones a f e) = filed-sound laid c b amount v zones a f e ok
 
 -- ---- a record is written exactly where a verdict was reached that was not there
 module _ {L : Layout} (laid : Laid L) (c b : List ℕ) (amount : ℕ) where
@@ -160,29 +162,29 @@ abbrev Known : Layout → List ℕ → List ℕ → Answer → Type 0
 Known L c b (Found v zones) = Asked L c b (lookup.Filed v zones)
 Known L c b (Refused k) = Unit {0}
 
-known-once : {L : Layout} → Laid L → (c b : List ℕ) (amount : ℕ) {r : Answer} {c′ : List ℕ} → Way L c b amount r c′ → Known L c′ b r
+known-once : {L : Layout} → Laid L → (c b : List ℕ) (amount : ℕ) → isCanonical b ≡ true → {r : Answer} {c′ : List ℕ} → Way L c b amount r c′
+    → Known L c′ b r
 unfolding isAbsent
-known-once laid c b amount (told v zones a f) = a
-known-once laid c b amount (turned-down k f) = tt
-known-once laid c b amount (stopped k a f) = tt
-known-once laid c b amount (filed v zones a f e) = record {
-  accepted = a .accepted;
-  sound = filed-sound laid c b amount v zones a f e;
+known-once laid c b amount ok (told v zones a f) = a
+known-once laid c b amount ok (turned-down k f) = tt
+known-once laid c b amount ok (stopped k a f) = tt
+known-once laid c b amount ok (filed v zones a f e) = record {
+  sound = filed-sound laid c b amount v zones a f e ok;
   there = filed-there laid c b amount v zones a f e b ∙ rw (a .there, equal-same b);
 }
 
-pub known-answer : {L : Layout} → Laid L → (c b : List ℕ) (amount : ℕ) (v : Verdict) (zones : ℕ) → consultAnswerAs L c b amount ≡ Found v zones
-    → Asked L (consultCacheAs L c b amount) b (lookup.Filed v zones)
-known-answer {L} laid c b amount v zones e = subst (Known L (consultCacheAs L c b amount) b) e (known-once laid c b amount (way L c b amount))
+pub known-answer : {L : Layout} → Laid L → (c b : List ℕ) (amount : ℕ) → isCanonical b ≡ true → (v : Verdict) (zones : ℕ)
+    → consultAnswerAs L c b amount ≡ Found v zones → Asked L (consultCacheAs L c b amount) b (lookup.Filed v zones)
+known-answer {L} laid c b amount ok v zones e =
+    subst (Known L (consultCacheAs L c b amount) b) e (known-once laid c b amount ok (way L c b amount))
 
-pub known-stays : {L : Layout} → Laid L → (c b x : List ℕ) (amount : ℕ) (v : Verdict) (zones : ℕ) → Asked L c x (lookup.Filed v zones)
-    → {r : Answer} {c′ : List ℕ} → Way L c b amount r c′ → Asked L c′ x (lookup.Filed v zones)
+pub known-stays : {L : Layout} → Laid L → (c b x : List ℕ) (amount : ℕ) → isCanonical b ≡ true → (v : Verdict) (zones : ℕ)
+    → Asked L c x (lookup.Filed v zones) → {r : Answer} {c′ : List ℕ} → Way L c b amount r c′ → Asked L c′ x (lookup.Filed v zones)
 unfolding isAbsent
-known-stays laid c b x amount v zones h (told u n a f) = h
-known-stays laid c b x amount v zones h (turned-down k f) = h
-known-stays laid c b x amount v zones h (stopped k a f) = h
-known-stays laid c b x amount v zones h (filed u n a f e) = record {
-  accepted = h .accepted;
-  sound = filed-sound laid c b amount u n a f e;
+known-stays laid c b x amount ok v zones h (told u n a f) = h
+known-stays laid c b x amount ok v zones h (turned-down k f) = h
+known-stays laid c b x amount ok v zones h (stopped k a f) = h
+known-stays laid c b x amount ok v zones h (filed u n a f e) = record {
+  sound = filed-sound laid c b amount u n a f e ok;
   there = filed-there laid c b amount u n a f e x ∙ rw (h .there);
 }

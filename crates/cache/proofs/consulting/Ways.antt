@@ -1,14 +1,11 @@
 -- Consulting by its branches, in any layout: the definitions stay shut elsewhere.
 -- Assumes nothing.
 use Prim.Native.Nat.{ℕ, _+_}
-use mathlib.Core.Bool.{Bool, true, false, not, cond}
+use mathlib.Core.Bool.{Bool, true, false, cond}
 use mathlib.Core.List.{List, []}
 use mathlib.Core.Path.{_≡_, refl, sym, subst}
-use borrow.Author.Tests.{eqb-true, eq-eqb}
-use lib.Dec.{eqb}
 use lib.IntN.{ℤ}
 use lib.ListN.{length}
-use Rattle.automata.specs.Refusals.{refusalOf}
 use Rattle.search.specs.declared.verdict.Answer.{Answer}
 use Rattle.search.specs.declared.verdict.Answer.the-variants.{Found, Refused}
 use Rattle.search.specs.declared.verdict.Verdict.{Verdict}
@@ -30,24 +27,21 @@ Says lookup.Absent = Unit {0}
 Says (lookup.Refused k) = ⊥
 
 pub record Asked (L : Layout) (c b : List ℕ) (l : Lookup) : Type 0 where
-  pub accepted : refusalOf b ≡ 0
   pub sound : soundAs L c ≡ true
   pub there : lookUp L (recordsOf L c) b ≡ l
 
 module _ (L : Layout) (c b : List ℕ) where
   pub asked : (l : Lookup) → lookUpAs L c b ≡ l → Says l → Asked L c b l
   unfolding lookUpAs
-  asked l e n = go (eqb (refusalOf b) 0) (soundAs L c) refl refl e
+  asked l e n = go (soundAs L c) refl e
     where
-      go : (t u : Bool) → eqb (refusalOf b) 0 ≡ t → soundAs L c ≡ u
-          → cond (not t) (lookup.Refused (refusalOf b)) (cond u (lookUp L (recordsOf L c) b) (lookup.Refused 11)) ≡ l → Asked L c b l
-      go true true f g h = record { accepted = eqb-true (refusalOf b) 0 f; sound = g; there = h }
-      go true false f g h = absurd (subst Says (sym h) n)
-      go false u f g h = absurd (subst Says (sym h) n)
+      go : (t : Bool) → soundAs L c ≡ t → cond t (lookUp L (recordsOf L c) b) (lookup.Refused 11) ≡ l → Asked L c b l
+      go true g h = record { sound = g; there = h }
+      go false g h = absurd (subst Says (sym h) n)
 
   pub answered : (l : Lookup) → Asked L c b l → lookUpAs L c b ≡ l
   unfolding lookUpAs
-  answered l a = rw (lookUpAs, eq-eqb (refusalOf b) 0 (a .accepted), a .sound) (a .there)
+  answered l a = rw (lookUpAs, a .sound) (a .there)
 
   -- ---- answer, cache and store, by what the lookup says
   -- nothing is searched for: the cache and the store stand

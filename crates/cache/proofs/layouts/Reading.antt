@@ -4,11 +4,10 @@ use Prim.Native.Nat.{ℕ, _-_}
 use mathlib.Core.Bool.{Bool, true, false}
 use mathlib.Core.List.{List}
 use mathlib.Core.Path.{_≡_, refl, sym, ap, _∙_}
-use lib.Dec.{eqb}
 use lib.ListN.{length, take, drop, length-drop}
 use lib.Seq.{take-all}
 use native.Mathlib.Omega.{arith}
-use Rattle.automata.specs.Refusals.{refusalOf}
+use Rattle.automata.specs.Canonical.{isCanonical}
 use Rattle.search.specs.declared.verdict.Numbers.{Numbers}
 use Rattle.search.specs.Verdicts.{soundNumbers}
 use Rattle.cache.specs.declared.layout.Layout.{Layout}
@@ -18,11 +17,11 @@ module _ (L : Layout) (s : List ℕ) {x : Numbers} (e : x ≡ recordNumbers L s)
   numbers-test : soundNumbers (recordNumbers L s) ≡ t
   numbers-test = sym (h ∙ ap soundNumbers e)
 
-  pub record-by-refusal : {k : ℕ} → t ≡ true → k ≡ refusalOf (take (length s - L .head) (drop (L .head) s)) → eqb k 0 ≡ soundRecord L s
+  pub record-by-automaton : {u : Bool} → t ≡ true → u ≡ isCanonical (take (length s - L .head) (drop (L .head) s)) → u ≡ soundRecord L s
   unfolding soundRecord
-  record-by-refusal q r =
+  record-by-automaton q r =
       let all = take-all (length s - L .head) (drop (L .head) s) (omega (arith, length-drop (L .head) s)) in
-      rw (soundRecord, numbers-test, q) (ap (λ (x : ℕ). eqb x 0) (r ∙ ap refusalOf all))
+      rw (soundRecord, numbers-test, q) (r ∙ ap isCanonical all)
 
   pub record-by-numbers : t ≡ false → false ≡ soundRecord L s
   unfolding soundRecord

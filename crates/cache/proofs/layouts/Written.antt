@@ -1,16 +1,15 @@
 -- What is written is read back: a number of four bytes, and a record in any layout.
 -- Assumes nothing.
-use Prim.Native.Nat.{ℕ, _+_, _*_, _/_, _%_, _≤_}
+use Prim.Native.Nat.{ℕ, _+_, _*_, _≤_}
 use mathlib.Core.Bool.{true, _&&_}
 use mathlib.Core.List.{List, [], _∷_, _++_}
 use mathlib.Core.Path.{_≡_, sym, ap, _∙_}
-use lib.Dec.{eqb}
 use lib.ListN.{length, getD, drop}
 use lib.Seq.{drop-at, getD-at, getD-drop}
-use native.Mathlib.Nat.{div-div-eq-div-mul, mod-eq-of-lt}
 use native.Mathlib.Omega.{arith}
 use Rattle.encoding.specs.Numbers.{be16At, be32At, be32}
-use Rattle.automata.specs.Refusals.{refusalOf}
+use Rattle.encoding.proofs.Numbers.{be32-back}
+use Rattle.automata.specs.Canonical.{isCanonical}
 use Rattle.search.specs.declared.verdict.Answer.the-variants.{Found}
 use Rattle.search.specs.declared.verdict.Numbers.{Numbers}
 use Rattle.search.specs.declared.verdict.Verdict.{Verdict}
@@ -23,15 +22,7 @@ use Rattle.cache.specs.Layouts.{Laid, longest}
 use Rattle.cache.specs.Records.{recordNumbers, recordZones, recordAutomaton, measured, soundRecord, filedAs, numberBytes, recordOf, Fits}
 use Rattle.cache.proofs.layouts.Measured.{measured-field}
 
--- ---- a number
-pub be32-back : (x : ℕ) (rest : List ℕ) → x ≤ longest → be32At (be32 x ++ rest) 0 ≡ x
-unfolding be32At be16At be32
-be32-back x rest h =
-    let two : x / 256 / 256 ≡ x / 65536 = div-div-eq-div-mul x 256 256 in
-    let three : x / 65536 / 256 ≡ x / 16777216 = div-div-eq-div-mul x 65536 256 in
-    let top : x / 16777216 % 256 ≡ x / 16777216 = mod-eq-of-lt (omega arith) in
-    omega arith
-
+-- ---- a number of four bytes
 -- read behind p
 be32-drop : (at : ℕ) (s : List ℕ) → be32At s at ≡ be32At (drop at s) 0
 unfolding be32At be16At
@@ -42,7 +33,7 @@ be32-drop at s =
 
 be32-behind : (p : List ℕ) (x : ℕ) (rest : List ℕ) (at : ℕ) → length p ≡ at → x ≤ longest → be32At (p ++ (be32 x ++ rest)) at ≡ x
 be32-behind p x rest at e h =
-    be32-drop at (p ++ (be32 x ++ rest)) ∙ ap (λ (s : List ℕ). be32At s 0) (drop-at p (be32 x ++ rest) at e) ∙ be32-back x rest h
+    be32-drop at (p ++ (be32 x ++ rest)) ∙ ap (λ (s : List ℕ). be32At s 0) (drop-at p (be32 x ++ rest) at e) ∙ be32-back x rest (omega arith)
 
 -- ---- the fields of a record: each behind those before it
 module _ {L : Layout} (laid : Laid L) (x : Numbers) (zones : ℕ) (b : List ℕ) where
@@ -64,7 +55,7 @@ module _ {L : Layout} (laid : Laid L) (x : Numbers) (zones : ℕ) (b : List ℕ)
     pub written-measured : measured L whole ≡ length whole
     unfolding recordOf
     written-measured = measured-field L whole (length whole)
-        (be32-back (L .head + length b) (numberBytes x ++ (be32 zones ++ b)) (fits .size-fits) ∙ sym written-length)
+        (be32-back (L .head + length b) (numberBytes x ++ (be32 zones ++ b)) (omega (arith, fits .size-fits)) ∙ sym written-length)
         (omega (arith, written-length)) (omega arith)
 
     written-numbers : recordNumbers L whole ≡ x
@@ -98,8 +89,8 @@ module _ {L : Layout} (laid : Laid L) (b : List ℕ) (v : Verdict) (zones : ℕ)
   unfolding filedAs
   filed-back = λ i. Filed ((ap verdictOf numbers ∙ numbers-back b v zones g) i) (written-zones laid (numbersOf v) zones b fits i)
 
-  pub record-sound : refusalOf b ≡ 0 → soundRecord L (recordOf L (numbersOf v) zones b) ≡ true
+  pub record-sound : isCanonical b ≡ true → soundRecord L (recordOf L (numbersOf v) zones b) ≡ true
   unfolding soundRecord
   record-sound ok =
-      (λ i. soundNumbers (numbers i) && eqb (refusalOf (written-automaton laid (numbersOf v) zones b i)) 0)
+      (λ i. soundNumbers (numbers i) && isCanonical (written-automaton laid (numbersOf v) zones b i))
       ∙ rw (numbers-are-sound b v zones g, ok)

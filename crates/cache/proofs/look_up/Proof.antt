@@ -1,35 +1,35 @@
--- `look_up` meets its contract: a refused automaton, a cache that is not sound, or what the records say, all in version 1.
-use mathlib.Core.Path.{sym, _∙_}
-use native.Mathlib.Omega.{arith}
+-- `look_up` meets its contract: what the cache says of the form that was written, or the writer's refusal.
+use mathlib.Core.Path.{sym}
+use lib.Seq.{length-take-le}
 use borrow.Author.Needs.{needs}
-use Rattle.cache.specs.Layouts.{version1}
-use Rattle.cache.proofs.caches.Sounding.{Sound, sound-facts}
-use Rattle.cache.proofs.consulting.Asking.{asks-refused, asks-unsound, asks-sound}
+use Rattle.cache.proofs.consulting.Meeting.{form-within, looks-written, looks-turned-down}
 use Rattle.cache.proofs.look_up.Statement.{statement}
 use Rattle.cache.proofs.look_up.Tie as tie
 
--- past its test, the cache is sound
-sound-cache : (c : tie.Then2) → Sound version1 (c .before .before .before .before .before .before .args .cache .now)
-sound-cache c = sound-facts _ _ (sym (c .before .sound .ensures) ∙ c .if2 .taken)
+inside : tie.Need-slice-reshare-prefix-look-up-form
+inside c =
+    let wrote = c .before .before .before .before .before .write-canonical in
+    let a = c .before .before .before .before .before .before .before .before .before .before .args in
+    form-within (a .automaton .now) (a .form .now) (wrote .ensures .0) _ (c .before .length .given .1) (wrote .kept .1 .0)
+
+whole : tie.Need-slice-aggregate-look-up-form
+whole c = sym (length-take-le _ _ (inside (c .before)))
 
 returns : tie.Need-returns
-returns c = asks-refused _ _ _ (c .before .refusal .ensures) (c .if1 .taken)
+returns c =
+    let wrote = c .before .before .before .before .before .before .before .write-canonical .ensures in
+    let a = c .before .before .before .before .before .before .before .before .before .before .before .before .args in
+    let length = c .before .before .before .length in
+    (looks-written (a .automaton .now) (a .form .now) (wrote .0) _ _ (length .given .1) (wrote .1 .0) (c .look-up-form .ensures), wrote .1 .0)
 
 returns-2 : tie.Need-returns-2
 returns-2 c =
-    let then2 = c .before .before .before .before in
-    let else1 = then2 .before .before in
-    rw (c .before .version-1 .ensures .0) at (c .look-in .ensures)
-    ∙ asks-sound _ _ _ (else1 .before .refusal .ensures) (else1 .if1 .left) (then2 .before .sound .ensures) (then2 .if2 .taken)
-    (c .before .before .before .be32 .ensures)
-
-returns-3 : tie.Need-returns-3
-returns-3 c =
-    asks-unsound _ _ _ (c .before .before .before .refusal .ensures) (c .before .before .if1 .left) (c .before .sound .ensures) (c .if2 .left)
+    let wrote = c .before .before .before .before .before .write-canonical .ensures in
+    let a = c .before .before .before .before .before .before .before .before .before .before .args in
+    (looks-turned-down (a .automaton .now) (a .form .now) (wrote .0) _ _ (c .before .k .given .1), wrote .1 .0)
 
 pub look-up-spec : {M : Type 1} → statement M
 look-up-spec =
     tie.close
-    (tie.spec (λ c κs. search needs) returns (λ c κs. search needs) (λ c κs. omega (arith, sound-cache c)) (λ c. search needs)
-    (λ c. omega (arith, sound-cache (c .before))) (λ c. let f = sound-cache (c .before) in search needs)
-    (λ c. let f = sound-cache (c .before) in search needs) (λ c κs. search needs) (λ c κs. search needs) returns-2 returns-3)
+    (tie.spec (λ c κs. search needs) (λ c. search needs) inside whole (λ c κs. search needs) (λ c. search needs) (λ c. search needs) returns
+    (λ c. search needs) returns-2)

@@ -7,7 +7,7 @@ use Rattle.encoding.specs.Numbers.{be32}
 use Rattle.cache.specs.declared.layout.Layout.{Layout}
 use Rattle.cache.specs.Layouts.{headerLength, versionAt, version1}
 use Rattle.cache.specs.Consulting.{emptyHeader}
-use Rattle.cache.proofs.placing.Placed.{goes-on}
+use Rattle.encoding.proofs.Placed.{goes-on}
 use Rattle.cache.proofs.consulting.Asking.{empty-refused, empty-made}
 use Rattle.cache.proofs.make_empty.Statement.{statement}
 use Rattle.cache.proofs.make_empty.Tie as tie

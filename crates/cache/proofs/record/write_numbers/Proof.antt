@@ -4,7 +4,7 @@ use native.Mathlib.Omega.{arith}
 use borrow.Author.Needs.{needs}
 use Rattle.encoding.specs.Numbers.{be32}
 use Rattle.cache.specs.Records.{numberBytes}
-use Rattle.cache.proofs.placing.Placed.{goes-on}
+use Rattle.encoding.proofs.Placed.{goes-on}
 use Rattle.cache.proofs.record.write_numbers.Statement.{statement}
 use Rattle.cache.proofs.record.write_numbers.Tie as tie
 

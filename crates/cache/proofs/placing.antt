@@ -1,2 +1,0 @@
--- Bytes put at a place.
-pub mod Placed

@@ -1,0 +1,2 @@
+-- Where the edges of an automaton lie.
+pub mod Lying
