@@ -27,7 +27,7 @@ drawn b = edgesFrom (edgeSize b) b (11 + invariantsSize b) (edges b)
 unfoldable pub inOrder : List ℕ → Bool
 inOrder b = rising (drawn b)
 
--- "a shelf with any other card is now unsound": not turned down, and its own form (Forms, `decided`)
+-- "a shelf with any other card is now unsound": not turned down, and its own form (Forms, `OwnForm`, `decided`)
 unfoldable pub isCanonical : List ℕ → Bool
 isCanonical b = eqb (refusalOf b) 0 && inOrder b
 
@@ -35,6 +35,7 @@ isCanonical b = eqb (refusalOf b) 0 && inOrder b
 abbrev pub ordered : List ℕ → List Edge
 ordered b = sorted (drawn b)
 
+-- head, invariants, and the edges in order
 abbrev pub formLength : List ℕ → ℕ
 formLength b = 11 + invariantsSize b + length (ordered b) * edgeSize b
 

@@ -3,6 +3,7 @@ use Prim.Native.Nat.{ℕ}
 use mathlib.Core.Bool.{true, false}
 use mathlib.Core.List.{List, [], _∷_, _++_}
 use mathlib.Core.Path.{_≡_}
+use Rattle.automata.specs.Refusals.{refusalOf}
 use Rattle.automata.specs.Canonical.{inOrder, canonicalOf, toForm, toDrawn}
 
 -- one clock, two locations with limits 0 to 5 and 0 to 9, start 0, target 1: so many bytes, so many edges
@@ -26,6 +27,9 @@ abbrev pub one : List ℕ
 one = head 49 2 ++ (across ++ back)
 
 pub record Shown : Type 0 where
+  -- neither is turned down, and they have one form
+  pub north-free : refusalOf north ≡ 0
+  pub south-free : refusalOf south ≡ 0
   pub north-form : canonicalOf north ≡ one
   pub south-form : canonicalOf south ≡ one
   pub again : canonicalOf one ≡ one

@@ -16,7 +16,7 @@ use Rattle.cache.specs.declared.layout.Layout.{Layout}
 use Rattle.cache.specs.declared.lookup.Lookup.{Lookup}
 use Rattle.cache.specs.declared.lookup.Lookup.the-variants as lookup
 use Rattle.encoding.specs.Placing.{placed}
-use Rattle.cache.specs.Layouts.{headerLength, longest}
+use Rattle.cache.specs.Layouts.{headerLength, longest, version1}
 use Rattle.cache.specs.Records.{recordOf}
 use Rattle.cache.specs.Lookups.{lookUp, isAbsent}
 use Rattle.cache.specs.Caches.{usedOf, recordsOf, soundAs}
@@ -31,6 +31,9 @@ emptyHeader L = be32 headerLength ++ (L .version ∷ [])
 
 unfoldable pub makeEmptyAs : Layout → List ℕ → List ℕ
 makeEmptyAs L c = cond (ltb (length c) headerLength) c (placed 0 (emptyHeader L) c)
+
+abbrev pub makeEmptyCache : List ℕ → List ℕ
+makeEmptyCache c = makeEmptyAs version1 c
 
 -- ---- asking
 unfoldable pub lookUpAs : Layout → List ℕ → List ℕ → Lookup

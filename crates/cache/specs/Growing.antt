@@ -14,7 +14,8 @@ use Rattle.search.specs.Demands.{Robust}
 use Rattle.search.specs.Given.{Lasting}
 use Rattle.cache.specs.Layouts.{headerLength}
 use Rattle.cache.specs.Caches.{usedOf, sound}
-use Rattle.cache.specs.Drawn.{makeEmptyCache, lookUpIn, consultAnswer, consultCache, consultStore}
+use Rattle.cache.specs.Consulting.{makeEmptyCache}
+use Rattle.cache.specs.Drawn.{lookUpIn, consultAnswer, consultCache, consultStore}
 use Rattle.cache.specs.declared.lookup.Lookup.the-variants as lookup
 
 -- "grown from empty only by consulting": of any automata, with any buffers and stores, in any number. Between two consultings the used bytes
@@ -42,12 +43,15 @@ abbrev pub GivesBackAll : List ℕ → List ℕ → Verdict → ℕ → Type 0
 GivesBackAll c b v zones =
     (x : List ℕ) (room : ℕ) → formRefusal x room ≡ 0 → canonicalOf x ≡ canonicalOf b → GivesBack c x room v zones
 
--- What consulting c for b promises beside the equations, c′ being what it leaves: a refusal leaves the cache as it was, a sound cache stays
--- sound, and a verdict is given back by every cache that comes of this one. On a grown cache demand 3 holds of the answer, for b as drawn, and
--- "the filed verdict is the search's, at every store size that lets the search finish": of the search of its form.
-pub record Carried (c b : List ℕ) (r : Answer) (c′ : List ℕ) : Type 0 where
+-- What consulting c for b promises beside the equations, c′ and s′ being the cache and the store that it leaves: a refusal leaves the cache as it
+-- was, and but for 9 and 10 the store too; a sound cache stays sound; a verdict is given back by every cache that comes of this one. Demand 3
+-- holds of an answer that was not filed, for b as drawn. On a grown cache it holds of every answer, and "the filed verdict is the search's, at
+-- every store size that lets the search finish": of the search of its form.
+pub record Carried (c b : List ℕ) (room : ℕ) (s : List ℤ) (r : Answer) (c′ : List ℕ) (s′ : List ℤ) : Type 0 where
   pub unchanged : (k : ℕ) → r ≡ Refused k → c′ ≡ c
+  pub untouched : (k : ℕ) → r ≡ Refused k → (k ≡ 9 → ⊥) → (k ≡ 10 → ⊥) → s′ ≡ s
   pub stays : sound c ≡ true → sound c′ ≡ true
   pub back : (v : Verdict) (zones : ℕ) → r ≡ Found v zones → (c″ : List ℕ) → Later c′ c″ → GivesBackAll c″ b v zones
+  pub searched : lookUpIn c b room ≡ lookup.Absent → Robust b r
   pub robust : Grown c → Robust b r
   pub lasting : Grown c → (v : Verdict) (zones : ℕ) → r ≡ Found v zones → Lasting (canonicalOf b) r

@@ -4,7 +4,7 @@ pub mod lookup;
 mod record;
 mod records;
 
-use canonical::form::Form;
+use canonical::reply::Reply;
 use canonical::write_canonical;
 use encoding::be32;
 use encoding::bytes_of;
@@ -28,13 +28,12 @@ ghost use Prim.Native.Nat.{_+_, _≤_};
 ghost use lib.ListN.{length};
 ghost use Rattle.canonical.specs.Writing.{formBuffer};
 ghost use Rattle.search.specs.Given.{Given};
-ghost use Rattle.cache.specs.Layouts.{Laid, headerLength};
+ghost use Rattle.cache.specs.Layouts.{Laid, headerLength, version1};
 ghost use Rattle.cache.specs.Records.{recordOf, Fits};
 ghost use Rattle.cache.specs.Caches.{usedOf, soundAs, sound};
-ghost use Rattle.cache.specs.Layouts.{version1};
-ghost use Rattle.cache.specs.Consulting.{Room, Searches, appended, filing, makeEmptyReply, lookUpAs, consultAnswerAs, consultCacheAs};
-ghost use Rattle.cache.specs.Consulting.{consultStoreAs};
-ghost use Rattle.cache.specs.Drawn.{makeEmptyCache, lookUpIn, consultAnswer, consultCache, consultStore};
+ghost use Rattle.cache.specs.Consulting.{Room, Searches, appended, filing, makeEmptyReply, makeEmptyCache};
+ghost use Rattle.cache.specs.Consulting.{lookUpAs, consultAnswerAs, consultCacheAs, consultStoreAs};
+ghost use Rattle.cache.specs.Drawn.{lookUpIn, consultAnswer, consultCache, consultStore};
 ghost use Rattle.cache.specs.Growing.{Carried};
 
 // An empty cache: 0, or 12 if it has no room.
@@ -99,8 +98,8 @@ pub fn look_up(cache: &[u8], automaton: &[u8], form: &mut [u8]) -> Lookup
     ensures { λ r. ⌜ now (form .exit) ≡ formBuffer (now (automaton .entry)) (now (form .entry)) ⌝ }
 {
     match write_canonical(automaton, form) {
-        Form::Written(length) => look_up_form(cache, &form[..length]),
-        Form::Refused(k) => Lookup::Refused(k),
+        Reply::Written(length) => look_up_form(cache, &form[..length]),
+        Reply::Refused(k) => Lookup::Refused(k),
     }
 }
 
@@ -172,10 +171,11 @@ pub fn consult(cache: &mut [u8], automaton: &[u8], form: &mut [u8], store: &mut 
     ensures { λ r. ⌜ now (form .exit) ≡ formBuffer (now (automaton .entry)) (now (form .entry)) ⌝ }
     ensures { λ r. ⌜ now (store .exit)
         ≡ consultStore (now (cache .entry)) (now (automaton .entry)) (length (now (form .entry))) (now (store .entry)) ⌝ }
-    ensures { λ r. ⌜ Carried (now (cache .entry)) (now (automaton .entry)) r (now (cache .exit)) ⌝ }
+    ensures { λ r. ⌜ Carried (now (cache .entry)) (now (automaton .entry)) (length (now (form .entry))) (now (store .entry)) r
+        (now (cache .exit)) (now (store .exit)) ⌝ }
 {
     match write_canonical(automaton, form) {
-        Form::Written(length) => consult_form(cache, &form[..length], store),
-        Form::Refused(k) => Answer::Refused(k),
+        Reply::Written(length) => consult_form(cache, &form[..length], store),
+        Reply::Refused(k) => Answer::Refused(k),
     }
 }

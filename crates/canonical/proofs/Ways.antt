@@ -9,7 +9,7 @@ use native.Mathlib.Omega.{arith}
 use Rattle.encoding.specs.Placing.{placed}
 use Rattle.automata.specs.Canonical.{canonicalOf}
 use Rattle.automata.specs.Refusals.{refusalOf}
-use Rattle.canonical.specs.declared.form.Form.the-variants.{Written, Refused}
+use Rattle.canonical.specs.declared.reply.Reply.the-variants.{Written, Refused}
 use Rattle.canonical.specs.Writing.{formRefusal, formAnswer, formBuffer}
 
 -- the answer and the buffer of each, by the number that turns away

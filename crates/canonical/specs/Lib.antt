@@ -4,3 +4,4 @@ pub mod Comparing
 pub mod Numbers
 pub mod Edges
 pub mod Parts
+pub mod Examples

@@ -5,7 +5,7 @@ use mathlib.Core.List.{List, _∷_, _++_}
 use mathlib.Core.Path.{_≡_}
 use lib.ListN.{length, getD, take, drop}
 use Rattle.order.specs.Edges.{bytesLess, rising, insertEdge, sorted}
-use Rattle.order.specs.Laid.{nthEdge, edgesOf, numbered, joined}
+use Rattle.order.specs.Laid.{nthEdge, firstEdges, numbered, joined}
 
 -- edge i of this size is there
 abbrev pub Lies : ℕ → List ℕ → ℕ → Type 0
@@ -22,17 +22,17 @@ pub record Listed (size : ℕ) (s : List ℕ) (ns : List ℕ) (count : ℕ) : Ty
 abbrev pub listedBytes : ℕ → List ℕ → List ℕ → ℕ → List ℕ
 listedBytes size s ns count = joined (numbered size s (take count ns))
 
--- where edge x belongs: what stands before r is less, what stands at r is not
-pub record Belongs (size : ℕ) (s : List ℕ) (ns : List ℕ) (count : ℕ) (x : ℕ) (r : ℕ) : Type 0 where
-  pub inside : r ≤ count
-  pub before : 0 < r → bytesLess (nthEdge size s (getD ns (r - 1) 0)) (nthEdge size s x) ≡ true
-  pub behind : r < count → bytesLess (nthEdge size s (getD ns r 0)) (nthEdge size s x) ≡ false
+-- edge x belongs between lo and hi: what stands before lo is less, what stands at hi is greater
+pub record Between (size : ℕ) (s : List ℕ) (ns : List ℕ) (count : ℕ) (x : ℕ) (lo hi : ℕ) : Type 0 where
+  pub apart : lo ≤ hi
+  pub inside : hi ≤ count
+  pub before : 0 < lo → bytesLess (nthEdge size s (getD ns (lo - 1) 0)) (nthEdge size s x) ≡ true
+  pub behind : hi < count → bytesLess (nthEdge size s x) (nthEdge size s (getD ns hi 0)) ≡ true
 
--- and its bytes are new: nothing stands at r, or what x is less than
+-- its bytes are new, and it belongs at r; or they are those of the edge that is listed there
 pub record Positioned (size : ℕ) (s : List ℕ) (ns : List ℕ) (count : ℕ) (x : ℕ) (r : ℕ) (isNew : Bool) : Type 0 where
-  pub belongs : Belongs size s ns count x r
-  pub fresh : isNew ≡ true → r < count → bytesLess (nthEdge size s x) (nthEdge size s (getD ns r 0)) ≡ true
-  pub there : isNew ≡ false → (r < count) × (bytesLess (nthEdge size s x) (nthEdge size s (getD ns r 0)) ≡ false)
+  pub fresh : isNew ≡ true → Between size s ns count x r r
+  pub there : isNew ≡ false → (r < count) × (nthEdge size s (getD ns r 0) ≡ nthEdge size s x)
 
 -- x at k, where those from k on have moved up by one
 unfoldable pub putAt : List ℕ → ℕ → ℕ → ℕ → List ℕ
@@ -45,7 +45,7 @@ pub record Inserted (size : ℕ) (s : List ℕ) (old : List ℕ) (count : ℕ) (
   pub edges : numbered size s (take r ns) ≡ insertEdge (nthEdge size s x) (numbered size s (take count old))
 
 -- the numbers are those of the n edges in order
-pub record InOrder (size : ℕ) (s : List ℕ) (n : ℕ) (ns : List ℕ) (count : ℕ) : Type 0 where
+pub record Lists (size : ℕ) (s : List ℕ) (n : ℕ) (ns : List ℕ) (count : ℕ) : Type 0 where
   pub listed : Listed size s ns count
   pub few : count ≤ n
-  pub edges : numbered size s (take count ns) ≡ sorted (edgesOf size s n)
+  pub edges : numbered size s (take count ns) ≡ sorted (firstEdges size s n)

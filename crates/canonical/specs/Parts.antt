@@ -8,13 +8,13 @@ use Rattle.automata.specs.Accepted.{Complete}
 use Rattle.canonical.specs.declared.edges.Edges.{Edges}
 use Rattle.canonical.specs.declared.ordering.Order.{Order}
 use Rattle.canonical.specs.Edges.{edgesIn}
-use Rattle.canonical.specs.Numbers.{InOrder}
+use Rattle.canonical.specs.Numbers.{Lists}
 
 -- where the edges of an automaton lie, and their numbers in order
 pub record Sorted (b : List ℕ) (e : Edges) (o : Order) : Type 0 where
   pub complete : Complete b
   pub edges : e ≡ edgesIn b
-  pub order : InOrder (e .size) (drop (e .at) b) (e .count) (o .numbers) (o .count)
+  pub order : Lists (e .size) (drop (e .at) b) (e .count) (o .numbers) (o .count)
 
 -- what stands before the edges, which begin at `at`
 unfoldable pub frontOf : List ℕ → ℕ → ℕ → ℕ → List ℕ

@@ -5,8 +5,8 @@ use mathlib.Core.List.{List, [], _∷_}
 use mathlib.Core.Path.{_≡_, refl, ap, _∙_}
 use lib.ListN.{length, take, getD, set}
 use native.Mathlib.Omega.{arith}
-use Rattle.canonical.specs.declared.form.Form.{Form}
-use Rattle.canonical.specs.declared.form.Form.the-variants as form
+use Rattle.canonical.specs.declared.reply.Reply.{Reply}
+use Rattle.canonical.specs.declared.reply.Reply.the-variants as reply
 use Rattle.search.specs.declared.verdict.Answer.{Answer}
 use Rattle.search.specs.declared.verdict.Answer.the-variants.{Found, Refused}
 use Rattle.search.specs.declared.verdict.Verdict.{Verdict}
@@ -57,11 +57,11 @@ module _ {l : Lookup} (was : ℕ) (old : List ℕ) where
   tells-turned-down k e = rw e (refl, (refl, refl))
 
 -- ---- `tell_form`
-module _ {w : Form} (old : ℕ) where
-  pub tells-written : (n : ℕ) → w ≡ form.Written n → (0 ≡ formNumber w) × (n ≡ formTold w old)
+module _ {w : Reply} (old : ℕ) where
+  pub tells-written : (n : ℕ) → w ≡ reply.Written n → (0 ≡ formNumber w) × (n ≡ formTold w old)
   unfolding formNumber formTold
   tells-written n e = rw e (refl, refl)
 
-  pub tells-unwritten : (k : ℕ) → w ≡ form.Refused k → (k ≡ formNumber w) × (old ≡ formTold w old)
+  pub tells-unwritten : (k : ℕ) → w ≡ reply.Refused k → (k ≡ formNumber w) × (old ≡ formTold w old)
   unfolding formNumber formTold
   tells-unwritten k e = rw e (refl, refl)

@@ -2,8 +2,8 @@
 use Prim.Native.Nat.{ℕ}
 use mathlib.Core.Bool.{Bool, cond}
 use mathlib.Core.List.{List, _∷_, []}
-use Rattle.canonical.specs.declared.form.Form.{Form}
-use Rattle.canonical.specs.declared.form.Form.the-variants as form
+use Rattle.canonical.specs.declared.reply.Reply.{Reply}
+use Rattle.canonical.specs.declared.reply.Reply.the-variants as reply
 use Rattle.search.specs.declared.verdict.Answer.{Answer}
 use Rattle.search.specs.declared.verdict.Answer.the-variants.{Found, Refused}
 use Rattle.search.specs.declared.verdict.Verdict.{Verdict}
@@ -51,10 +51,10 @@ unfoldable pub soundNumber : Bool → ℕ
 soundNumber t = cond t 0 11
 
 -- ---- a form: 0 with its length in the lent place, or the refusal's number with the place as it was
-unfoldable pub formNumber : Form → ℕ
-formNumber (form.Written n) = 0
-formNumber (form.Refused k) = k
+unfoldable pub formNumber : Reply → ℕ
+formNumber (reply.Written n) = 0
+formNumber (reply.Refused k) = k
 
-unfoldable pub formTold : Form → ℕ → ℕ
-formTold (form.Written n) old = n
-formTold (form.Refused k) old = old
+unfoldable pub formTold : Reply → ℕ → ℕ
+formTold (reply.Written n) old = n
+formTold (reply.Refused k) old = old

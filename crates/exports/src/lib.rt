@@ -5,7 +5,7 @@ use cache::look_up;
 use cache::lookup::Lookup;
 use cache::make_empty;
 use cache::sound;
-use canonical::form::Form;
+use canonical::reply::Reply;
 use canonical::write_canonical;
 use search::search;
 use search::verdict::Answer;
@@ -16,8 +16,8 @@ ghost use lib.ListN.{length};
 ghost use Rattle.automata.specs.Refusals.{refusalOf};
 ghost use Rattle.search.specs.Answers.{searchAnswer, searchStore};
 ghost use Rattle.cache.specs.Caches.{sound};
-ghost use Rattle.cache.specs.Consulting.{makeEmptyReply};
-ghost use Rattle.cache.specs.Drawn.{makeEmptyCache, lookUpIn, consultAnswer, consultCache, consultStore};
+ghost use Rattle.cache.specs.Consulting.{makeEmptyReply, makeEmptyCache};
+ghost use Rattle.cache.specs.Drawn.{lookUpIn, consultAnswer, consultCache, consultStore};
 ghost use Rattle.canonical.specs.Writing.{formAnswer, formBuffer};
 ghost use Rattle.exports.specs.Replies.{verdictNumbers, over, answerNumber, told, lookupNumber, filedTold, lookupTold, soundNumber};
 ghost use Rattle.exports.specs.Replies.{formNumber, formTold};
@@ -84,16 +84,16 @@ pub extern "C" fn robustness_refusal(automaton: &[u8]) -> u32
 }
 
 // What came of writing a form: 0 with its length, or the refusal's number alone.
-fn tell_form(written: Form, length: &mut u64) -> u32
+fn tell_form(written: Reply, length: &mut u64) -> u32
     ensures { λ r. ⌜ r ≡ formNumber written ⌝ }
     ensures { λ r. ⌜ now (length .exit) ≡ formTold written (now (length .entry)) ⌝ }
 {
     match written {
-        Form::Written(n) => {
+        Reply::Written(n) => {
             *length = n as u64;
             0
         }
-        Form::Refused(k) => k,
+        Reply::Refused(k) => k,
     }
 }
 

@@ -8,7 +8,7 @@ use mathlib.Core.Path.{_≡_, sym, _∙_, subst}
 use lib.ListN.{length}
 use native.Mathlib.Omega.{arith}
 use Rattle.order.specs.Edges.{Edge, bytesLess, insertEdge, Member}
-use Rattle.order.proofs.Order.{irreflexive, asymmetric, Edges, less, same, more, edges}
+use Rattle.order.proofs.Order.{irreflexive, asymmetric, Trichotomy, less, same, more, trichotomy}
 use Rattle.order.proofs.Rising.{Above, Rising, above-all}
 
 -- ---- one law for each case
@@ -29,9 +29,9 @@ module _ (x y : Edge) (ys : List Edge) where
 pub insert-above : (w x : Edge) (ys : List Edge) → bytesLess w x ≡ true → Above w ys → Above w (insertEdge x ys)
 unfolding insertEdge
 insert-above w x [] h a = (h, tt)
-insert-above w x (y ∷ ys) h a = go (edges x y) (insert-above w x ys h (a .1))
+insert-above w x (y ∷ ys) h a = go (trichotomy x y) (insert-above w x ys h (a .1))
   where
-    go : Edges x y → Above w (insertEdge x ys) → Above w (insertEdge x (y ∷ ys))
+    go : Trichotomy x y → Above w (insertEdge x ys) → Above w (insertEdge x (y ∷ ys))
     go (less p q) k = subst (Above w) (sym (insert-before x y ys p)) (h, a)
     go (same e) k = subst (Above w) (sym (insert-same x y ys e)) a
     go (more p q) k = subst (Above w) (sym (insert-after x y ys p)) (a .0, k)
@@ -39,9 +39,9 @@ insert-above w x (y ∷ ys) h a = go (edges x y) (insert-above w x ys h (a .1))
 pub insert-rises : (x : Edge) (ys : List Edge) → Rising ys → Rising (insertEdge x ys)
 unfolding insertEdge
 insert-rises x [] r = (tt, tt)
-insert-rises x (y ∷ ys) r = go (edges x y) (insert-rises x ys (r .1))
+insert-rises x (y ∷ ys) r = go (trichotomy x y) (insert-rises x ys (r .1))
   where
-    go : Edges x y → Rising (insertEdge x ys) → Rising (insertEdge x (y ∷ ys))
+    go : Trichotomy x y → Rising (insertEdge x ys) → Rising (insertEdge x (y ∷ ys))
     go (less p q) k = subst Rising (sym (insert-before x y ys p)) ((p, above-all x y ys p (r .0)), r)
     go (same e) k = subst Rising (sym (insert-same x y ys e)) r
     go (more p q) k = subst Rising (sym (insert-after x y ys p)) (insert-above y x ys p (r .0), k)
@@ -50,9 +50,9 @@ insert-rises x (y ∷ ys) r = go (edges x y) (insert-rises x ys (r .1))
 pub inserted : (x z : Edge) (ys : List Edge) → Member z (x ∷ ys) → Member z (insertEdge x ys)
 unfolding insertEdge
 inserted x z [] m = m
-inserted x z (y ∷ ys) m = go (edges x y) (inserted x z ys) m
+inserted x z (y ∷ ys) m = go (trichotomy x y) (inserted x z ys) m
   where
-    go : Edges x y → (Member z (x ∷ ys) → Member z (insertEdge x ys)) → Member z (x ∷ y ∷ ys) → Member z (insertEdge x (y ∷ ys))
+    go : Trichotomy x y → (Member z (x ∷ ys) → Member z (insertEdge x ys)) → Member z (x ∷ y ∷ ys) → Member z (insertEdge x (y ∷ ys))
     go (less p q) k m = subst (Member z) (sym (insert-before x y ys p)) m
     go (same e) k (inl d) = subst (Member z) (sym (insert-same x y ys e)) (inl (d ∙ e))
     go (same e) k (inr m) = subst (Member z) (sym (insert-same x y ys e)) m
@@ -63,7 +63,7 @@ inserted x z (y ∷ ys) m = go (edges x y) (inserted x z ys) m
 pub not-more : (x z : Edge) (ys : List Edge) → Member z (insertEdge x ys) → Member z (x ∷ ys)
 unfolding insertEdge
 not-more x z [] m = m
-not-more x z (y ∷ ys) m = go (edges x y) (not-more x z ys) m
+not-more x z (y ∷ ys) m = go (trichotomy x y) (not-more x z ys) m
   where
     swap : Member z (x ∷ ys) → Member z (x ∷ y ∷ ys)
     swap (inl d) = inl d
@@ -73,7 +73,7 @@ not-more x z (y ∷ ys) m = go (edges x y) (not-more x z ys) m
     over k (inl d) = inr (inl d)
     over k (inr m) = swap (k m)
 
-    go : Edges x y → (Member z (insertEdge x ys) → Member z (x ∷ ys)) → Member z (insertEdge x (y ∷ ys)) → Member z (x ∷ y ∷ ys)
+    go : Trichotomy x y → (Member z (insertEdge x ys) → Member z (x ∷ ys)) → Member z (insertEdge x (y ∷ ys)) → Member z (x ∷ y ∷ ys)
     go (less p q) k m = subst (Member z) (insert-before x y ys p) m
     go (same e) k m = inr (subst (Member z) (insert-same x y ys e) m)
     go (more p q) k m = over k (subst (Member z) (insert-after x y ys p) m)
@@ -81,9 +81,9 @@ not-more x z (y ∷ ys) m = go (edges x y) (not-more x z ys) m
 pub insert-length : (x : Edge) (ys : List Edge) → length (insertEdge x ys) ≤ suc (length ys)
 unfolding insertEdge
 insert-length x [] = omega arith
-insert-length x (y ∷ ys) = go (edges x y) (insert-length x ys)
+insert-length x (y ∷ ys) = go (trichotomy x y) (insert-length x ys)
   where
-    go : Edges x y → length (insertEdge x ys) ≤ suc (length ys) → length (insertEdge x (y ∷ ys)) ≤ suc (suc (length ys))
+    go : Trichotomy x y → length (insertEdge x ys) ≤ suc (length ys) → length (insertEdge x (y ∷ ys)) ≤ suc (suc (length ys))
     go (less p q) k = rw (insert-before x y ys p) (omega arith)
     go (same e) k = rw (insert-same x y ys e) (omega arith)
     go (more p q) k = rw (insert-after x y ys p) (omega arith)

@@ -9,7 +9,7 @@ use lib.Seq.{take-at, drop-at, take-add, drop-drop, length-take-le}
 use native.Mathlib.Nat.{suc-mul, le-of-suc-le-suc, not-suc-le-zero}
 use native.Mathlib.Omega.{arith}
 use Rattle.order.specs.Edges.{Edge, Member}
-use Rattle.order.specs.Laid.{edgeBytes, edgesFrom, edgesOf, joined}
+use Rattle.order.specs.Laid.{edgeBytes, edgesFrom, firstEdges, joined}
 
 -- ---- lengths
 pub edge-length : (size : ℕ) (s : List ℕ) (at : ℕ) → at + size ≤ length s → length (edgeBytes size s at) ≡ size
@@ -44,7 +44,7 @@ behind size p (x ∷ es) rest z =
     ∙ ap (λ (k : ℕ). edgesFrom size ((p ++ x) ++ (joined es ++ rest)) k (length es)) m
     ∙ behind size (p ++ x) es rest (λ y k. z y (inr k))) i
 
-pub read-back : (size : ℕ) (es : List Edge) (rest : List ℕ) → Sized size es → edgesOf size (joined es ++ rest) (length es) ≡ es
+pub read-back : (size : ℕ) (es : List Edge) (rest : List ℕ) → Sized size es → firstEdges size (joined es ++ rest) (length es) ≡ es
 read-back size es rest z = behind size [] es rest z
 
 -- ---- the edges of a list of bytes

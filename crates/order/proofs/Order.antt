@@ -80,15 +80,15 @@ neither (x ∷ xs) (y ∷ ys) h k = go (numbers x y) (neither xs ys)
     go (more p) t = not-both (head-less y x ys xs p) k
 
 -- so of two edges one is less or they are equal
-pub data Edges (x y : Edge) : Type 0 where
-  less : bytesLess x y ≡ true → bytesLess y x ≡ false → Edges x y
-  same : x ≡ y → Edges x y
-  more : bytesLess y x ≡ true → bytesLess x y ≡ false → Edges x y
+pub data Trichotomy (x y : Edge) : Type 0 where
+  less : bytesLess x y ≡ true → bytesLess y x ≡ false → Trichotomy x y
+  same : x ≡ y → Trichotomy x y
+  more : bytesLess y x ≡ true → bytesLess x y ≡ false → Trichotomy x y
 
-pub edges : (x y : Edge) → Edges x y
-edges x y = go (bytesLess x y) (bytesLess y x) refl refl
+pub trichotomy : (x y : Edge) → Trichotomy x y
+trichotomy x y = go (bytesLess x y) (bytesLess y x) refl refl
   where
-    go : (t u : Bool) → bytesLess x y ≡ t → bytesLess y x ≡ u → Edges x y
+    go : (t u : Bool) → bytesLess x y ≡ t → bytesLess y x ≡ u → Trichotomy x y
     go true u h k = less h (asymmetric x y h)
     go false true h k = more k h
     go false false h k = same (neither x y h k)

@@ -10,7 +10,7 @@ use native.Mathlib.Nat.{le-of-suc-le-suc, not-suc-le-zero}
 use native.Mathlib.Omega.{arith}
 use Rattle.order.specs.Edges.{Edge, bytesLess, sorted, Member, SameEdges}
 use Rattle.order.specs.Places.{placeIn, numberIn}
-use Rattle.order.proofs.Order.{not-both, irreflexive, Edges, less, same, more, edges}
+use Rattle.order.proofs.Order.{not-both, irreflexive, Trichotomy, less, same, more, trichotomy}
 use Rattle.order.proofs.Sorted.{sorted-member}
 
 -- the bytes stand at n
@@ -21,7 +21,7 @@ pub record StandsAt (ys : List Edge) (x : Edge) (n : ℕ) : Type 0 where
 placed : (x : Edge) (ys : List Edge) → Member x ys → StandsAt ys x (placeIn ys x)
 unfolding placeIn
 placed x [] m = absurd m
-placed x (y ∷ ys) m = go (edges x y) (placed x ys) m
+placed x (y ∷ ys) m = go (trichotomy x y) (placed x ys) m
   where
     later : StandsAt ys x (placeIn ys x) → StandsAt (y ∷ ys) x (suc (placeIn ys x))
     later p = let h = p .inside in record { inside = omega arith; bytes = p .bytes }
@@ -31,7 +31,7 @@ placed x (y ∷ ys) m = go (edges x y) (placed x ys) m
     rest (inr b) (inl e) = not-both (ap (bytesLess y) (sym e) ∙ b) (irreflexive y)
     rest b (inr m) = m
 
-    go : Edges x y → (Member x ys → StandsAt ys x (placeIn ys x)) → Member x (y ∷ ys) → StandsAt (y ∷ ys) x (placeIn (y ∷ ys) x)
+    go : Trichotomy x y → (Member x ys → StandsAt ys x (placeIn ys x)) → Member x (y ∷ ys) → StandsAt (y ∷ ys) x (placeIn (y ∷ ys) x)
     go (less p q) k m = rw p (later (k (rest (inl p) m)))
     go (same e) k m =
         rw (ap (bytesLess x) (sym e) ∙ irreflexive x, ap (λ (z : Edge). bytesLess z x) (sym e) ∙ irreflexive x)

@@ -17,8 +17,9 @@ unfoldable pub edgesFrom : ℕ → List ℕ → ℕ → ℕ → List Edge
 edgesFrom size s at zero = []
 edgesFrom size s at (suc n) = edgeBytes size s at ∷ edgesFrom size s (at + size) n
 
-abbrev pub edgesOf : ℕ → List ℕ → ℕ → List Edge
-edgesOf size s n = edgesFrom size s 0 n
+-- the first n
+abbrev pub firstEdges : ℕ → List ℕ → ℕ → List Edge
+firstEdges size s n = edgesFrom size s 0 n
 
 -- the edges with these numbers
 abbrev pub numbered : ℕ → List ℕ → List ℕ → List Edge

@@ -4,16 +4,11 @@ use Prim.Native.Nat.{ℕ, _<_}
 use mathlib.Core.List.{List, [], _∷_, map}
 use mathlib.Core.Logic.{inl, inr}
 use mathlib.Core.Path.{_≡_, refl, sym, ap, _∙_, subst}
-use Rattle.runs.specs.Runs.{System, Step, wait, jump, jumps, Stand, first, after, last, StandsIn, Can, Steps, Run, Ends, Reaches}
+use Rattle.runs.specs.Runs.{System, Step, wait, jump, Stand, first, after, StandsIn, Can, Steps, Run, Reaches}
 use Rattle.runs.specs.Renumbering.{Renumbers, renumbered, carried, states, RunsAs}
 
-pub jumps-renumbered : (ρ : ℕ → ℕ) (xs : List Step) → jumps (renumbered ρ xs) ≡ map ρ (jumps xs)
-jumps-renumbered ρ [] = refl
-jumps-renumbered ρ (wait t ∷ xs) = jumps-renumbered ρ xs
-jumps-renumbered ρ (jump i ∷ xs) = ap (λ (ys : List ℕ). ρ i ∷ ys) (jumps-renumbered ρ xs)
-
 module _ (A B : System) (ρ : ℕ → ℕ) (same : A .Val → B .Val) (R : Renumbers A B ρ same) where
-  pub first-same : first B ≡ carried same (first A)
+  first-same : first B ≡ carried same (first A)
   first-same = λ i. record { at = R .start i; clocks = R .origin i }
 
   wait-same : (q : Stand (A .Val)) (t : ℕ) → after B (carried same q) (wait t) ≡ carried same (after A q (wait t))
@@ -37,7 +32,7 @@ module _ (A B : System) (ρ : ℕ → ℕ) (same : A .Val → B .Val) (R : Renum
         )
 
     -- the steps can be made, from any state
-    pub steps-same : (q : Stand (A .Val)) (xs : List Step) → q .at < R .locations → Steps A s e q xs → Steps B s e (carried same q) (renumbered ρ xs)
+    steps-same : (q : Stand (A .Val)) (xs : List Step) → q .at < R .locations → Steps A s e q xs → Steps B s e (carried same q) (renumbered ρ xs)
     steps-same q [] l h = tt
     steps-same q (wait t ∷ xs) l h =
         let rest = steps-same (after A q (wait t)) xs l (h .1) in
@@ -57,12 +52,6 @@ module _ (A B : System) (ρ : ℕ → ℕ) (same : A .Val → B .Val) (R : Renum
     states-along q (jump k ∷ xs) h =
         ap (λ (ps : List (Stand (B .Val))). carried same q ∷ ps)
         (ap (λ (p : Stand (B .Val)). states B p (renumbered ρ xs)) (jump-same q k (h .0 .0)) ∙ states-along (after A q (jump k)) xs (h .1))
-
-    last-along : (q : Stand (A .Val)) (xs : List Step) → Steps A s e q xs → last B (carried same q) (renumbered ρ xs) ≡ carried same (last A q xs)
-    last-along q [] h = refl
-    last-along q (wait t ∷ xs) h = ap (λ (p : Stand (B .Val)). last B p (renumbered ρ xs)) (wait-same q t) ∙ last-along (after A q (wait t)) xs (h .1)
-    last-along q (jump k ∷ xs) h =
-        ap (λ (p : Stand (B .Val)). last B p (renumbered ρ xs)) (jump-same q k (h .0 .0)) ∙ last-along (after A q (jump k)) xs (h .1)
 
     stands-along : (l : ℕ) (q : Stand (A .Val)) (xs : List Step) → Steps A s e q xs → StandsIn A l q xs
         → StandsIn B l (carried same q) (renumbered ρ xs)
@@ -85,17 +74,8 @@ module _ (A B : System) (ρ : ℕ → ℕ) (same : A .Val → B .Val) (R : Renum
     pub states-same : (xs : List Step) → Run A s e xs → states B (first B) (renumbered ρ xs) ≡ map (carried same) (states A (first A) xs)
     states-same xs r = ap (λ (p : Stand (B .Val)). states B p (renumbered ρ xs)) first-same ∙ states-along (first A) xs (r .1)
 
-    pub stands-same : (l : ℕ) (xs : List Step) → Run A s e xs → StandsIn A l (first A) xs → StandsIn B l (first B) (renumbered ρ xs)
+    stands-same : (l : ℕ) (xs : List Step) → Run A s e xs → StandsIn A l (first A) xs → StandsIn B l (first B) (renumbered ρ xs)
     stands-same l xs r m = subst (λ (p : Stand (B .Val)). StandsIn B l p (renumbered ρ xs)) (sym first-same) (stands-along l (first A) xs (r .1) m)
-
-    pub ends-same : (p : List ℕ) (l : ℕ) (v : A .Val) → Ends A s e p l v → Ends B s e (map ρ p) l (same v)
-    ends-same p l v E = record {
-      steps = renumbered ρ (E .steps);
-      run = run-same (E .steps) (E .run);
-      takes = jumps-renumbered ρ (E .steps) ∙ ap (map ρ) (E .takes);
-      here = ap (λ (q : Stand (B .Val)). last B q (renumbered ρ (E .steps))) first-same
-          ∙ last-along (first A) (E .steps) (E .run .1) ∙ ap (carried same) (E .here);
-    }
 
     pub reaches-same : Reaches A s e → Reaches B s e
     reaches-same h = record {
@@ -106,4 +86,4 @@ module _ (A B : System) (ρ : ℕ → ℕ) (same : A .Val → B .Val) (R : Renum
     }
 
   pub runs-as : RunsAs A B ρ same
-  runs-as = record { run = run-same; through = states-same }
+  runs-as = record { target = R .target; run = run-same; through = states-same }

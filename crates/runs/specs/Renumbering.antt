@@ -5,7 +5,7 @@ use mathlib.Core.Path.{_≡_}
 use Rattle.runs.specs.Runs.{System, Step, wait, jump, Stand, Run, first, after}
 
 -- Two systems that share all but the numbering of edges: edge i of A is edge ρ i of B.
--- They need agree on the invariants of the locations that a run can be in alone: those below `locations`.
+-- Of invariants they share those of the locations that a run can be in, all of them below `locations`.
 -- `same` takes a valuation of A to the same one of B; where both have one type of valuations it is λ v. v.
 pub record Renumbers (A B : System) (ρ : ℕ → ℕ) (same : A .Val → B .Val) : Type 0 where
   pub locations : ℕ
@@ -37,7 +37,8 @@ abbrev pub states : (A : System) → Stand (A .Val) → List Step → List (Stan
 states A q [] = q ∷ []
 states A q (x ∷ xs) = q ∷ states A (after A q x) xs
 
--- every run of A, its jumps renumbered, is a run of B through the same states
+-- every run of A, its jumps renumbered, is a run of B through the same states, and the same location is forbidden
 pub record RunsAs (A B : System) (ρ : ℕ → ℕ) (same : A .Val → B .Val) : Type 0 where
+  pub target : B .target ≡ A .target
   pub run : (s e : ℕ) (xs : List Step) → Run A s e xs → Run B s e (renumbered ρ xs)
   pub through : (s e : ℕ) (xs : List Step) → Run A s e xs → states B (first B) (renumbered ρ xs) ≡ map (carried same) (states A (first A) xs)

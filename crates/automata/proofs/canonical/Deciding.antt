@@ -10,14 +10,14 @@ use lib.Seq.{take-all, drop-cons, drop-drop}
 use native.Mathlib.Omega.{arith}
 use Rattle.encoding.specs.Numbers.{be16At, be32At, be16, be32}
 use Rattle.order.specs.Laid.{joined}
-use Rattle.order.proofs.Laid.{from-joined, from-length}
+use Rattle.order.proofs.Laid.{from-joined}
 use Rattle.order.proofs.Sorted.{sorted-rising, rising-sorted}
 use Rattle.automata.specs.Accepted.{Accepted}
 use Rattle.automata.specs.Automata.{lengthField, edges, edgeIn}
 use Rattle.automata.specs.Canonical.{edgeSize, invariantsSize, drawn, inOrder, ordered, canonicalOf}
 use Rattle.automata.specs.Forms.{Bytes}
 use Rattle.encoding.proofs.Numbers.{be16-own, be32-own}
-use Rattle.automata.proofs.canonical.Shape.{form-drawn}
+use Rattle.automata.proofs.canonical.Shape.{many-drawn, form-drawn}
 
 -- the bytes of an automaton by its parts
 parts : (b : List ℕ) → 11 ≤ length b → b ≡ (getD b 0 0 ∷ getD b 1 0 ∷ getD b 2 0 ∷ getD b 3 0 ∷ []) ++ (take 5 (drop 4 b)
@@ -35,9 +35,6 @@ parts b h =
     ∙ ap (λ (l : List ℕ). take (invariantsSize b) (drop 11 b) ++ l) (drop-drop (invariantsSize b) 11 b))))))))
 
 module _ (b : List ℕ) (a : Accepted b) where
-  many : length (drawn b) ≡ edges b
-  many = from-length (edgeSize b) b (11 + invariantsSize b) (edges b)
-
   drawn-rest : joined (drawn b) ≡ drop (11 + invariantsSize b) b
   unfolding edgeIn
   drawn-rest =
@@ -47,7 +44,7 @@ module _ (b : List ℕ) (a : Accepted b) where
 
   drawn-length : 11 + invariantsSize b + length (drawn b) * edgeSize b ≡ lengthField b
   unfolding edgeIn
-  drawn-length = ap (λ (n : ℕ). 11 + invariantsSize b + n * edgeSize b) many ∙ sym (a .complete .size) ∙ sym (a .field)
+  drawn-length = ap (λ (n : ℕ). 11 + invariantsSize b + n * edgeSize b) (many-drawn b) ∙ sym (a .complete .size) ∙ sym (a .field)
 
   rises-own : Bytes b → inOrder b ≡ true → canonicalOf b ≡ b
   unfolding canonicalOf inOrder be32At be16At
@@ -55,7 +52,7 @@ module _ (b : List ℕ) (a : Accepted b) where
       let o : ordered b ≡ drawn b = rising-sorted (drawn b) .0 r in
       let four = be32-own (getD b 0 0) (getD b 1 0) (getD b 2 0) (getD b 3 0) (y .byte 0) (y .byte 1) (y .byte 2) (y .byte 3) in
       let length-bytes = ap be32 drawn-length ∙ four in
-      let count-bytes = ap be16 many ∙ be16-own (getD b 9 0) (getD b 10 0) (y .byte 9) (y .byte 10) in
+      let count-bytes = ap be16 (many-drawn b) ∙ be16-own (getD b 9 0) (getD b 10 0) (y .byte 9) (y .byte 10) in
       (λ t. be32 (11 + invariantsSize b + length (o t) * edgeSize b)
       ++ (take 5 (drop 4 b) ++ (be16 (length (o t)) ++ (take (invariantsSize b) (drop 11 b) ++ joined (o t)))))
       ∙ (λ t. length-bytes t ++ (take 5 (drop 4 b) ++ (count-bytes t ++ (take (invariantsSize b) (drop 11 b) ++ drawn-rest t))))

@@ -8,13 +8,15 @@ use lib.Seq.{getD-take, getD-drop}
 use native.Mathlib.Omega.{arith}
 use Rattle.order.specs.Edges.{Edge}
 use Rattle.order.specs.Laid.{edgeBytes}
-use Rattle.order.proofs.Laid.{from-length, from-at}
+use Rattle.order.proofs.Laid.{from-at}
 use Rattle.order.proofs.Places.{StandsAt, number-sorted, number-drawn}
 use Rattle.automata.specs.Accepted.{Complete}
 use Rattle.automata.specs.Automata.{clocks, edges, edgeIn, edgeAt}
 use Rattle.automata.specs.Canonical.{edgeSize, invariantsSize, drawn, ordered, canonicalOf, toForm, toDrawn}
+use Rattle.automata.specs.Forms.{SameNumbered}
 use Rattle.automata.proofs.canonical.Alike.{Agree, Alike}
-use Rattle.automata.proofs.canonical.Shape.{clocks-same, locations-same, start-same, target-same, edges-form, form-invariants, form-drawn}
+use Rattle.automata.proofs.canonical.Shape.{many-drawn, clocks-same, locations-same, start-same, target-same, edges-form}
+use Rattle.automata.proofs.canonical.Shape.{form-invariants, form-drawn}
 
 -- ---- equal edges
 -- the bytes of edge i
@@ -39,14 +41,11 @@ same-edge b c i j g h m e =
 
 module _ (b : List ℕ) (w : Complete b) where
   -- ---- numbers
-  many-drawn : length (drawn b) ≡ edges b
-  many-drawn = from-length (edgeSize b) b (11 + invariantsSize b) (edges b)
-
   many-ordered : edges (canonicalOf b) ≡ length (ordered b)
   many-ordered = edges-form b (w .head) (w .edges≤)
 
   there : (i : ℕ) → i < edges b → StandsAt (ordered b) (getD (drawn b) i []) (toForm b i)
-  there i h = number-sorted (drawn b) i (omega (arith, many-drawn))
+  there i h = number-sorted (drawn b) i (omega (arith, many-drawn b))
 
   there< : (i : ℕ) → i < edges b → toForm b i < edges (canonicalOf b)
   there< i h = omega (arith, there i h .inside, many-ordered)
@@ -55,11 +54,18 @@ module _ (b : List ℕ) (w : Complete b) where
   back j h = number-drawn (drawn b) j (omega (arith, many-ordered))
 
   back< : (j : ℕ) → j < edges (canonicalOf b) → toDrawn b j < edges b
-  back< j h = omega (arith, back j h .inside, many-drawn)
+  back< j h = omega (arith, back j h .inside, many-drawn b)
 
   -- edge j of the form
   form-at : (j : ℕ) → getD (drawn (canonicalOf b)) j [] ≡ getD (ordered b) j []
   form-at j = ap (λ (es : List Edge). getD es j []) (form-drawn b w)
+
+  -- "up to the numbering of edges"
+  pub numbered-there : SameNumbered b (canonicalOf b) (toForm b)
+  numbered-there = record { inside = there<; bytes = λ i h. form-at (toForm b i) ∙ there i h .bytes }
+
+  pub numbered-back : SameNumbered (canonicalOf b) b (toDrawn b)
+  numbered-back = record { inside = back<; bytes = λ j h. back j h .bytes ∙ sym (form-at j) }
 
   size-same : invariantsSize (canonicalOf b) ≡ invariantsSize b
   size-same = λ t. 8 * clocks-same b (w .head) t * locations-same b (w .head) t
@@ -73,7 +79,7 @@ module _ (b : List ℕ) (w : Complete b) where
     target≡ = target-same b (w .head);
     invariants = form-invariants b w;
     edge = there<;
-    bytes = λ i h. same-edge b (canonicalOf b) i (toForm b i) (clocks-same b (w .head)) h (there< i h) (form-at (toForm b i) ∙ there i h .bytes);
+    bytes = λ i h. same-edge b (canonicalOf b) i (toForm b i) (clocks-same b (w .head)) h (there< i h) (numbered-there .bytes i h);
   }
 
   pub drawn-alike : Alike (canonicalOf b) b (toDrawn b)
@@ -84,5 +90,5 @@ module _ (b : List ℕ) (w : Complete b) where
     target≡ = sym (target-same b (w .head));
     invariants = record { byte = λ k h. sym (form-invariants b w .byte k (omega (arith, size-same))) };
     edge = back<;
-    bytes = λ j h. same-edge (canonicalOf b) b j (toDrawn b j) (sym (clocks-same b (w .head))) h (back< j h) (back j h .bytes ∙ sym (form-at j));
+    bytes = λ j h. same-edge (canonicalOf b) b j (toDrawn b j) (sym (clocks-same b (w .head))) h (back< j h) (numbered-back .bytes j h);
   }

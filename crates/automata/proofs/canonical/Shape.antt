@@ -17,8 +17,11 @@ use Rattle.automata.specs.Canonical.{edgeSize, invariantsSize, drawn, or
 use Rattle.automata.proofs.canonical.Alike.{Agree}
 use Rattle.encoding.proofs.Numbers.{be16-back, be32-back}
 
+pub many-drawn : (b : List ℕ) → length (drawn b) ≡ edges b
+many-drawn b = from-length (edgeSize b) b (11 + invariantsSize b) (edges b)
+
 pub fewer : (b : List ℕ) → length (ordered b) ≤ edges b
-fewer b = omega (arith, sorted-length (drawn b), from-length (edgeSize b) b (11 + invariantsSize b) (edges b))
+fewer b = omega (arith, sorted-length (drawn b), many-drawn b)
 
 -- what follows the head
 abbrev rest : List ℕ → List ℕ
@@ -78,7 +81,7 @@ module _ (b : List ℕ) (w : Complete b) where
   pub invariants-length : length (take (invariantsSize b) (drop 11 b)) ≡ invariantsSize b
   invariants-length = length-take-le (invariantsSize b) (drop 11 b) (omega (arith, whole, length-drop 11 b))
 
-  pub ordered-sized : Sized (edgeSize b) (ordered b)
+  ordered-sized : Sized (edgeSize b) (ordered b)
   ordered-sized x m = from-sized (edgeSize b) b (11 + invariantsSize b) (edges b) whole x (sorted-member (drawn b) x .0 m)
 
   -- ---- lengths

@@ -1,37 +1,17 @@
 -- What is asked of an automaton as drawn, by its two cases: its form is written, and then all is that of the form; or it is refused.
 -- Assumes nothing.
 use Prim.Native.Nat.{ℕ}
-use mathlib.Core.Bool.{Bool, true, false}
 use mathlib.Core.List.{List}
 use mathlib.Core.Path.{_≡_, refl}
-use borrow.Author.Tests.{eqb-true, eqb-false, eq-eqb, ne-eqb}
-use lib.Dec.{eqb}
+use borrow.Author.Tests.{eq-eqb, ne-eqb}
 use lib.IntN.{ℤ}
-use Rattle.automata.specs.Canonical.{isCanonical, canonicalOf}
-use Rattle.automata.specs.Forms.{Canonical}
+use Rattle.automata.specs.Canonical.{canonicalOf}
 use Rattle.canonical.specs.Writing.{formRefusal}
 use Rattle.search.specs.declared.verdict.Answer.the-variants.{Refused}
 use Rattle.cache.specs.declared.lookup.Lookup.the-variants as lookup
 use Rattle.cache.specs.Layouts.{version1}
 use Rattle.cache.specs.Consulting.{lookUpAs, consultAnswerAs, consultCacheAs, consultStoreAs}
 use Rattle.cache.specs.Drawn.{lookUpIn, consultAnswer, consultCache, consultStore}
-
--- ---- the two cases
-pub data Writing (b : List ℕ) (room : ℕ) : Type 0 where
-  written : formRefusal b room ≡ 0 → Writing b room
-  refused : (formRefusal b room ≡ 0 → ⊥) → Writing b room
-
-pub writing : (b : List ℕ) (room : ℕ) → Writing b room
-writing b room = go (eqb (formRefusal b room) 0) refl
-  where
-    go : (t : Bool) → eqb (formRefusal b room) 0 ≡ t → Writing b room
-    go true e = written (eqb-true (formRefusal b room) 0 e)
-    go false e = refused (eqb-false (formRefusal b room) 0 e)
-
--- a form is one that is filed
-pub form-sound : (b : List ℕ) → Canonical b → isCanonical (canonicalOf b) ≡ true
-unfolding isCanonical
-form-sound b f = rw (isCanonical, f .accepted, f .rises) refl
 
 module _ (c b : List ℕ) (room : ℕ) where
   module _ (z : formRefusal b room ≡ 0) where

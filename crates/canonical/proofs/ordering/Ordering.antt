@@ -8,9 +8,9 @@ use native.Mathlib.Nat.{suc-mul, mul-le-mul-right}
 use native.Mathlib.Numerals.{add-one}
 use native.Mathlib.Omega.{arith}
 use Rattle.order.specs.Edges.{Edge, rising, insertEdge, sorted}
-use Rattle.order.specs.Laid.{edgeBytes, nthEdge, edgesFrom, edgesOf}
+use Rattle.order.specs.Laid.{edgeBytes, nthEdge, edgesFrom, firstEdges}
 use Rattle.order.proofs.Splitting.{sorted-snoc}
-use Rattle.canonical.specs.Numbers.{Lies, Inserted, InOrder}
+use Rattle.canonical.specs.Numbers.{Lies, Inserted, Lists}
 
 -- one of n edges is there where all are
 pub lies-at : (size : ℕ) (s : List ℕ) (n i : ℕ) → n * size ≤ length s → i < n → Lies size s i
@@ -24,13 +24,13 @@ edges-snoc size s at (suc n) =
     ap (λ (es : List Edge). edgeBytes size s at ∷ es)
     (edges-snoc size s (at + size) n ∙ ap (λ (m : ℕ). edgesFrom size s (at + size) n ++ (edgeBytes size s m ∷ [])) e)
 
-one-more : (size : ℕ) (s : List ℕ) (i : ℕ) → edgesOf size s (i + 1) ≡ edgesOf size s i ++ (nthEdge size s i ∷ [])
+one-more : (size : ℕ) (s : List ℕ) (i : ℕ) → firstEdges size s (i + 1) ≡ firstEdges size s i ++ (nthEdge size s i ∷ [])
 one-more size s i =
     let e : 0 + i * size ≡ i * size = omega arith in
     ap (edgesFrom size s 0) (add-one i) ∙ edges-snoc size s 0 i ∙ ap (λ (m : ℕ). edgesFrom size s 0 i ++ (edgeBytes size s m ∷ [])) e
 
 -- none is listed
-pub order-none : (size : ℕ) (s : List ℕ) (ns : List ℕ) → length ns ≡ 256 → InOrder size s 0 ns 0
+pub order-none : (size : ℕ) (s : List ℕ) (ns : List ℕ) → length ns ≡ 256 → Lists size s 0 ns 0
 unfolding rising sorted edgesFrom
 order-none size s ns e = record {
   listed = record { array = e; room = omega arith; number = λ k h. absurd (omega arith); rises = refl };
@@ -39,11 +39,11 @@ order-none size s ns e = record {
 }
 
 -- edge i put among those before it
-pub order-more : (size : ℕ) (s : List ℕ) (ns : List ℕ) (count i : ℕ) {now : List ℕ} {r : ℕ} → InOrder size s i ns count
-    → Inserted size s ns count i now r → InOrder size s (i + 1) now r
+pub order-more : (size : ℕ) (s : List ℕ) (ns : List ℕ) (count i : ℕ) {now : List ℕ} {r : ℕ} → Lists size s i ns count
+    → Inserted size s ns count i now r → Lists size s (i + 1) now r
 order-more size s ns count i o p = record {
   listed = p .listed;
   few = omega (arith, o .few, p .more);
   edges = p .edges ∙ ap (insertEdge (nthEdge size s i)) (o .edges)
-      ∙ sym (ap sorted (one-more size s i) ∙ sorted-snoc (edgesOf size s i) (nthEdge size s i));
+      ∙ sym (ap sorted (one-more size s i) ∙ sorted-snoc (firstEdges size s i) (nthEdge size s i));
 }

@@ -3,7 +3,7 @@ use mathlib.Core.Path.{_≡_, sym, _∙_}
 use native.Mathlib.Omega.{arith}
 use borrow.Author.Needs.{needs}
 use Rattle.automata.proofs.accepting.Accepting.{accepted}
-use Rattle.automata.proofs.canonical.Theorems.{canonical}
+use Rattle.automata.proofs.canonical.Theorems.{form-laws}
 use Rattle.canonical.proofs.Ways.{refused, short, written}
 use Rattle.canonical.proofs.writing.Parts.{total≡, total-small}
 use Rattle.canonical.proofs.write_canonical.Statement.{statement}
@@ -13,7 +13,7 @@ returns : tie.Need-returns
 returns c =
     let a = c .before .before .before .before .args in
     let w = refused (a .automaton .now) (a .form .now) (c .before .refusal .ensures) (λ e. omega arith) in
-    (w .0, (w .1, canonical _))
+    (w .0, (w .1, form-laws _))
 
 edges-of-requires : tie.Need-edges-of-requires
 edges-of-requires c κs =
@@ -46,7 +46,7 @@ returns-2 c =
     let free = sym (refusal .refusal .ensures) ∙ number in
     let t = total≡ (a .automaton .now) (sort .before .edges-of .result) (sort .sort .result) (sort .sort .ensures) in
     let w = short (a .automaton .now) (a .form .now) free t (omega arith) in
-    (w .0, (w .1, canonical _))
+    (w .0, (w .1, form-laws _))
 
 write-form-requires : tie.Need-write-form-requires
 write-form-requires c κs =
@@ -65,7 +65,7 @@ returns-3 c =
     let free = sym (refusal .refusal .ensures) ∙ number in
     let t = total≡ (a .automaton .now) (sort .before .edges-of .result) (sort .sort .result) (sort .sort .ensures) in
     let w = written (a .automaton .now) (a .form .now) free t (omega arith) (form .write-form .ensures) in
-    (w .0, (w .1, canonical _))
+    (w .0, (w .1, form-laws _))
 
 pub write-canonical-spec : {M : Type 1} → statement M
 write-canonical-spec =

@@ -8,7 +8,7 @@ returns : tie.Need-returns
 returns c =
     let test = c .before .before .before in
     record-by-automaton _ _ (test .before .read-numbers .ensures) (test .numbers-sound .ensures) (c .before .before .if1 .taken)
-    (c .is-canonical .ensures)
+    (c .is-canonical .ensures .0)
 
 returns-2 : tie.Need-returns-2
 returns-2 c = record-by-numbers _ _ (c .before .before .read-numbers .ensures) (c .before .numbers-sound .ensures) (c .if1 .left)

@@ -4,7 +4,7 @@ use mathlib.Core.List.{List}
 use Prim.Native.Nat.{ℕ}
 use native.Mathlib.Omega.{arith}
 use borrow.Author.Needs.{needs}
-use Rattle.canonical.specs.Numbers.{InOrder}
+use Rattle.canonical.specs.Numbers.{Lists}
 use Rattle.canonical.proofs.edges.Lying.{edges-whole, few-edges, lent-part, part-whole}
 use Rattle.canonical.proofs.edges.sort.Statement.{statement}
 use Rattle.canonical.proofs.edges.sort.Tie as tie
@@ -31,7 +31,7 @@ returns c =
     record {
       complete = start .pre .0;
       edges = start .pre .1;
-      order = subst (λ (l : List ℕ). InOrder (e .size) l (e .count) (o .numbers) (o .count)) lent (c .order-of .ensures);
+      order = subst (λ (l : List ℕ). Lists (e .size) l (e .count) (o .numbers) (o .count)) lent (c .order-of .ensures);
     }
 
 pub sort-spec : {M : Type 1} → statement M

@@ -1,7 +1,7 @@
 // What comes of writing a form.
 
-// Its length, or the number of a refusal.
-pub enum Form {
+// The form's length, or the number of a refusal.
+pub enum Reply {
     Written(usize),
     Refused(u32),
 }
