@@ -1,11 +1,12 @@
 -- Numbers of edges in an array, of which the first `count` are there: what it means that they list the edges in order.
 use Prim.Native.Nat.{ℕ, _+_, _-_, _*_, _<_, _≤_}
-use mathlib.Core.Bool.{Bool, true, false}
+use mathlib.Core.Bool.{Bool, true, false, cond, _&&_}
 use mathlib.Core.List.{List, _∷_, _++_}
 use mathlib.Core.Path.{_≡_}
+use lib.Dec.{leb}
 use lib.ListN.{length, getD, take, drop}
-use Rattle.order.specs.Edges.{bytesLess, rising, insertEdge, sorted}
-use Rattle.order.specs.Laid.{nthEdge, firstEdges, numbered, joined}
+use Rattle.order.specs.Edges.{Edge, bytesLess, rising, insertEdge, sorted}
+use Rattle.order.specs.Laid.{nthEdge, edgesFrom, firstEdges, numbered, joined}
 
 -- edge i of this size is there
 abbrev pub Lies : ℕ → List ℕ → ℕ → Type 0
@@ -22,17 +23,17 @@ pub record Listed (size : ℕ) (s : List ℕ) (ns : List ℕ) (count : ℕ) : Ty
 abbrev pub listedBytes : ℕ → List ℕ → List ℕ → ℕ → List ℕ
 listedBytes size s ns count = joined (numbered size s (take count ns))
 
--- edge x belongs between lo and hi: what stands before lo is less, what stands at hi is greater
-pub record Between (size : ℕ) (s : List ℕ) (ns : List ℕ) (count : ℕ) (x : ℕ) (lo hi : ℕ) : Type 0 where
-  pub apart : lo ≤ hi
-  pub inside : hi ≤ count
-  pub before : 0 < lo → bytesLess (nthEdge size s (getD ns (lo - 1) 0)) (nthEdge size s x) ≡ true
-  pub behind : hi < count → bytesLess (nthEdge size s x) (nthEdge size s (getD ns hi 0)) ≡ true
+-- where edge x belongs: what stands before r is less, what stands at r is not
+pub record Belongs (size : ℕ) (s : List ℕ) (ns : List ℕ) (count : ℕ) (x : ℕ) (r : ℕ) : Type 0 where
+  pub inside : r ≤ count
+  pub before : 0 < r → bytesLess (nthEdge size s (getD ns (r - 1) 0)) (nthEdge size s x) ≡ true
+  pub behind : r < count → bytesLess (nthEdge size s (getD ns r 0)) (nthEdge size s x) ≡ false
 
--- its bytes are new, and it belongs at r; or they are those of the edge that is listed there
+-- and its bytes are new: nothing stands at r, or what x is less than
 pub record Positioned (size : ℕ) (s : List ℕ) (ns : List ℕ) (count : ℕ) (x : ℕ) (r : ℕ) (isNew : Bool) : Type 0 where
-  pub fresh : isNew ≡ true → Between size s ns count x r r
-  pub there : isNew ≡ false → (r < count) × (nthEdge size s (getD ns r 0) ≡ nthEdge size s x)
+  pub belongs : Belongs size s ns count x r
+  pub fresh : isNew ≡ true → r < count → bytesLess (nthEdge size s x) (nthEdge size s (getD ns r 0)) ≡ true
+  pub there : isNew ≡ false → (r < count) × (bytesLess (nthEdge size s x) (nthEdge size s (getD ns r 0)) ≡ false)
 
 -- x at k, where those from k on have moved up by one
 unfoldable pub putAt : List ℕ → ℕ → ℕ → ℕ → List ℕ
@@ -44,8 +45,25 @@ pub record Inserted (size : ℕ) (s : List ℕ) (old : List ℕ) (count : ℕ) (
   pub more : r ≤ count + 1
   pub edges : numbered size s (take r ns) ≡ insertEdge (nthEdge size s x) (numbered size s (take count old))
 
--- the numbers are those of the n edges in order
-pub record Lists (size : ℕ) (s : List ℕ) (n : ℕ) (ns : List ℕ) (count : ℕ) : Type 0 where
+-- the numbers are those of these n edges in order
+pub record ListsOf (size : ℕ) (s : List ℕ) (es : List Edge) (n : ℕ) (ns : List ℕ) (count : ℕ) : Type 0 where
   pub listed : Listed size s ns count
   pub few : count ≤ n
-  pub edges : numbered size s (take count ns) ≡ sorted (firstEdges size s n)
+  pub edges : numbered size s (take count ns) ≡ sorted es
+
+-- those of the first n
+abbrev pub Lists : ℕ → List ℕ → (n : ℕ) → List ℕ → (count : ℕ) → Type 0
+Lists size s n ns count = ListsOf size s (firstEdges size s n) n ns count
+
+-- ---- edges taken one by one, from the last to the first where they fall
+-- the first two fall
+unfoldable pub falling : ℕ → List ℕ → ℕ → Bool
+falling size s n = leb 2 n && bytesLess (nthEdge size s 1) (nthEdge size s 0)
+
+-- the one that is taken after i others
+abbrev pub takenAt : Bool → (n i : ℕ) → ℕ
+takenAt down n i = cond down (n - 1 - i) i
+
+-- the first i that are taken, in the automaton's order
+abbrev pub taken : ℕ → List ℕ → Bool → (n i : ℕ) → List Edge
+taken size s down n i = cond down (edgesFrom size s ((n - i) * size) i) (firstEdges size s i)

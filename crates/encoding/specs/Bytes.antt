@@ -11,7 +11,7 @@ sameBytes [] (y ∷ ys) = false
 sameBytes (x ∷ xs) [] = false
 sameBytes (x ∷ xs) (y ∷ ys) = cond (eqb x y) (sameBytes xs ys) false
 
--- ---- numbers that are bytes: two at a place, four, and eight
+-- ---- numbers that are bytes: two at a place, and four
 pub record Two (s : List ℕ) (at : ℕ) : Type 0 where
   pub first : getD s at 0 < 256
   pub second : getD s (at + 1) 0 < 256
@@ -19,7 +19,3 @@ pub record Two (s : List ℕ) (at : ℕ) : Type 0 where
 pub record Four (s : List ℕ) (at : ℕ) : Type 0 where
   pub front : Two s at
   pub back : Two s (at + 2)
-
-pub record Eight (s : List ℕ) (at : ℕ) : Type 0 where
-  pub front : Four s at
-  pub back : Four s (at + 4)

@@ -9,9 +9,6 @@ be16At s at = getD s at 0 * 256 + getD s (at + 1) 0
 unfoldable pub be32At : List ℕ → ℕ → ℕ
 be32At s at = be16At s at * 65536 + be16At s (at + 2)
 
-unfoldable pub be64At : List ℕ → ℕ → ℕ
-be64At s at = be32At s at * 4294967296 + be32At s (at + 4)
-
 -- the two bytes of a number, and its four, the largest first
 unfoldable pub be16 : ℕ → List ℕ
 be16 x = x / 256 % 256 ∷ x % 256 ∷ []

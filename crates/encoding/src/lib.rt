@@ -3,9 +3,9 @@ use bytes::copy;
 ghost use mathlib.Core.Path.{_≡_};
 ghost use Prim.Native.Nat.{_+_, _≤_, _<_};
 ghost use lib.ListN.{length};
-ghost use Rattle.encoding.specs.Numbers.{be16At, be32At, be64At, be16, be32};
+ghost use Rattle.encoding.specs.Numbers.{be16At, be32At, be16, be32};
 ghost use Rattle.encoding.specs.Placing.{placed};
-ghost use Rattle.encoding.specs.Bytes.{sameBytes, Two, Four, Eight};
+ghost use Rattle.encoding.specs.Bytes.{sameBytes, Two, Four};
 
 // A byte as a number.
 pub fn wide(x: u8) -> u32
@@ -57,20 +57,12 @@ pub fn bytes_of(x: u32) -> [u8; 4]
     ]
 }
 
-// The number of four bytes, which are bytes.
-fn word(s: &[u8], at: usize) -> u32
+// The number of four bytes, and that they are bytes: where numbers differ, the first byte that differs decides which is less.
+pub fn word(s: &[u8], at: usize) -> u32
     requires { ⌜ at + 4 ≤ length (now s) ⌝ }
     ensures { λ r. ⌜ (r ≡ be32At (now (s .entry)) at) × Four (now (s .entry)) at ⌝ }
 {
     two(s, at) * 65536 + two(s, at + 2)
-}
-
-// The number of eight bytes, and that they are bytes: where numbers differ, the first byte that differs decides which is less.
-pub fn long_word(s: &[u8], at: usize) -> u64
-    requires { ⌜ at + 8 ≤ length (now s) ⌝ }
-    ensures { λ r. ⌜ (r ≡ be64At (now (s .entry)) at) × Eight (now (s .entry)) at ⌝ }
-{
-    word(s, at) as u64 * 4294967296 + word(s, at + 4) as u64
 }
 
 // Whether two strings of bytes are the same: from both ends, since automata share long beginnings or ends.

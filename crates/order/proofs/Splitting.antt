@@ -1,17 +1,17 @@
--- Where an edge belongs in a rising list, by places counted from 0: what a search by halving finds.
+-- Where an edge belongs in a rising list, by places counted from 0: what a search from the end finds.
 -- Assumes nothing.
 use Prim.Native.Nat.{ℕ, zero, suc, _-_, _<_, _≤_}
-use mathlib.Core.Bool.{true}
+use mathlib.Core.Bool.{true, false}
 use mathlib.Core.List.{List, [], _∷_, _++_}
 use mathlib.Core.Logic.{inl, inr}
 use mathlib.Core.Path.{_≡_, refl, sym, ap, _∙_}
-use lib.ListN.{length, getD, take, drop, drop-of-length-le}
+use lib.ListN.{length, getD, take, drop, take-append-drop, drop-of-length-le}
 use lib.Seq.{drop-cons}
 use native.Mathlib.Decide.{decLe}
 use native.Mathlib.Nat.{le-of-suc-le-suc, not-suc-le-zero}
 use native.Mathlib.Omega.{arith}
 use Rattle.order.specs.Edges.{Edge, bytesLess, insertEdge, sorted, Member}
-use Rattle.order.proofs.Order.{transitive}
+use Rattle.order.proofs.Order.{transitive, neither}
 use Rattle.order.proofs.Rising.{Above, Rising}
 use Rattle.order.proofs.Inserting.{insert-before, insert-same, insert-after}
 use Rattle.order.proofs.Sorted.{same-sorted}
@@ -35,23 +35,24 @@ split : (l : List Edge) (k : ℕ) (x d : Edge) → Rising l → k ≤ length l
 split l zero x d r h b = refl
 split l (suc j) x d r h b = let e : suc j - 1 ≡ j = omega arith in passed l j x d r h (rw e at (b (omega arith)))
 
--- it stands at k, behind what is less and before what is not
-pub insert-here : (l : List Edge) (k : ℕ) (x d : Edge) → Rising l → k ≤ length l → (0 < k → bytesLess (getD l (k - 1) d) x ≡ true)
-    → (k < length l → bytesLess x (getD l k d) ≡ true) → insertEdge x l ≡ take k l ++ (x ∷ drop k l)
-unfolding insertEdge
-insert-here l k x d r h b g = split l k x d r h b ∙ ap (λ (zs : List Edge). take k l ++ zs) (go (decLe (length l) k))
-  where
-    go : Dec (length l ≤ k) → insertEdge x (drop k l) ≡ x ∷ drop k l
-    go (yes m) = rw (drop-of-length-le l m) refl
-    go (no m) = let e = drop-cons l k d (omega arith) in rw e (insert-before x (getD l k d) (drop (suc k) l) (g (omega arith)))
+module _ (l : List Edge) (k : ℕ) (x d : Edge) (r : Rising l) (h : k ≤ length l) (b : 0 < k → bytesLess (getD l (k - 1) d) x ≡ true) where
+  -- it stands at k, before what is not less
+  pub insert-here : (k < length l → bytesLess x (getD l k d) ≡ true) → insertEdge x l ≡ take k l ++ (x ∷ drop k l)
+  unfolding insertEdge
+  insert-here g = split l k x d r h b ∙ ap (λ (zs : List Edge). take k l ++ zs) (go (decLe (length l) k))
+    where
+      go : Dec (length l ≤ k) → insertEdge x (drop k l) ≡ x ∷ drop k l
+      go (yes m) = rw (drop-of-length-le l m) refl
+      go (no m) = let e = drop-cons l k d (omega arith) in rw e (insert-before x (getD l k d) (drop (suc k) l) (g (omega arith)))
 
--- or its bytes stand there
-pub insert-there : (l : List Edge) (k : ℕ) (x d : Edge) → Rising l → k < length l → getD l k d ≡ x → insertEdge x l ≡ l
-insert-there [] k x d r h e = absurd (not-suc-le-zero h)
-insert-there (y ∷ ys) zero x d r h e = insert-same x y ys (sym e)
-insert-there (y ∷ ys) (suc j) x d r h e =
-    let g : j < length ys = le-of-suc-le-suc h in
-    insert-after x y ys (rw e at (above-at y ys j d (r .0) g)) ∙ ap (λ (zs : List Edge). y ∷ zs) (insert-there ys j x d (r .1) g e)
+  -- or its bytes stand there
+  pub insert-there : k < length l → bytesLess (getD l k d) x ≡ false → bytesLess x (getD l k d) ≡ false → insertEdge x l ≡ l
+  insert-there m p q =
+      let e = drop-cons l k d m in
+      split l k x d r h b
+      ∙ ap (λ (zs : List Edge). take k l ++ insertEdge x zs) e
+      ∙ ap (λ (zs : List Edge). take k l ++ zs) (insert-same x (getD l k d) (drop (suc k) l) (neither x (getD l k d) q p) ∙ sym e)
+      ∙ take-append-drop k l
 
 -- ---- one edge more at the end
 snoc-cons : (z x : Edge) (xs : List Edge) → Member z (xs ++ (x ∷ [])) → Member z (x ∷ xs)

@@ -1,16 +1,17 @@
 -- The edges one by one, each put among those before it.
 -- Assumes nothing.
-use Prim.Native.Nat.{ℕ, zero, suc, _+_, _*_, _<_, _≤_}
+use Prim.Native.Nat.{ℕ, zero, suc, _+_, _-_, _*_, _<_, _≤_}
+use mathlib.Core.Bool.{Bool, true, false}
 use mathlib.Core.List.{List, [], _∷_, _++_}
 use mathlib.Core.Path.{_≡_, refl, sym, ap, _∙_}
 use lib.ListN.{length}
-use native.Mathlib.Nat.{suc-mul, mul-le-mul-right}
+use native.Mathlib.Nat.{suc-mul, mul-le-mul-right, sub-self}
 use native.Mathlib.Numerals.{add-one}
 use native.Mathlib.Omega.{arith}
 use Rattle.order.specs.Edges.{Edge, rising, insertEdge, sorted}
 use Rattle.order.specs.Laid.{edgeBytes, nthEdge, edgesFrom, firstEdges}
 use Rattle.order.proofs.Splitting.{sorted-snoc}
-use Rattle.canonical.specs.Numbers.{Lies, Inserted, Lists}
+use Rattle.canonical.specs.Numbers.{Lies, Inserted, ListsOf, takenAt, taken}
 
 -- one of n edges is there where all are
 pub lies-at : (size : ℕ) (s : List ℕ) (n i : ℕ) → n * size ≤ length s → i < n → Lies size s i
@@ -29,21 +30,43 @@ one-more size s i =
     let e : 0 + i * size ≡ i * size = omega arith in
     ap (edgesFrom size s 0) (add-one i) ∙ edges-snoc size s 0 i ∙ ap (λ (m : ℕ). edgesFrom size s 0 i ++ (edgeBytes size s m ∷ [])) e
 
+-- ---- the edges that are taken
+module _ (size : ℕ) (s : List ℕ) (n : ℕ) where
+  pub taken-none : (down : Bool) → taken size s down n 0 ≡ []
+  unfolding edgesFrom
+  taken-none true = refl
+  taken-none false = refl
+
+  pub taken-more : (down : Bool) (i : ℕ) → i < n
+      → insertEdge (nthEdge size s (takenAt down n i)) (sorted (taken size s down n i)) ≡ sorted (taken size s down n (i + 1))
+  unfolding edgesFrom sorted
+  taken-more true i h =
+      let at : n - 1 - i ≡ n - (i + 1) = omega arith in
+      let k : n - i ≡ suc (n - (i + 1)) = omega arith in
+      let next : (n - i) * size ≡ (n - (i + 1)) * size + size = ap (λ (m : ℕ). m * size) k ∙ suc-mul (n - (i + 1)) size in
+      (λ t. insertEdge (nthEdge size s (at t)) (sorted (edgesFrom size s (next t) i)))
+      ∙ ap (λ (m : ℕ). sorted (edgesFrom size s ((n - (i + 1)) * size) m)) (sym (add-one i))
+  taken-more false i h = sym (ap sorted (one-more size s i) ∙ sorted-snoc (firstEdges size s i) (nthEdge size s i))
+
+  pub taken-all : (down : Bool) → taken size s down n n ≡ firstEdges size s n
+  taken-all true = let e : (n - n) * size ≡ 0 = omega (arith, ap (λ (m : ℕ). m * size) (sub-self n)) in ap (λ (m : ℕ). edgesFrom size s m n) e
+  taken-all false = refl
+
 -- none is listed
-pub order-none : (size : ℕ) (s : List ℕ) (ns : List ℕ) → length ns ≡ 256 → Lists size s 0 ns 0
-unfolding rising sorted edgesFrom
-order-none size s ns e = record {
+pub order-none : (size : ℕ) (s : List ℕ) (down : Bool) (n : ℕ) (ns : List ℕ) → length ns ≡ 256 → ListsOf size s (taken size s down n 0) 0 ns 0
+unfolding rising sorted
+order-none size s down n ns e = record {
   listed = record { array = e; room = omega arith; number = λ k h. absurd (omega arith); rises = refl };
   few = omega arith;
-  edges = refl;
+  edges = sym (ap sorted (taken-none size s n down));
 }
 
--- edge i put among those before it
-pub order-more : (size : ℕ) (s : List ℕ) (ns : List ℕ) (count i : ℕ) {now : List ℕ} {r : ℕ} → Lists size s i ns count
-    → Inserted size s ns count i now r → Lists size s (i + 1) now r
-order-more size s ns count i o p = record {
+-- one more put among those before it
+pub order-more : (size : ℕ) (s : List ℕ) (down : Bool) (n : ℕ) (ns : List ℕ) (count i : ℕ) {x : ℕ} {now : List ℕ} {r : ℕ} → i < n
+    → ListsOf size s (taken size s down n i) i ns count → x ≡ takenAt down n i → Inserted size s ns count x now r
+    → ListsOf size s (taken size s down n (i + 1)) (i + 1) now r
+order-more size s down n ns count i h o e p = record {
   listed = p .listed;
   few = omega (arith, o .few, p .more);
-  edges = p .edges ∙ ap (insertEdge (nthEdge size s i)) (o .edges)
-      ∙ sym (ap sorted (one-more size s i) ∙ sorted-snoc (firstEdges size s i) (nthEdge size s i));
+  edges = p .edges ∙ (λ t. insertEdge (nthEdge size s (e t)) (o .edges t)) ∙ taken-more size s n down i h;
 }

@@ -1,56 +1,61 @@
--- Where an edge belongs, by halving: what stands before lo is less, what stands at hi is greater. It needs no order of those between.
+-- Where an edge belongs, by halving: what stands before lo is less, what stands at hi is not. It needs no order of those between.
 -- Assumes nothing.
 use Prim.Native.Nat.{ℕ, _+_, _-_, _/_, _<_, _≤_}
-use mathlib.Core.Bool.{true, false, true≢false}
+use mathlib.Core.Bool.{Bool, true, false, true≢false}
 use mathlib.Core.List.{List}
-use mathlib.Core.Path.{_≡_, sym}
+use mathlib.Core.Path.{_≡_, sym, _∙_, subst}
 use lib.ListN.{getD}
 use native.Mathlib.Omega.{arith}
 use Rattle.order.specs.Edges.{Edge, bytesLess}
 use Rattle.order.specs.Laid.{nthEdge}
-use Rattle.canonical.specs.Comparing.{comparedOf}
-use Rattle.canonical.specs.Numbers.{Between, Positioned}
-use Rattle.canonical.specs.declared.ordering.Compared.{Compared}
-use Rattle.canonical.specs.declared.ordering.Compared.the-variants.{Less, Equal, Greater}
-use Rattle.canonical.proofs.ordering.Comparing.{is-less, is-equal, is-greater}
+use Rattle.canonical.specs.Numbers.{Belongs, Positioned}
+
+pub record Between (size : ℕ) (s : List ℕ) (ns : List ℕ) (count : ℕ) (x : ℕ) (lo hi : ℕ) : Type 0 where
+  pub apart : lo ≤ hi
+  pub inside : hi < count
+  pub before : 0 < lo → bytesLess (nthEdge size s (getD ns (lo - 1) 0)) (nthEdge size s x) ≡ true
+  pub behind : bytesLess (nthEdge size s (getD ns hi 0)) (nthEdge size s x) ≡ false
 
 pub middle : (lo hi : ℕ) → lo < hi → (lo ≤ lo + (hi - lo) / 2) × (lo + (hi - lo) / 2 < hi)
 middle lo hi h = (omega arith, omega arith)
 
 module _ (size : ℕ) (s : List ℕ) (ns : List ℕ) (count : ℕ) (x : ℕ) where
-  -- nothing stands outside
-  pub between-all : Between size s ns count x 0 count
-  between-all = record { apart = omega arith; inside = omega arith; before = λ h. absurd (omega arith); behind = λ h. absurd (omega arith) }
+  abbrev at : ℕ → Edge
+  at k = nthEdge size s (getD ns k 0)
 
-  -- the place is found
-  pub place-new : (lo hi : ℕ) → Between size s ns count x lo hi → hi ≤ lo → Positioned size s ns count x lo true
-  place-new lo hi b h =
-      let same : hi ≡ lo = omega (arith, b .apart) in
-      let here : Between size s ns count x lo lo = rw same at b in
-      record { fresh = λ e. here; there = λ e. absurd (true≢false e) }
+  -- its bytes are new where nothing stands, or what it is less than
+  outside : {r : ℕ} → Belongs size s ns count x r → count ≤ r → Positioned size s ns count x r true
+  outside b h = record { belongs = b; fresh = λ e g. absurd (omega arith); there = λ e. absurd (true≢false e) }
 
-  -- or one between lo and hi is tested
+  tested : {r : ℕ} {t : Bool} → Belongs size s ns count x r → r < count → t ≡ bytesLess (nthEdge size s x) (at r) → Positioned size s ns count x r t
+  tested b h e = record { belongs = b; fresh = λ f g. sym e ∙ f; there = λ f. (h, sym e ∙ f) }
+
+  pub place-none : count ≡ 0 → Positioned size s ns count x 0 true
+  place-none e =
+      outside (record { inside = omega arith; before = λ h. absurd (omega arith); behind = λ h. absurd (omega arith) }) (omega arith)
+
+  -- the last one is tested
+  module _ {t : Bool} (e : t ≡ bytesLess (at (count - 1)) (nthEdge size s x)) where
+    pub place-last : t ≡ true → Positioned size s ns count x count true
+    place-last f = outside (record { inside = omega arith; before = λ h. sym e ∙ f; behind = λ h. absurd (omega arith) }) (omega arith)
+
+    pub between-all : t ≡ false → 0 < count → Between size s ns count x 0 (count - 1)
+    between-all f h = record { apart = omega arith; inside = omega arith; before = λ g. absurd (omega arith); behind = sym e ∙ f }
+
+  -- and then one between lo and hi
   module _ (lo hi mid : ℕ) (b : Between size s ns count x lo hi) (h : (lo ≤ mid) × (mid < hi))
-      {r : Compared} (e : r ≡ comparedOf (nthEdge size s (getD ns mid 0)) (nthEdge size s x)) where
-    pub upper-half : r ≡ Less → Between size s ns count x (mid + 1) hi
+      {t : Bool} (e : t ≡ bytesLess (at mid) (nthEdge size s x)) where
+    pub upper-half : t ≡ true → Between size s ns count x (mid + 1) hi
     upper-half f =
         let m : mid + 1 - 1 ≡ mid = omega arith in
-        record { apart = omega arith; inside = b .inside; before = λ g. rw m (is-less _ _ e f); behind = b .behind }
+        record { apart = omega arith; inside = b .inside; before = λ g. rw m (sym e ∙ f); behind = b .behind }
 
-    pub lower-half : r ≡ Greater → Between size s ns count x lo mid
-    lower-half f =
-        record { apart = h .0; inside = omega (arith, b .inside); before = b .before; behind = λ g. is-greater _ _ e f }
+    pub lower-half : t ≡ false → Between size s ns count x lo mid
+    lower-half f = record { apart = h .0; inside = omega (arith, b .inside); before = b .before; behind = sym e ∙ f }
 
-    pub place-listed : r ≡ Equal → Positioned size s ns count x mid false
-    place-listed f = record { fresh = λ g. absurd (true≢false (sym g)); there = λ g. (omega (arith, b .inside), is-equal _ _ e f) }
-
-  -- so one of all is
-  module _ (near : ℕ) (h : near < count) {r : Compared} (e : r ≡ comparedOf (nthEdge size s (getD ns near 0)) (nthEdge size s x)) where
-    pub upper-part : r ≡ Less → Between size s ns count x (near + 1) count
-    upper-part = upper-half 0 count near between-all (omega arith, h) e
-
-    pub lower-part : r ≡ Greater → Between size s ns count x 0 near
-    lower-part = lower-half 0 count near between-all (omega arith, h) e
-
-    pub near-listed : r ≡ Equal → Positioned size s ns count x near false
-    near-listed = place-listed 0 count near between-all (omega arith, h) e
+  pub place-found : (lo hi : ℕ) → Between size s ns count x lo hi → hi ≤ lo → {t : Bool} → t ≡ bytesLess (nthEdge size s x) (at lo)
+      → Positioned size s ns count x lo t
+  place-found lo hi b h e =
+      let same : hi ≡ lo = omega (arith, b .apart) in
+      let here = subst (λ (k : ℕ). bytesLess (at k) (nthEdge size s x) ≡ false) same (b .behind) in
+      tested (record { inside = omega (arith, b .inside); before = b .before; behind = λ g. here }) (omega (arith, b .inside)) e
