@@ -10,7 +10,7 @@ use crate::tally::Tally;
 
 const MOST: u32 = u32::MAX;
 
-/// The bytes of a cache with what document 01 makes of them.
+/// The bytes of a cache with what documents 01 and 02 make of them.
 struct Case {
     what: String,
     cache: Vec<u8>,
@@ -263,14 +263,22 @@ pub fn singly(tally: &mut Tally) {
     twice(tally, &mut dice);
 }
 
-/// Every exchange of neighbouring edges of a form, and every edge doubled, where it stands and
-/// behind the others. The lengths around them are put right.
+/// Pairs of so many edges: of few all; of many neighbours, and those as far from either end, the
+/// first and the last among them.
+fn pairs(count: usize) -> Vec<(usize, usize)> {
+    let any = (0..count).flat_map(|j| (0..j).map(move |i| (i, j)));
+    any.filter(|(i, j)| count <= 20 || i + 1 == *j || i + j + 1 == count)
+        .collect()
+}
+
+/// Exchanges of two edges of a form, and every edge doubled, where it stands and behind the others.
+/// The lengths around them are put right.
 pub fn disorders(form: &[u8]) -> Vec<Vec<u8>> {
     let (head, edges) = forms::parts(form);
     let mut all = Vec::new();
-    for k in 1..edges.len() {
+    for (i, j) in pairs(edges.len()) {
         let mut exchanged = edges.clone();
-        exchanged.swap(k - 1, k);
+        exchanged.swap(i, j);
         all.push(exchanged);
     }
     for (k, edge) in edges.iter().enumerate() {
@@ -356,17 +364,18 @@ pub fn cut(tally: &mut Tally) {
     }
 }
 
-/// Every byte of a short cache with every other value.
+/// Every byte of a short cache with every other value. Some undo the order of the last automaton's
+/// edges and nothing else.
 pub fn every_byte(tally: &mut Tally) {
     let mut dice = Dice::new(61);
     let mut base = base();
-    base.records.drain(3..);
+    base.records.drain(4..);
     let bytes = [&base.bytes()[..], &[0; 60]].concat();
     for at in 0..base.length() {
         for change in 1..=255 {
             let what = format!("byte {} xor {}", at, change);
             let changed = with_byte(&bytes, at, bytes[at] ^ change);
-            let filed = &base.records[usize::from(change) % 3].automaton;
+            let filed = &base.records[usize::from(change) % 4].automaton;
             let before = Lent::new(&mut dice, &changed, filed, 9);
             tally.call(&what, Call::Sound, &before);
             let call = [Call::LookUp, Call::Consult][at % 2];
