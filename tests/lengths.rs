@@ -9,7 +9,12 @@ pub fn slot(automaton: &[u8]) -> usize {
     1 + 2 * side * side
 }
 
+/// The length that an automaton tells.
+pub fn said(automaton: &[u8]) -> usize {
+    u32::from_be_bytes([0, 1, 2, 3].map(|i| automaton[i])) as usize
+}
+
 /// The used length that a cache tells.
 pub fn used(cache: &[u8]) -> usize {
-    u32::from_be_bytes([0, 1, 2, 3].map(|i| cache[i])) as usize
+    said(cache)
 }

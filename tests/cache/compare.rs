@@ -35,7 +35,7 @@ mod unsound;
 
 use calls::Call;
 use std::process::ExitCode;
-use tally::Tally;
+use tally::{Tally, SPARE};
 
 /// Every label that the comparison has to meet.
 fn labels() -> Vec<String> {
@@ -47,6 +47,9 @@ fn labels() -> Vec<String> {
     }
     for change in ["as drawn", "sorted", "without repeats"] {
         labels.push(format!("Canonical {}", change));
+    }
+    for call in ["LookUp", "Consult filed"] {
+        labels.push(format!("{} reached{}", call, SPARE));
     }
     let numbers: [(Call, &[u32]); 7] = [
         (Call::Refusal, &[0, 1, 2, 3, 4, 5, 6, 7, 8]),

@@ -20,25 +20,34 @@ fn few() -> Cache {
     Cache { records }
 }
 
-/// The layout, once by hand: automaton A consulted on an empty cache and on one that has D.
+/// The layout, once by hand: automaton A consulted on an empty cache and on one that has D, and with
+/// its edge twice, which leaves no trace.
 pub fn layout(tally: &mut Tally) {
     let mut dice = Dice::new(91);
     let a = named("A");
+    let doubled = [&[0, 0, 0, 49], &a[4..9], &[0, 2], &a[11..], &a[27..]].concat();
     let record = [0, 0, 0, 55, 1, 0, 0, 0, 1, 0, 0, 0, 1, 0, 0, 0, 1];
+    let empty = vec![0, 0, 0, 5, 1];
     let one = [&[0, 0, 0, 60, 1], &record[..], &a[..]].concat();
     let d = named("D");
     let filed = [0, 0, 0, 44, 1, 0, 0, 0, 1, 0, 0, 0, 0, 0, 0, 0, 1];
     let with_d = [&[0, 0, 0, 49, 1], &filed[..], &d[..]].concat();
     let two = [&[0, 0, 0, 104, 1], &with_d[5..], &record[..], &a[..]].concat();
-    for (before, after) in [(vec![0, 0, 0, 5, 1], one), (with_d, two)] {
+    let rows = [
+        (&a, &empty, &one),
+        (&doubled, &empty, &one),
+        (&a, &with_d, &two),
+    ];
+    for (drawn, before, after) in rows {
         let tail = random_bytes(&mut dice, 70);
         let lent = [&before[..], &tail].concat();
-        let lent = Lent::new(&mut dice, &lent, &a, 12);
+        let lent = Lent::new(&mut dice, &lent, drawn, 12);
         let left = tally.must("layout", Call::Consult, &lent, 0).lent;
         let stands = &tail[after.len() - before.len()..];
         let right = left.cache == [&after[..], stands].concat() && left.verdict() == [1, 1, 1, 1];
         let kept = [&[0, 0, 0, 0, 0, 5, 1, 0, 0], &lent.store[9..]].concat();
-        tally.check(right && left.store == kept, || {
+        let formed = left.form.starts_with(&a);
+        tally.check(right && formed && left.store == kept, || {
             format!("layout of {:?}", left.cache)
         });
     }
@@ -119,14 +128,30 @@ pub fn full(tally: &mut Tally) {
     }
 }
 
+/// An automaton with these of its edges.
+fn listed(name: &str, edges: &[usize]) -> Vec<u8> {
+    let automaton = named(name);
+    let (head, all) = forms::parts(&automaton);
+    let edges: Vec<&[u8]> = edges.iter().map(|&i| all[i]).collect();
+    forms::joined(head, &edges)
+}
+
 /// Caches with their number: 11, 12 for an automaton that isn't filed, or 0.
 fn caches(dice: &mut Dice) -> Vec<(u32, Vec<u8>)> {
     let full = few().bytes();
-    let free = [&full[..], &random_bytes(dice, 4_000)].concat();
     let mut refused = few();
     refused.records[1].automaton = named("J");
     let mut twice = few();
     twice.records.push(twice.records[0].clone());
+    // Unsound by the order of edges alone.
+    let mut exchanged = few();
+    exchanged.records[1].automaton = listed("K", &[1, 0, 2]);
+    let mut doubled = few();
+    doubled
+        .records
+        .push(record(&listed("A", &[0, 0]), 1, 1, 1, 1));
+    let mut roomy = |cache: &[u8]| [cache, &random_bytes(dice, 4_000)].concat();
+    let free = roomy(&full);
     vec![
         (11, Vec::new()),
         (11, full[..4].to_vec()),
@@ -134,10 +159,9 @@ fn caches(dice: &mut Dice) -> Vec<(u32, Vec<u8>)> {
         (11, with_byte(&full, 4, 2)),
         (11, with_byte(&free, 4, 0)),
         (11, refused.bytes()),
-        (
-            11,
-            [&twice.bytes()[..], &random_bytes(dice, 4_000)].concat(),
-        ),
+        (11, roomy(&twice.bytes())),
+        (11, roomy(&exchanged.bytes())),
+        (11, roomy(&doubled.bytes())),
         (12, full),
         (0, free),
     ]
@@ -163,10 +187,8 @@ fn all_asked() -> Vec<Asked> {
     let filed = ["G", "K", "H"].map(|name| asked(0, true, named(name)));
     let others = ["A", "B", "D"].map(|name| asked(0, false, named(name)));
     // The same in another order, and with a repeat.
-    let k = named("K");
-    let (head, edges) = forms::parts(&k);
-    let drawn = [[2, 0, 1, 2], [1, 1, 2, 0]].map(|order| order.map(|i| edges[i]));
-    let drawn = drawn.map(|edges| asked(0, true, forms::joined(head, &edges)));
+    let orders = [[2, 0, 1, 2], [1, 1, 2, 0], [0, 1, 2, 0], [2, 2, 1, 0]];
+    let drawn = orders.map(|order| asked(0, true, listed("K", &order)));
     refused.chain(filed).chain(others).chain(drawn).collect()
 }
 
@@ -179,31 +201,43 @@ fn first(numbers: &[u32]) -> u32 {
         .unwrap_or(0)
 }
 
-/// Lent with a buffer that has a byte too few for the form, or none where there is no form.
-fn shortened(dice: &mut Dice, lent: Lent) -> Lent {
-    let length = form_length(&lent.automaton).unwrap_or(0);
-    lent.forming(dice, length.saturating_sub(1))
+/// The bytes for the form: one too few, just enough, or as many as are drawn, which may be more.
+#[derive(Clone, Copy, PartialEq, Debug)]
+enum Room {
+    Short,
+    Exact,
+    Drawn,
 }
 
-/// A cache with its number, the numbers of the store, and whether the form's buffer is too short.
-type Setting<'a> = (&'a (u32, Vec<u8>), usize, bool);
+impl Room {
+    /// Where there is no form, none would be enough.
+    fn bytes(self, automaton: &[u8]) -> usize {
+        let form = form_length(automaton).unwrap_or(0);
+        match self {
+            Room::Short => form.saturating_sub(1),
+            Room::Exact => form,
+            Room::Drawn => automaton.len(),
+        }
+    }
+}
+
+/// A cache with its number, the numbers of the store, and the bytes for the form.
+type Setting<'a> = (&'a (u32, Vec<u8>), usize, Room);
 
 /// Of several reasons to refuse the first in the order of documents 01 and 02 counts: 1 to 8; 13;
 /// then the form is written and stands; 11; what is filed needs no more; 12; then the search. Those
 /// that aren't filed keep one zone of one clock.
 fn judge(tally: &mut Tally, dice: &mut Dice, asked: &Asked, setting: Setting) {
-    let ((bad, cache), store, is_short) = setting;
+    let ((bad, cache), store, room) = setting;
     let what = format!(
-        "{} with {}, store {}, short {}",
-        asked.number, bad, store, is_short
+        "{} with {}, store {}, room {:?}",
+        asked.number, bad, store, room
     );
-    let mut before = Lent::new(dice, cache, &asked.automaton, store);
-    if is_short {
-        before = shortened(dice, before);
-    }
+    let before = Lent::new(dice, cache, &asked.automaton, store);
+    let before = before.forming(dice, room.bytes(&asked.automaton));
     let (unsound, full) = if *bad == 11 { (11, 0) } else { (0, *bad) };
     let (short, small) = (
-        if is_short { 13 } else { 0 },
+        if room == Room::Short { 13 } else { 0 },
         if store < 9 { 10 } else { 0 },
     );
     let written = first(&[asked.number, short]);
@@ -234,11 +268,12 @@ fn judge(tally: &mut Tally, dice: &mut Dice, asked: &Asked, setting: Setting) {
 pub fn order(tally: &mut Tally) {
     let mut dice = Dice::new(131);
     let caches = caches(&mut dice);
-    let stores = [0, 8, 9].map(|store| [(store, false), (store, true)]);
+    let rooms = [Room::Short, Room::Exact, Room::Drawn];
+    let lent = [0, 8, 9].map(|store| rooms.map(|room| (store, room)));
     for asked in all_asked() {
         for cache in &caches {
-            for (store, is_short) in stores.concat() {
-                judge(tally, &mut dice, &asked, (cache, store, is_short));
+            for (store, room) in lent.concat() {
+                judge(tally, &mut dice, &asked, (cache, store, room));
             }
         }
     }

@@ -2,6 +2,7 @@
 
 use crate::calls::{self, Call, Lent};
 use crate::checks::Checks;
+use crate::lengths;
 use std::collections::BTreeMap;
 use std::process::ExitCode;
 
@@ -89,6 +90,15 @@ fn label(call: Call, before: &Lent, left: &Left) -> String {
     }
 }
 
+/// Behind the label of a call that left bytes of a buffer as long as the automaton, since the form is
+/// shorter.
+pub const SPARE: &str = ", as many bytes as drawn";
+
+fn spares(before: &Lent, left: &Left) -> bool {
+    let form = &left.lent.form;
+    *form != before.form && form.len() == before.automaton.len() && lengths::said(form) < form.len()
+}
+
 impl Tally {
     pub fn check(&mut self, ok: bool, otherwise: impl Fn() -> String) {
         self.checks.check(ok, otherwise);
@@ -107,7 +117,11 @@ impl Tally {
         let got = calls::proved(call, &mut ours);
         let left = Left { reply, lent };
         self.calls += 1;
-        self.meet(&label(call, before, &left), true);
+        let label = label(call, before, &left);
+        self.meet(&label, true);
+        if spares(before, &left) {
+            self.meet(&(label + SPARE), true);
+        }
         self.check(got == Some(reply) && ours == left.lent, || {
             format!(
                 "{}, {:?}: {}",
