@@ -93,13 +93,14 @@ pub fn forms(automata: &[Vec<u8>]) -> Vec<Vec<u8>> {
     unique(automata.iter().map(|a| forms::form(a)).collect())
 }
 
-/// The same but for order and repeats of edges: each stands at least once.
-pub fn shuffled(dice: &mut Dice, automaton: &[u8]) -> Vec<u8> {
+/// The same but for order and repeats of edges: each stands at least once, and at most so many are
+/// repeats, as far as there can be.
+pub fn repeating(dice: &mut Dice, automaton: &[u8], most: usize) -> Vec<u8> {
     let form = forms::form(automaton);
     let (head, mut edges) = forms::parts(&form);
     let different = edges.len();
     let repeats = if different > 0 {
-        dice.below(8).min(256 - different)
+        dice.below(most + 1).min(256 - different)
     } else {
         0
     };
@@ -110,6 +111,11 @@ pub fn shuffled(dice: &mut Dice, automaton: &[u8]) -> Vec<u8> {
         edges.swap(end, dice.below(end + 1));
     }
     forms::joined(head, &edges)
+}
+
+/// The same with few repeats.
+pub fn shuffled(dice: &mut Dice, automaton: &[u8]) -> Vec<u8> {
+    repeating(dice, automaton, 7)
 }
 
 /// A form whose edges differ in their first lo, so that they rise, and the last also in its other

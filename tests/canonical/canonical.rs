@@ -51,16 +51,20 @@ mod writer;
 
 use calls::Call;
 use std::process::ExitCode;
-use tally::Tally;
+use tally::{Tally, SPARE};
 
 /// What must be met, lest the checks say little.
 fn labels() -> Vec<String> {
     let changes = ["as drawn", "sorted", "without repeats"];
     let verdicts = ["reached", "n/d", "any error"];
-    let mut labels: Vec<String> = vec![shuffles::DIFFER.into(), same_runs::DIFFER.into()];
+    let mut labels: Vec<String> = vec![shuffles::DIFFER.into(), shuffles::MANY_DIFFER.into()];
+    labels.extend(same_runs::LABELS.map(String::from));
     labels.extend(changes.map(|change| format!("Canonical {change}")));
-    for call in ["Search", "LookUp", "Consult filed", "Consult searched"] {
+    labels.push(format!("Canonical without repeats{SPARE}"));
+    labels.extend(verdicts.map(|verdict| format!("Search {verdict}")));
+    for call in ["LookUp", "Consult filed", "Consult searched"] {
         labels.extend(verdicts.map(|verdict| format!("{call} {verdict}")));
+        labels.extend(verdicts.map(|verdict| format!("{call} {verdict}{SPARE}")));
     }
     let numbers: [(Call, &[u32]); 3] = [
         (Call::Canonical, &[1, 2, 3, 4, 5, 6, 7, 8, 13]),
@@ -80,6 +84,8 @@ fn main() -> ExitCode {
     counts::few(&mut tally);
     counts::many(&mut tally);
     room::every_length(&mut tally);
+    shuffles::every_list(&mut tally);
+    shuffles::many(&mut tally);
     let random: [fn(&mut Tally, u64); 3] = [writer::random, shuffles::random, same_runs::random];
     for round in long::rounds() {
         for part in random {

@@ -31,7 +31,7 @@ fn edges() -> [Edge; 3] {
 }
 
 /// The edges in an order, by their numbers above.
-fn drawn(order: &[usize]) -> Draft {
+pub fn drawn(order: &[usize]) -> Draft {
     let edges = edges();
     Draft {
         start: 0,
@@ -49,13 +49,13 @@ const NORTH: Outcome = Outcome::Holds {
     d: 3,
     zones: 3,
 };
-const SOUTH: Outcome = Outcome::Holds {
+pub const SOUTH: Outcome = Outcome::Holds {
     n: 3,
     d: 2,
     zones: 2,
 };
 
-fn numbers(outcome: Outcome) -> [u64; 4] {
+pub fn numbers(outcome: Outcome) -> [u64; 4] {
     match outcome {
         Outcome::Holds { n, d, zones } => [1, n as u64, d as u64, zones as u64],
         other => panic!("{other}"),

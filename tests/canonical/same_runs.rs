@@ -11,7 +11,12 @@ use crate::small;
 use crate::tally::Tally;
 use crate::writer::is_form;
 
-pub const DIFFER: &str = "another fraction of the form";
+const DIFFER: &str = "another fraction of the form";
+const COMPARED: &str = "states compared";
+const CHANGED: &str = "states compared, not its own form";
+const UNSAFE: &str = "states compared, the target among them";
+/// What must be met, since large grids are left out.
+pub const LABELS: [&str; 4] = [DIFFER, COMPARED, CHANGED, UNSAFE];
 const TURNS: usize = 3_000;
 const STORE: usize = 16_384;
 /// A grid of more states is not visited.
@@ -35,10 +40,13 @@ fn same_states(tally: &mut Tally, what: &str, drawn: &Draft, form: &Draft) {
         if Grid::new(drawn, loosening).states() > MOST_STATES {
             continue;
         }
-        let [a, b] = [drawn, form].map(|draft| states(&Explorer::explored(draft, loosening)));
-        tally.check(a == b, || {
+        let [a, b] = [drawn, form].map(|draft| Explorer::explored(draft, loosening));
+        tally.check(states(&a) == states(&b), || {
             format!("{what}: other states at {error}/{scale}")
         });
+        tally.meet(COMPARED, true);
+        tally.meet(CHANGED, drawn.bytes() != form.bytes());
+        tally.meet(UNSAFE, a.unsafe_run());
     }
 }
 

@@ -99,7 +99,7 @@ fn again(tally: &mut Tally, dice: &mut Dice, what: &str, form: &[u8]) {
     tally.check(after.form == form, || format!("{what}: written again"));
 }
 
-/// Lent a byte too few, just enough, and as many as are drawn.
+/// Lent a byte too few, just enough, as many as are drawn, and more.
 fn judge(tally: &mut Tally, dice: &mut Dice, what: &str, automaton: &[u8]) {
     let lent = Lent::new(dice, &[], automaton, 0);
     let length = match form_length(automaton) {
@@ -113,8 +113,8 @@ fn judge(tally: &mut Tally, dice: &mut Dice, what: &str, automaton: &[u8]) {
     let short = lent.clone().forming(dice, length - 1);
     let left = tally.must(what, Call::Canonical, &short, 13);
     tally.check(left.lent == short, || format!("{what}: 13"));
-    let exact = lent.clone().forming(dice, length);
-    for before in [exact, lent] {
+    for enough in [length, automaton.len(), automaton.len() + 20] {
+        let before = lent.clone().forming(dice, enough);
         let after = tally.must(what, Call::Canonical, &before, 0).lent;
         let (form, past) = after.form.split_at(length);
         let right = is_form(form, automaton)
