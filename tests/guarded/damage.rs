@@ -2,6 +2,9 @@
 
 use crate::calls::random_bytes;
 use crate::drawn::Dice;
+use crate::forms;
+use crate::lengths::said;
+use crate::oracle;
 
 /// A number of four bytes, as far as there are bytes for it.
 fn put(bytes: &mut [u8], at: usize, number: u32) {
@@ -65,13 +68,32 @@ fn cut(dice: &mut Dice, bytes: &mut Vec<u8>, border: usize) {
     }
 }
 
+/// The automaton that begins at a place, if there is one that is accepted.
+pub fn accepted(bytes: &[u8], at: usize) -> Option<&[u8]> {
+    let length = said(bytes.get(at..at + 4)?);
+    let automaton = bytes.get(at..at + length)?;
+    oracle::refusal(automaton).ok().map(|_| automaton)
+}
+
+/// Exchanges two edges of the automaton that begins at a place, if there are two.
+fn exchange(dice: &mut Dice, bytes: &mut [u8], at: usize) {
+    if let Some((head, mut edges)) = accepted(bytes, at).map(forms::parts) {
+        if edges.len() > 1 {
+            let j = 1 + dice.below(edges.len() - 1);
+            edges.swap(dice.below(j), j);
+            let exchanged = forms::joined(head, &edges);
+            bytes[at..at + exchanged.len()].copy_from_slice(&exchanged);
+        }
+    }
+}
+
 /// One damage. A border is where a record begins or the used part ends.
 fn spoil_once(dice: &mut Dice, bytes: &mut Vec<u8>, border: usize) {
     if bytes.is_empty() {
         return;
     }
     let at = dice.below(bytes.len());
-    match dice.range(0, 9) {
+    match dice.range(0, 10) {
         0 => bytes[at] = dice.range(0, 255) as u8,
         1 => bytes[at] ^= 1 << dice.range(0, 7),
         2 => cut(dice, bytes, border),
@@ -89,6 +111,7 @@ fn spoil_once(dice: &mut Dice, bytes: &mut Vec<u8>, border: usize) {
         }
         6 => counts(dice, bytes, border + 17),
         7 | 8 => to_the_end(dice, bytes, border),
+        9 => exchange(dice, bytes, border + 17),
         _ => {
             let rest = random_bytes(dice, bytes.len() - at);
             bytes[at..].copy_from_slice(&rest);

@@ -2,6 +2,8 @@
 
 use crate::calls::{Call, Lent};
 use crate::checks::Checks;
+use crate::damage::accepted;
+use crate::forms::form;
 use std::collections::BTreeMap;
 
 const LEAST: usize = 40;
@@ -18,8 +20,8 @@ const POSSIBLE: [(Call, &[u32]); 7] = [
 ];
 
 /// What else is to be met: a slice of length 0, an automaton that is filed or comes to be, one that
-/// is not its own form, and a buffer with no byte more than the form.
-const OTHERS: [&str; 9] = [
+/// is not its own form, in a cache too, and a buffer with no byte more than the form.
+const OTHERS: [&str; 10] = [
     "Refusal, no automaton",
     "Search, no store",
     "Sound, no cache",
@@ -29,7 +31,13 @@ const OTHERS: [&str; 9] = [
     "Canonical, no form",
     "Canonical, another order or a repeat",
     "Canonical, no byte more",
+    "Sound, another order",
 ];
+
+/// Whether the first record's automaton is not its own form.
+fn is_disordered(cache: &[u8]) -> bool {
+    accepted(cache, 22).map_or(false, |automaton| form(automaton) != automaton)
+}
 
 fn label(call: Call, reply: u32) -> String {
     format!("{call:?} {reply}")
@@ -48,6 +56,7 @@ fn others(call: Call, before: &Lent, after: &Lent) -> &'static [&'static str] {
         Call::Refusal if before.automaton.is_empty() => &OTHERS[..1],
         Call::Search if before.store.is_empty() => &OTHERS[1..2],
         Call::Sound if before.cache.is_empty() => &OTHERS[2..3],
+        Call::Sound if is_disordered(&before.cache) => &OTHERS[9..10],
         Call::LookUp if after.filed == 1 => &OTHERS[3..4],
         Call::Consult if after.cache != before.cache && none => &OTHERS[4..6],
         Call::Consult if after.cache != before.cache => &OTHERS[4..5],
