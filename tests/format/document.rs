@@ -1,4 +1,4 @@
-// What docs/FORMAT.md says, taken from its text: dumps, tables, and the lengths in them.
+// What docs/FORMAT.md says, taken from its text: dumps, edges, tables, and the lengths in them.
 use std::iter::Peekable;
 use std::str::Chars;
 
@@ -80,6 +80,16 @@ impl Dump {
     pub fn begins_line(&self, offset: usize) -> bool {
         self.0.iter().any(|l| l.offset == offset)
     }
+}
+
+// ---- edges
+// The first bytes of each, quoted as `01 00 01 ..`.
+pub fn beginnings(text: &str) -> Vec<Vec<u8>> {
+    let quoted = text
+        .split('`')
+        .filter_map(|words| words.strip_suffix(" .."));
+    let bytes = |words: &str| words.split(' ').map(byte).collect();
+    quoted.map(bytes).collect()
 }
 
 // ---- tables

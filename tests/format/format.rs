@@ -4,6 +4,7 @@
 #[path = "../checks.rs"]
 mod checks;
 mod document;
+mod forms;
 #[path = "../library.rs"]
 mod library;
 mod own;
@@ -171,7 +172,7 @@ impl Format {
 
 type Check = (&'static str, fn(&Format) -> bool);
 
-const CHECKS: [Check; 22] = [
+const CHECKS: [Check; 25] = [
     ("the tables add up", Format::tables_add_up),
     ("the ranges of lengths", Format::lengths_are_ranged),
     ("the versions", Format::versions_are_said),
@@ -201,6 +202,9 @@ const CHECKS: [Check; 22] = [
         Format::is_consulted_again,
     ),
     ("the automaton is its own form", Format::is_canonical),
+    ("edges are turned round", Format::edges_are_turned),
+    ("an edge twice is there once", Format::repeats_are_dropped),
+    ("no record has an edge twice", Format::repeats_are_unsound),
     ("the ranges of counts", Format::counts_are_ranged),
     ("the ranges of limits", Format::limits_are_ranged),
     ("the refusals are 1 to 13", Format::refusals_are_listed),
