@@ -54,17 +54,19 @@ const ORDERS: [(&str, Order); 3] = [
 ];
 
 // ---- both sides
-fn ours(automaton: &[u8], form: &mut [u8]) -> Option<usize> {
-    library::canonical(automaton, form).ok()
+// Of 1 to 8 all automata here are free.
+fn rusts(automaton: &[u8], form: &mut [u8]) -> Result<usize, u32> {
+    ordered::write(automaton, form).ok_or(13)
 }
 
 fn agree(automaton: &[u8]) {
-    for length in [0, automaton.len() / 2, automaton.len() - 1, automaton.len()] {
-        let sides = [ours, ordered::write].map(|write| {
+    let (form, all) = (form(automaton).len(), automaton.len());
+    for length in [0, form / 2, form - 1, form, all - 1, all] {
+        let sides = [library::canonical, rusts].map(|write| {
             let mut form = vec![UNTOUCHED; length];
             (write(automaton, &mut form), form)
         });
-        assert!(sides[0] == sides[1], "the form, or its length");
+        assert!(sides[0] == sides[1], "the form, its length or the refusal");
     }
 }
 
@@ -90,7 +92,7 @@ fn times(automaton: &[u8]) -> [f64; 4] {
     best_within(TURNS, LEAST_TIME, |side| {
         let mut sorted = edges(automaton);
         let time = match side {
-            0 => nanoseconds(|| ours(opaque(automaton), &mut form)),
+            0 => nanoseconds(|| library::canonical(opaque(automaton), &mut form)),
             1 => nanoseconds(|| ordered::write(opaque(automaton), &mut form)),
             2 => nanoseconds(|| library::refusal(opaque(automaton))),
             _ => nanoseconds(|| opaque(&mut sorted).sort()),

@@ -1,5 +1,6 @@
-// Document 01's shelf in plain Rust, step for step: at each asking the automaton's canonical form,
-// then whether the cache is sound, then the lookup, then the search and its record.
+// Document 01's shelf with document 02's one order of edges in plain Rust, step for step: at each
+// asking the automaton's canonical form, then whether the cache is sound, then the lookup, then the
+// search and its record.
 use crate::literal::{gcd, slot_length, Search, Verdict};
 use crate::ordered;
 
