@@ -26,7 +26,7 @@ pub(crate) fn edges_of(automaton: &[u8]) -> Edges
     }
 }
 
-// The numbers of the edges in order, repeats dropped.
+// The edges of an automaton, which lie behind its head and invariants, sorted.
 pub(crate) fn sort(automaton: &[u8], edges: Edges) -> Order
     requires { ⌜ Complete (now automaton) × (edges ≡ edgesIn (now automaton)) ⌝ }
     ensures { λ r. ⌜ Sorted (now (automaton .entry)) edges r ⌝ }

@@ -1,4 +1,4 @@
--- Byte strings compared: the same length, and the same bytes.
+-- Byte strings compared, the same length and the same bytes; and which numbers are bytes.
 use Prim.Native.Nat.{ℕ, _+_, _<_}
 use mathlib.Core.Bool.{Bool, true, false, cond}
 use mathlib.Core.List.{List, [], _∷_}

@@ -75,26 +75,26 @@ fn tell_lookup(found: Lookup, filed: &mut u64, answer: &mut [u64]) -> u32
     }
 }
 
+// What came of writing a form: 0 with its length, or the refusal's number alone.
+fn tell_form(reply: Reply, written: &mut u64) -> u32
+    ensures { λ r. ⌜ r ≡ formNumber reply ⌝ }
+    ensures { λ r. ⌜ now (written .exit) ≡ formTold reply (now (written .entry)) ⌝ }
+{
+    match reply {
+        Reply::Written(n) => {
+            *written = n as u64;
+            0
+        }
+        Reply::Refused(k) => k,
+    }
+}
+
 // 0, or the number by which the automaton is turned down.
 #[no_mangle]
 pub extern "C" fn robustness_refusal(automaton: &[u8]) -> u32
     ensures { λ r. ⌜ r ≡ refusalOf (now (automaton .entry)) ⌝ }
 {
     refusal(automaton)
-}
-
-// What came of writing a form: 0 with its length, or the refusal's number alone.
-fn tell_form(written: Reply, length: &mut u64) -> u32
-    ensures { λ r. ⌜ r ≡ formNumber written ⌝ }
-    ensures { λ r. ⌜ now (length .exit) ≡ formTold written (now (length .entry)) ⌝ }
-{
-    match written {
-        Reply::Written(n) => {
-            *length = n as u64;
-            0
-        }
-        Reply::Refused(k) => k,
-    }
 }
 
 // The form of an automaton, its edges in order and each once; and its length.

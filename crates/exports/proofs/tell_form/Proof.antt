@@ -5,10 +5,10 @@ use Rattle.exports.proofs.tell_form.Statement.{statement}
 use Rattle.exports.proofs.tell_form.Tie as tie
 
 returns : tie.Need-returns
-returns c = tells-written _ _ (c .before .written .given .1)
+returns c = tells-written _ _ (c .before .reply .given .1)
 
 returns-2 : tie.Need-returns-2
-returns-2 c = tells-unwritten _ _ (c .before .written2 .given .1)
+returns-2 c = tells-unwritten _ _ (c .before .reply2 .given .1)
 
 pub tell-form-spec : {M : Type 1} → statement M
 tell-form-spec = tie.close (tie.spec (λ c. search needs) (λ c. search needs) returns returns-2)
