@@ -11,7 +11,8 @@ use Rattle.automata.specs.Canonical.{inOrder, canonicalOf}
 use Rattle.automata.specs.Examples.{Shown}
 
 pub shown : Shown
-unfolding be16At be32At be16 be32 invariantIn edgeIn some outOfRangeAt refusalOf bytesLess rising insertEdge sorted edgeBytes edgesFrom joined placeIn numberIn inOrder canonicalOf
+unfolding be16At be32At be16 be32 invariantIn edgeIn some outOfRangeAt refusalOf
+    bytesLess rising insertEdge sorted edgeBytes edgesFrom joined placeIn numberIn inOrder canonicalOf
 shown = record {
   north-free = refl;
   south-free = refl;

@@ -12,6 +12,7 @@ use Rattle.canonical.specs.Writing.{formRefusal, formAnswer, formBuffer}
 use Rattle.canonical.specs.Examples.{Shown}
 
 pub shown : Shown
-unfolding be16At be32At be16 be32 placed bytesLess insertEdge sorted edgeBytes edgesFrom joined invariantIn edgeIn some outOfRangeAt refusalOf canonicalOf
+unfolding be16At be32At be16 be32 placed
+    bytesLess insertEdge sorted edgeBytes edgesFrom joined invariantIn edgeIn some outOfRangeAt refusalOf canonicalOf
     formRefusal formAnswer formBuffer
 shown = record { short = refl; untouched = refl; enough = refl; whole = refl; more = refl; past = refl; turned-down = refl }

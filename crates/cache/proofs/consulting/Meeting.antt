@@ -29,7 +29,8 @@ use Rattle.cache.proofs.consulting.Drawn.{looks-refused, answers-refuse
 -- ---- `consult_form`, from what the lookup said
 module _ (c b : List ℕ) (s : List ℤ) where
   abbrev Meets : Answer → List ℕ → List ℤ → Type 0
-  Meets r c′ s′ = (r ≡ consultAnswerAs version1 c b (length s)) × ((c′ ≡ consultCacheAs version1 c b (length s)) × (s′ ≡ consultStoreAs version1 c b s))
+  Meets r c′ s′ =
+      (r ≡ consultAnswerAs version1 c b (length s)) × ((c′ ≡ consultCacheAs version1 c b (length s)) × (s′ ≡ consultStoreAs version1 c b s))
 
   module _ {l : Lookup} (e : l ≡ lookUpAs version1 c b) where
     pub meets-told : (v : Verdict) (zones : ℕ) → l ≡ lookup.Filed v zones → Meets (Found v zones) c s

@@ -46,8 +46,8 @@ kept-under : (b x : List ℕ) (v : Verdict) (zones : ℕ) → Kept b (lookup.Fil
 kept-under b x v zones h true e = subst (λ (y : List ℕ). Kept y (lookup.Filed v zones)) (same-equal b x e) h
 kept-under b x v zones h false e = tt
 
-way-kept : (c b : List ℕ) (amount : ℕ) (x : List ℕ) → Kept x (lookUp version1 (recordsOf version1 c) x) → {r : Answer} {c′ : List ℕ} → Way version1 c b amount r c′
-    → Kept x (lookUp version1 (recordsOf version1 c′) x)
+way-kept : (c b : List ℕ) (amount : ℕ) (x : List ℕ) → Kept x (lookUp version1 (recordsOf version1 c) x) → {r : Answer} {c′ : List ℕ}
+    → Way version1 c b amount r c′ → Kept x (lookUp version1 (recordsOf version1 c′) x)
 way-kept c b amount x h (told v zones a f) = h
 way-kept c b amount x h (turned-down k f) = h
 way-kept c b amount x h (stopped k a f) = h
@@ -65,7 +65,8 @@ consult-kept c b room amount x h = go (writing b room)
     KeptIn y = Kept x (lookUp version1 (recordsOf version1 y) x)
 
     go : Writing b room → KeptIn (consultCache c b room amount)
-    go (written z) = subst KeptIn (sym (leaves-form c b room z amount)) (way-kept c (canonicalOf b) amount x h (way version1 c (canonicalOf b) amount))
+    go (written z) = subst KeptIn (sym (leaves-form c b room z amount))
+        (way-kept c (canonicalOf b) amount x h (way version1 c (canonicalOf b) amount))
     go (refused n) = subst KeptIn (sym (leaves-refused c b room n amount)) h
 
 grown-kept : (c : List ℕ) → Grown c → (x : List ℕ) → Kept x (lookUp version1 (recordsOf version1 c) x)

@@ -7,7 +7,7 @@ use borrow.Author.Tests.{lt-leb, le-leb}
 use native.Mathlib.Omega.{arith}
 use Rattle.order.specs.Edges.{bytesLess}
 use Rattle.order.specs.Laid.{nthEdge}
-use Rattle.canonical.specs.Numbers.{falling}
+use Rattle.canonical.specs.Numbers.{Lies, falling}
 use Rattle.canonical.proofs.ordering.Ordering.{lies-at}
 use Rattle.canonical.proofs.ordering.falls.Statement.{statement}
 use Rattle.canonical.proofs.ordering.falls.Tie as tie
@@ -27,7 +27,9 @@ edge-less-requires : tie.Need-edge-less-requires
 edge-less-requires c κs =
     let start = c .before .before in
     let a = start .args in
-    (lies-at (a .size) (a .bytes .now) (a .edges) 1 (start .pre) (omega arith), lies-at (a .size) (a .bytes .now) (a .edges) 0 (start .pre) (omega arith))
+    let there : (i : ℕ) → i < 2 → Lies (a .size) (a .bytes .now) i =
+    λ i h. lies-at (a .size) (a .bytes .now) (a .edges) i (start .pre) (omega arith) in
+    (there 1 (omega arith), there 0 (omega arith))
 
 returns-2 : tie.Need-returns-2
 returns-2 c = two _ _ _ (omega arith) (c .edge-less .ensures)

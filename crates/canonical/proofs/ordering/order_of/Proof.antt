@@ -44,9 +44,10 @@ returns c =
     let fell = c .before .before in
     let a = fell .before .before .args in
     let e : l .i ≡ a .edges = omega arith in
-    subst (λ (es : List Edge). ListsOf (a .size) (a .bytes .now) es (a .edges) (l .numbers) (l .count)) (taken-all _ _ (a .edges) (fell .falls .result))
-    (subst (λ (n : ℕ). ListsOf (a .size) (a .bytes .now) (taken (a .size) (a .bytes .now) (fell .falls .result) (a .edges) n) n (l .numbers) (l .count)) e
-    (l .inv .1))
+    let all = subst (λ (n : ℕ). ListsOf (a .size) (a .bytes .now) (taken (a .size) (a .bytes .now) (fell .falls .result) (a .edges) n) n
+    (l .numbers) (l .count)) e (l .inv .1) in
+    subst (λ (es : List Edge). ListsOf (a .size) (a .bytes .now) es (a .edges) (l .numbers) (l .count))
+    (taken-all _ _ (a .edges) (fell .falls .result)) all
 
 pub order-of-spec : {M : Type 1} → statement M
 order-of-spec =
