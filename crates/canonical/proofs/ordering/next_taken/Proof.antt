@@ -1,5 +1,4 @@
 -- `next_taken` meets its contract.
-use mathlib.Core.Path.{refl}
 use borrow.Author.Needs.{needs}
 use native.Mathlib.Omega.{arith}
 use Rattle.canonical.proofs.ordering.next_taken.Statement.{statement}
