@@ -6,7 +6,8 @@ use mathlib.Core.Path.{_≡_, sym, ap, _∙_, subst}
 use lib.Dec.{eqb}
 use lib.ListN.{getD}
 use native.Mathlib.Omega.{arith}
-use Rattle.encoding.specs.Numbers.{be16At, be32At}
+use Rattle.encoding.specs.Numbers.{be32At}
+use Rattle.encoding.proofs.Numbers.{be32-same}
 use Rattle.runs.specs.Limits.{Within}
 use Rattle.automata.specs.Automata.{loAt, hiAt, noUpper, limitsAt}
 use Rattle.automata.proofs.canonical.Alike.{Agree}
@@ -16,13 +17,7 @@ module _ {b c : List ℕ} {p q size : ℕ} (A : Agree b c p q size) where
   byte-same k i j e g h = ap (λ (m : ℕ). getD b m 0) (sym e) ∙ A .byte k h ∙ ap (λ (m : ℕ). getD c m 0) g
 
   number-same : (k i j : ℕ) → p + k ≡ i → q + k ≡ j → k + 4 ≤ size → be32At b i ≡ be32At c j
-  unfolding be32At be16At
-  number-same k i j e g h =
-      let a = byte-same k i j e g (omega arith) in
-      let d = byte-same (k + 1) (i + 1) (j + 1) (omega arith) (omega arith) (omega arith) in
-      let f = byte-same (k + 2) (i + 2) (j + 2) (omega arith) (omega arith) (omega arith) in
-      let l = byte-same (k + 3) (i + 2 + 1) (j + 2 + 1) (omega arith) (omega arith) (omega arith) in
-      λ t. (a t * 256 + d t) * 65536 + (f t * 256 + l t)
+  number-same k i j e g h = be32-same b c i j (λ m l. byte-same (k + m) (i + m) (j + m) (omega arith) (omega arith) (omega arith))
 
   -- the limits of n clocks
   module _ (o i j n : ℕ) (e : p + o ≡ i) (g : q + o ≡ j) (h : o + 8 * n ≤ size) where

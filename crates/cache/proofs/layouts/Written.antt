@@ -1,14 +1,15 @@
 -- What is written is read back: a number of four bytes, and a record in any layout.
 -- Assumes nothing.
-use Prim.Native.Nat.{ℕ, _+_, _*_, _≤_}
+use Prim.Native.Nat.{ℕ, _+_, _≤_}
 use mathlib.Core.Bool.{true, _&&_}
 use mathlib.Core.List.{List, [], _∷_, _++_}
 use mathlib.Core.Path.{_≡_, sym, ap, _∙_}
-use lib.ListN.{length, getD, drop}
+use lib.ListN.{length, drop}
 use lib.Seq.{drop-at, getD-at, getD-drop}
+use native.Mathlib.Nat.{zero-add}
 use native.Mathlib.Omega.{arith}
-use Rattle.encoding.specs.Numbers.{be16At, be32At, be32}
-use Rattle.encoding.proofs.Numbers.{be32-back}
+use Rattle.encoding.specs.Numbers.{be32At, be32}
+use Rattle.encoding.proofs.Numbers.{be32-same, be32-back}
 use Rattle.automata.specs.Canonical.{isCanonical}
 use Rattle.search.specs.declared.verdict.Answer.the-variants.{Found}
 use Rattle.search.specs.declared.verdict.Numbers.{Numbers}
@@ -25,11 +26,7 @@ use Rattle.cache.proofs.layouts.Measured.{measured-field}
 -- ---- a number of four bytes
 -- read behind p
 be32-drop : (at : ℕ) (s : List ℕ) → be32At s at ≡ be32At (drop at s) 0
-unfolding be32At be16At
-be32-drop at s =
-    let byte : (k j : ℕ) → j ≡ at + k → getD s j 0 ≡ getD (drop at s) k 0 = λ k j e. ap (λ (m : ℕ). getD s m 0) e ∙ sym (getD-drop at s k 0) in
-    λ i. (byte 0 at (omega arith) i * 256 + byte 1 (at + 1) (omega arith) i) * 65536
-    + (byte 2 (at + 2) (omega arith) i * 256 + byte 3 (at + 2 + 1) (omega arith) i)
+be32-drop at s = be32-same s (drop at s) at 0 (λ k h. rw zero-add (sym (getD-drop at s k 0)))
 
 be32-behind : (p : List ℕ) (x : ℕ) (rest : List ℕ) (at : ℕ) → length p ≡ at → x ≤ longest → be32At (p ++ (be32 x ++ rest)) at ≡ x
 be32-behind p x rest at e h =
