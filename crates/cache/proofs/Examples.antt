@@ -27,17 +27,17 @@ use Rattle.cache.specs.Consulting.{lookUpAs, full, appended, filing, ans
 use Rattle.cache.specs.Drawn.{consultAnswer, consultCache}
 use Rattle.cache.specs.Examples.{automatonA, empty, holds, AllRight, examples}
 
--- the search's case I: card A with stores of 8 and of 9 numbers
-answer-8 : searchAnswer automatonA 8 ≡ Refused 10
-answer-8 = search.all-right .1 .1 .1 .1 .1 .1 .1 .1 .1 .1 .0 .0
+-- the search's case I: card A with stores of 10 and of 11 numbers
+answer-10 : searchAnswer automatonA 10 ≡ Refused 10
+answer-10 = search.all-right .1 .1 .1 .1 .1 .1 .1 .1 .1 .1 .0 .0
 
-answer-9 : searchAnswer automatonA 9 ≡ holds
-answer-9 = search.all-right .1 .1 .1 .1 .1 .1 .1 .1 .1 .1 .1 .0 .0
+answer-11 : searchAnswer automatonA 11 ≡ holds
+answer-11 = search.all-right .1 .1 .1 .1 .1 .1 .1 .1 .1 .1 .1 .0 .0
 
 -- 1/1 is in lowest terms, as all that the search gives out
 lowest : soundNumbers (record { kind = 1; n = 1; d = 1 }) ≡ true
 unfolding numbersOf
-lowest = numbers-are-sound automatonA (Holds (Below (record { n = 1; d = 1 }))) 1 (rw answer-9 at (promised automatonA 9 .given))
+lowest = numbers-are-sound automatonA (Holds (Below (record { n = 1; d = 1 }))) 1 (rw answer-11 at (promised automatonA 11 .given))
 
 pub all-right : AllRight examples
 unfolding be16At be32At edgeIn firsts guardOf inByte invariantIn invariantOf limitsAt outOfRangeAt refusalOf resetSet resetsOf some
@@ -46,11 +46,11 @@ unfolding be16At be32At edgeIn firsts guardOf inByte invariantIn invariantOf lim
     allSound soundRecords distinct soundHeader soundAs lookUpAs full appended filing answerTo consultAnswerAs searched consultCacheAs
     consultAnswer consultCache
 all-right = (
-  (answer-9, ap (filing version1 (empty 58) automatonA) answer-9),
+  (answer-11, ap (filing version1 (empty 58) automatonA) answer-11),
   (
-    (answer-9, ap (filing version1 (empty 55) automatonA) answer-9),
+    (answer-11, ap (filing version1 (empty 55) automatonA) answer-11),
     (
-      (answer-8, ap (filing version1 (empty 58) automatonA) answer-8),
+      (answer-10, ap (filing version1 (empty 58) automatonA) answer-10),
       (
         (refl, refl),
         (

@@ -66,14 +66,14 @@ doubled = 0 ∷ 0 ∷ 0 ∷ 71 ∷ 1 ∷ (0 ∷ 0 ∷ 0 ∷ 66 ∷ 1 ∷ 0 ∷ 0
 
 abbrev pub examples : List Example
 examples =
-    record { cache = empty 58; automaton = automatonA; room = 38; amount = 9; answer = holds; after = filed 3 }
-    ∷ record { cache = empty 55; automaton = twiceA; room = 38; amount = 9; answer = holds; after = filed 0 }
-    ∷ record { cache = empty 58; automaton = automatonA; room = 38; amount = 8; answer = Refused 10; after = empty 58 }
-    ∷ record { cache = empty 54; automaton = automatonA; room = 40; amount = 8; answer = Refused 12; after = empty 54 }
+    record { cache = empty 58; automaton = automatonA; room = 38; amount = 11; answer = holds; after = filed 3 }
+    ∷ record { cache = empty 55; automaton = twiceA; room = 38; amount = 11; answer = holds; after = filed 0 }
+    ∷ record { cache = empty 58; automaton = automatonA; room = 38; amount = 10; answer = Refused 10; after = empty 58 }
+    ∷ record { cache = empty 54; automaton = automatonA; room = 40; amount = 10; answer = Refused 12; after = empty 54 }
     ∷ record { cache = filed 0; automaton = automatonA; room = 38; amount = 0; answer = holds; after = filed 0 }
     ∷ record { cache = filed 0; automaton = twiceA; room = 38; amount = 0; answer = holds; after = filed 0 }
-    ∷ record { cache = otherVersion; automaton = automatonA; room = 38; amount = 9; answer = Refused 11; after = otherVersion }
-    ∷ record { cache = otherVersion; automaton = twiceA; room = 37; amount = 9; answer = Refused 13; after = otherVersion }
-    ∷ record { cache = twice; automaton = automatonA; room = 38; amount = 9; answer = Refused 11; after = twice }
-    ∷ record { cache = doubled; automaton = automatonA; room = 38; amount = 9; answer = Refused 11; after = doubled }
+    ∷ record { cache = otherVersion; automaton = automatonA; room = 38; amount = 11; answer = Refused 11; after = otherVersion }
+    ∷ record { cache = otherVersion; automaton = twiceA; room = 37; amount = 11; answer = Refused 13; after = otherVersion }
+    ∷ record { cache = twice; automaton = automatonA; room = 38; amount = 11; answer = Refused 11; after = twice }
+    ∷ record { cache = doubled; automaton = automatonA; room = 38; amount = 11; answer = Refused 11; after = doubled }
     ∷ []

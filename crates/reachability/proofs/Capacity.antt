@@ -40,22 +40,22 @@ module _ {Z F : Type 0} (A : System) (O : Zones Z F) where
     offer-same q m (empty f) n = refl
     offer-same q m (zone z f) n = computes A O (moved n (judged A O c q (m z) f))
 
-    follow-same : (k : Node Z) (i : ℕ) (q : State Z F) → Fine c′ (follow A O c k i q) → follow A O c′ k i q ≡ follow A O c k i q
+    follow-same : (j : ℕ) (k : Node Z) (i : ℕ) (q : State Z F) → Fine c′ (follow A O c j k i q) → follow A O c′ j k i q ≡ follow A O c j k i q
     unfolding follow
-    follow-same k i q = go (q .outcome) refl (eqb (A .from i) (k .at)) refl
+    follow-same j k i q = go (q .outcome) refl (eqb (A .from i) (k .at)) refl
       where
-        go : (d : Outcome) → q .outcome ≡ d → (b : Bool) → eqb (A .from i) (k .at) ≡ b → Fine c′ (follow A O c k i q)
-            → follow A O c′ k i q ≡ follow A O c k i q
+        go : (d : Outcome) → q .outcome ≡ d → (b : Bool) → eqb (A .from i) (k .at) ≡ b → Fine c′ (follow A O c j k i q)
+            → follow A O c′ j k i q ≡ follow A O c j k i q
         go going e true g n = rw (follow, e, g) (offer-same q _ _ (rw (follow, e, g) at n))
         go going e false g n = rw (follow, e, g)
         go (ended x) e b g n = rw (follow, e)
 
-    expand-same : (k : Node Z) (m i : ℕ) (q : State Z F) → Fine c′ (expand A O c k m i q) → expand A O c′ k m i q ≡ expand A O c k m i q
+    expand-same : (j : ℕ) (k : Node Z) (m i : ℕ) (q : State Z F) → Fine c′ (expand A O c j k m i q) → expand A O c′ j k m i q ≡ expand A O c j k m i q
     unfolding expand
-    expand-same k zero i q n = refl
-    expand-same k (suc m) i q n =
-        let q₁ = follow A O c k i q in
-        ap (expand A O c′ k m (suc i)) (follow-same k i q (earlier (expand-later A O c k m (suc i) q₁) n)) ∙ expand-same k m (suc i) q₁ n
+    expand-same j k zero i q n = refl
+    expand-same j k (suc m) i q n =
+        let q₁ = follow A O c j k i q in
+        ap (expand A O c′ j k m (suc i)) (follow-same j k i q (earlier (expand-later A O c j k m (suc i) q₁) n)) ∙ expand-same j k m (suc i) q₁ n
 
     take-same : (left left′ next : ℕ) (q : State Z F) → left + next ≡ c → left′ + next ≡ c′ → length (q .kept) ≤ c
         → Fine c′ (take-from A O c left next q) → take-from A O c′ left′ next q ≡ take-from A O c left next q
@@ -66,18 +66,18 @@ module _ {Z F : Type 0} (A : System) (O : Zones Z F) where
         sym (take-none A O c (suc left) next q (drop-of-length-le (q .kept) {i = next} (omega (arith, m .fits))))
     take-same (suc left) (suc left′) next q e e′ l n =
         go (drop next (q .kept)) refl n
-        (λ k h. take-same left left′ (suc next) (expand A O c k (A .edges) 0 q) (omega arith) (omega arith) (expand-room A O c next k q h l))
+        (λ k h. take-same left left′ (suc next) (expand A O c next k (A .edges) 0 q) (omega arith) (omega arith) (expand-room A O c next k q h l))
       where
         go : (ks : List (Node Z)) → drop next (q .kept) ≡ ks → Fine c′ (take-from A O c (suc left) next q)
-            → ((k : Node Z) → Nth (q .kept) next k → Fine c′ (take-from A O c left (suc next) (expand A O c k (A .edges) 0 q))
-            → take-from A O c′ left′ (suc next) (expand A O c k (A .edges) 0 q) ≡ take-from A O c left (suc next) (expand A O c k (A .edges) 0 q))
+            → ((k : Node Z) → Nth (q .kept) next k → Fine c′ (take-from A O c left (suc next) (expand A O c next k (A .edges) 0 q))
+            → take-from A O c′ left′ (suc next) (expand A O c next k (A .edges) 0 q) ≡ take-from A O c left (suc next) (expand A O c next k (A .edges) 0 q))
             → take-from A O c′ (suc left′) next q ≡ take-from A O c (suc left) next q
         go [] d n ih = take-none A O c′ (suc left′) next q d ∙ sym (take-none A O c (suc left) next q d)
         go (k ∷ ks) d n ih =
-            let q₁ = expand A O c k (A .edges) 0 q in
+            let q₁ = expand A O c next k (A .edges) 0 q in
             let m : Fine c′ (take-from A O c left (suc next) q₁) = rw (take-one A O c left next q k ks d) at n in
             take-one A O c′ left′ next q k ks d
-            ∙ ap (take-from A O c′ left′ (suc next)) (expand-same k (A .edges) 0 q (earlier (take-later A O c left (suc next) q₁) m))
+            ∙ ap (take-from A O c′ left′ (suc next)) (expand-same next k (A .edges) 0 q (earlier (take-later A O c left (suc next) q₁) m))
             ∙ ih k (nth-drop (q .kept) next k ks d) m
             ∙ sym (take-one A O c left next q k ks d)
 

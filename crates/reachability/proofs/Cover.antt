@@ -12,7 +12,7 @@ use Rattle.reachability.specs.Search.{nothing, begin, search}
 use Rattle.reachability.specs.Meaning.{Meaning}
 use Rattle.reachability.specs.Laws.{Falls, Clocks, OneSided}
 use Rattle.reachability.proofs.Lists.{All, nth-last, nth-one, nth-lt, drop-none, grown-back}
-use Rattle.reachability.proofs.Judged.{ended-going, Judged, was-target, was-inside, was-big, was-kept, was-full, judged, find-inside, by-edge}
+use Rattle.reachability.proofs.Judged.{ended-going, Judged, was-target, was-inside, was-big, was-kept, was-full, judged, find-inside, followed}
 use Rattle.reachability.proofs.Judged.{follow-on, take-cases}
 use Rattle.reachability.proofs.Later.{Later, earlier-all, later-going, later-nth, follow-later, expand-later, take-later}
 use Rattle.reachability.proofs.Keeps.{begin-room, expand-room}
@@ -29,7 +29,7 @@ module _ {Z F : Type 0} (A : System) (O : Zones Z F) (M : Meaning A Z F) (L : On
       search-all A O cap (anywhere O)
       (record {
         start = λ z f g e b a m. record { away = a; shape = L .enter-shape f g z e };
-        next = λ k i z f g h l c e b a m. record { away = a; shape = L .succ-shape i (k .zone) z f g l (h .shape) e };
+        next = λ j k i z f g h l c e b a m. record { away = a; shape = L .succ-shape i (k .zone) z f g l (h .shape) e };
       })
       tt
 
@@ -109,15 +109,15 @@ module _ {Z F : Type 0} (A : System) (O : Zones Z F) (M : Meaning A Z F) (L : On
     later-done : {q q′ : State Z F} {k : Node Z} {i : ℕ} → Later O q q′ → Done (q .kept) k i → Done (q′ .kept) k i
     later-done h d = record { covers = λ v a b c. later-covers h (d .covers v a b c) }
 
-    follow-done : (k : Node Z) (i : ℕ) (q : State Z F) → i < A .edges → M .Shape (k .zone) → A .from i ≡ k .at → Good (follow A O cap k i q)
-        → Done (follow A O cap k i q .kept) k i
-    follow-done k i q l h g o =
-        let p = earlier (follow-later A O cap k i q) o in
-        let d : follow A O cap k i q ≡ by-edge A O cap k i q = follow-on A O cap k i q (p .goes) g in
+    follow-done : (j : ℕ) (k : Node Z) (i : ℕ) (q : State Z F) → i < A .edges → M .Shape (k .zone) → A .from i ≡ k .at → Good (follow A O cap j k i q)
+        → Done (follow A O cap j k i q .kept) k i
+    follow-done j k i q l h g o =
+        let p = earlier (follow-later A O cap j k i q) o in
+        let d : follow A O cap j k i q ≡ followed A O cap j k i q = follow-on A O cap j k i q (p .goes) g in
         subst (λ (x : State Z F). Done (x .kept) k i) (sym d)
         (record {
           covers = λ v m u w.
-              offer-covers q (child A k i) (O .succ i (k .zone) (q .frac)) (A .to i) (A .reset i v) (p .sound) (subst Good d o)
+              offer-covers q (child A j k i) (O .succ i (k .zone) (q .frac)) (A .to i) (A .reset i v) (p .sound) (subst Good d o)
               (record {
                 at = λ z. refl;
                 some = λ f j y. L .succ-none s e i (k .zone) (q .frac) f v l h j y m u w;
@@ -126,16 +126,16 @@ module _ {Z F : Type 0} (A : System) (O : Zones Z F) (M : Meaning A Z F) (L : On
               });
         })
 
-    expand-done : (k : Node Z) (m i : ℕ) (q : State Z F) → M .Shape (k .zone) → Good (expand A O cap k m i q)
-        → (x : ℕ) → i ≤ x → x < i + m → x < A .edges → A .from x ≡ k .at → Done (expand A O cap k m i q .kept) k x
+    expand-done : (j : ℕ) (k : Node Z) (m i : ℕ) (q : State Z F) → M .Shape (k .zone) → Good (expand A O cap j k m i q)
+        → (x : ℕ) → i ≤ x → x < i + m → x < A .edges → A .from x ≡ k .at → Done (expand A O cap j k m i q .kept) k x
     unfolding expand
-    expand-done k zero i q h o x l u w g = absurd (omega arith)
-    expand-done k (suc m) i q h o x l u w g =
-        let q₁ = follow A O cap k i q in
-        let t = expand-later A O cap k m (suc i) q₁ in
+    expand-done j k zero i q h o x l u w g = absurd (omega arith)
+    expand-done j k (suc m) i q h o x l u w g =
+        let q₁ = follow A O cap j k i q in
+        let t = expand-later A O cap j k m (suc i) q₁ in
         elim (ℕ-discrete i x) [
-          | yes j ↦ later-done t (subst (Done (q₁ .kept) k) j (follow-done k i q (omega arith) h (rw j g) (earlier t o)))
-          | no n ↦ expand-done k m (suc i) q₁ h o x (omega arith) (omega arith) w g
+          | yes y ↦ later-done t (subst (Done (q₁ .kept) k) y (follow-done j k i q (omega arith) h (rw y g) (earlier t o)))
+          | no n ↦ expand-done j k m (suc i) q₁ h o x (omega arith) (omega arith) w g
         ]
 
     -- every edge of k has
@@ -151,12 +151,12 @@ module _ {Z F : Type 0} (A : System) (O : Zones Z F) (M : Meaning A Z F) (L : On
         take-cases A O cap (λ (x : State Z F). Good x → All (AllDone (x .kept)) (x .kept)) left next q
         (λ o g j k n. d j k (omega (arith, drop-none (q .kept) next o, nth-lt (q .kept) j k n)) n)
         (λ k n g.
-        let q₁ = expand A O cap k (A .edges) 0 q in
+        let q₁ = expand A O cap next k (A .edges) 0 q in
         let o : Good q₁ = earlier (take-later A O cap left (suc next) q₁) g in
-        let u : Later O q q₁ = expand-later A O cap k (A .edges) 0 q in
+        let u : Later O q q₁ = expand-later A O cap next k (A .edges) 0 q in
         let m : Nth (q₁ .kept) next k = later-nth u next k n in
         let here : AllDone (q₁ .kept) k = record {
-          done = λ x l g. expand-done k (A .edges) 0 q (o .sound next k m .shape) o x (omega arith) (omega arith) l g;
+          done = λ x l g. expand-done next k (A .edges) 0 q (o .sound next k m .shape) o x (omega arith) (omega arith) l g;
         } in
         take-done left (suc next) q₁ (omega arith) (expand-room A O cap next k q n r)
         (λ j y l h. elim (decLt j next) [

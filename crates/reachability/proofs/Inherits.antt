@@ -7,7 +7,7 @@ use Rattle.runs.specs.Runs.{System}
 use Rattle.reachability.specs.Search.{zone, fracOf, Zones, Node, Nth, State, going, first-node, child, nothing, begin, search}
 use Rattle.reachability.specs.Laws.{Falls}
 use Rattle.reachability.proofs.Lists.{All, all-snoc}
-use Rattle.reachability.proofs.Judged.{offer-kept, by-edge}
+use Rattle.reachability.proofs.Judged.{offer-kept, followed}
 use Rattle.reachability.proofs.Later.{offer-falls}
 use Rattle.reachability.proofs.Keeps.{Steady, search-keeps}
 
@@ -18,8 +18,8 @@ anywhere O = record { enter = λ f b. tt; succ = λ i z f b. tt; lowered = λ z 
 module _ {Z F : Type 0} (A : System) (O : Zones Z F) where
   pub record Inherited (N : Node Z → Type 0) (B : F → Type 0) : Type 0 where
     pub start : (z : Z) (f g : F) → O .enter f ≡ zone z g → B g → (A .start ≡ A .target → ⊥) → O .big z ≡ false → N (first-node A z)
-    pub next : (k : Node Z) (i : ℕ) (z : Z) (f g : F) → N k → i < A .edges → A .from i ≡ k .at → O .succ i (k .zone) f ≡ zone z g → B g
-        → (A .to i ≡ A .target → ⊥) → O .big z ≡ false → N (child A k i z)
+    pub next : (j : ℕ) (k : Node Z) (i : ℕ) (z : Z) (f g : F) → N k → i < A .edges → A .from i ≡ k .at → O .succ i (k .zone) f ≡ zone z g → B g
+        → (A .to i ≡ A .target → ⊥) → O .big z ≡ false → N (child A j k i z)
 
   module _ (cap : ℕ) {N : Node Z → Type 0} {B : F → Type 0} (fall : Falls O B) (I : Inherited N B) where
     abbrev Under : State Z F → Type 0
@@ -33,13 +33,13 @@ module _ {Z F : Type 0} (A : System) (O : Zones Z F) where
         (λ z f e a w l. all-snoc [] (first-node A z) (λ j k n. absurd n) (I .start z (O .top) f e (subst (λ x. B (fracOf x)) e c) a w))
 
     edge-all : (q : State Z F) (j : ℕ) (k : Node Z) (i : ℕ) → q .outcome ≡ going → Nth (q .kept) j k → i < A .edges → A .from i ≡ k .at
-        → Under q → Under (by-edge A O cap k i q)
+        → Under q → Under (followed A O cap j k i q)
     edge-all q j k i g n l d h b =
         let r = O .succ i (k .zone) (q .frac) in
-        let c : B (fracOf r) = offer-falls A O cap q (child A k i) r B fall b in
+        let c : B (fracOf r) = offer-falls A O cap q (child A j k i) r B fall b in
         let a : All N (q .kept) = h (fall .succ i (k .zone) (q .frac) c) in
-        offer-kept A O cap (All N) q (child A k i) r a
-        (λ z f e t w m. all-snoc (q .kept) (child A k i z) a (I .next k i z (q .frac) f (a j k n) l d e (subst (λ x. B (fracOf x)) e c) t w))
+        offer-kept A O cap (All N) q (child A j k i) r a
+        (λ z f e t w m. all-snoc (q .kept) (child A j k i z) a (I .next j k i z (q .frac) f (a j k n) l d e (subst (λ x. B (fracOf x)) e c) t w))
 
     pub steady-all : Steady A O cap Under
     steady-all = record { edge = edge-all }

@@ -9,15 +9,18 @@ use native.Mathlib.Omega.{arith}
 use borrow.Author.Tests.{ltb-true, ltb-false, lt-ltb, le-ltb, eqb-true, eqb-false, eq-eqb}
 use Rattle.runs.specs.Runs.{System}
 use Rattle.reachability.specs.Search.{Result, empty, zone, fracOf, Found, none, found, Zones, Node, Nth, End, reached, refused, Outcome, going}
-use Rattle.reachability.specs.Search.{ended, State, passed, stopped, keeping, child, find, judge, offer, follow, expand, take-from}
+use Rattle.reachability.specs.Search.{Came, ended, State, passed, stopped, keeping, child, find, judge, offer, follow, expand, take-from}
 use Rattle.reachability.proofs.Lists.{nth-drop}
 
 pub ended-going {ℓ} : {X : Type ℓ} {x : End} → ended x ≡ going → X
 ended-going e = let z : _≡_ {A = ℕ} 0 1 = cc in absurd (omega arith)
 
+other-end {ℓ} : {X : Type ℓ} {n : ℕ} {x : Came} → ended (refused n) ≡ ended (reached x) → X
+other-end e = let z : _≡_ {A = ℕ} 0 1 = cc in absurd (omega arith)
+
 module _ {Z F : Type 0} (A : System) (O : Zones Z F) where
   pub data Judged (cap : ℕ) (q : State Z F) (k : Node Z) (f : F) : State Z F → Type 0 where
-    was-target : eqb (k .at) (A .target) ≡ true → Judged cap q k f (stopped q f reached)
+    was-target : eqb (k .at) (A .target) ≡ true → Judged cap q k f (stopped q f (reached (k .came)))
     was-inside : (y : Node Z) → eqb (k .at) (A .target) ≡ false → find A O (q .kept) (k .at) (k .zone) ≡ found y
         → Judged cap q k f (passed q (O .lowered (k .zone) (y .zone) f))
     was-big : eqb (k .at) (A .target) ≡ false → find A O (q .kept) (k .at) (k .zone) ≡ none → O .big (k .zone) ≡ true
@@ -103,42 +106,46 @@ module _ {Z F : Type 0} (A : System) (O : Zones Z F) where
     offer-frac P q c (empty f) s t = s
     offer-frac P q c (zone z f) s t = judge-frac P (judged cap q (c z) f) s (λ y. t z f y refl)
 
-    judge-met : {q q′ : State Z F} {k : Node Z} {f : F} → Judged cap q k f q′ → q′ .outcome ≡ ended reached → k .at ≡ A .target
-    judge-met (was-target e) h = eqb-true _ _ e
-    judge-met (was-inside y e g) h = cc
-    judge-met (was-big e g i) h = cc
-    judge-met (was-kept e g i j) h = cc
-    judge-met (was-full e g i j) h = cc
-
     -- the zone that met the target
-    pub record Met (c : Z → Node Z) (r : Result Z F) : Type 0 where
+    pub record Met (q q′ : State Z F) (c : Z → Node Z) (r : Result Z F) (x : Came) : Type 0 where
       pub met : Z
       pub after : F
       pub made : r ≡ zone met after
       pub there : c met .at ≡ A .target
+      pub came : c met .came ≡ x
+      pub same : q′ .kept ≡ q .kept
 
-    pub offer-met : (q : State Z F) (c : Z → Node Z) (r : Result Z F) → offer A O cap q c r .outcome ≡ ended reached → Met c r
+    judge-met : {q q′ : State Z F} {f : F} {x : Came} (c : Z → Node Z) (z : Z) → Judged cap q (c z) f q′ → q′ .outcome ≡ ended (reached x)
+        → Met q q′ c (zone z f) x
+    judge-met {f = f} c z (was-target e) h = record { met = z; after = f; made = refl; there = eqb-true _ _ e; came = cc; same = refl }
+    judge-met c z (was-inside y e g) h = ended-going (sym h)
+    judge-met c z (was-big e g i) h = other-end h
+    judge-met c z (was-kept e g i j) h = ended-going (sym h)
+    judge-met c z (was-full e g i j) h = other-end h
+
+    pub offer-met : (q : State Z F) (c : Z → Node Z) (r : Result Z F) (x : Came) → offer A O cap q c r .outcome ≡ ended (reached x)
+        → Met q (offer A O cap q c r) c r x
     unfolding offer
-    offer-met q c (empty f) h = ended-going (sym h)
-    offer-met q c (zone z f) h = record { met = z; after = f; made = refl; there = judge-met (judged cap q (c z) f) h }
+    offer-met q c (empty f) x h = ended-going (sym h)
+    offer-met q c (zone z f) x h = judge-met c z (judged cap q (c z) f) h
 
     -- ---- what one edge comes to
-    abbrev pub by-edge : Node Z → ℕ → State Z F → State Z F
-    by-edge k i q = offer A O cap q (child A k i) (O .succ i (k .zone) (q .frac))
+    abbrev pub followed : ℕ → Node Z → ℕ → State Z F → State Z F
+    followed j k i q = offer A O cap q (child A j k i) (O .succ i (k .zone) (q .frac))
 
-    pub follow-cases {ℓ} : (P : State Z F → Type ℓ) (k : Node Z) (i : ℕ) (q : State Z F) → P q
-        → (q .outcome ≡ going → A .from i ≡ k .at → P (by-edge k i q)) → P (follow A O cap k i q)
+    pub follow-cases {ℓ} : (P : State Z F → Type ℓ) (j : ℕ) (k : Node Z) (i : ℕ) (q : State Z F) → P q
+        → (q .outcome ≡ going → A .from i ≡ k .at → P (followed j k i q)) → P (follow A O cap j k i q)
     unfolding follow
-    follow-cases P k i q s t = go (q .outcome) refl (eqb (A .from i) (k .at)) refl
+    follow-cases P j k i q s t = go (q .outcome) refl (eqb (A .from i) (k .at)) refl
       where
-        go : (c : Outcome) → q .outcome ≡ c → (b : Bool) → eqb (A .from i) (k .at) ≡ b → P (follow A O cap k i q)
+        go : (c : Outcome) → q .outcome ≡ c → (b : Bool) → eqb (A .from i) (k .at) ≡ b → P (follow A O cap j k i q)
         go going e true g = rw (follow, e, g) (t e (eqb-true _ _ g))
         go going e false g = rw (follow, e, g) s
         go (ended x) e b g = rw (follow, e) s
 
-    pub follow-on : (k : Node Z) (i : ℕ) (q : State Z F) → q .outcome ≡ going → A .from i ≡ k .at → follow A O cap k i q ≡ by-edge k i q
+    pub follow-on : (j : ℕ) (k : Node Z) (i : ℕ) (q : State Z F) → q .outcome ≡ going → A .from i ≡ k .at → follow A O cap j k i q ≡ followed j k i q
     unfolding follow
-    follow-on k i q e g = rw (follow, e, eq-eqb _ _ g) (ap (λ c. by-edge k i (record { kept = q .kept; frac = q .frac; outcome = c })) e)
+    follow-on j k i q e g = rw (follow, e, eq-eqb _ _ g) (ap (λ c. followed j k i (record { kept = q .kept; frac = q .frac; outcome = c })) e)
 
     -- ---- what taking comes to
     pub take-none : (left next : ℕ) (q : State Z F) → drop next (q .kept) ≡ [] → take-from A O cap left next q ≡ q
@@ -147,12 +154,12 @@ module _ {Z F : Type 0} (A : System) (O : Zones Z F) where
     take-none (suc left) next q e = rw (take-from, e)
 
     pub take-one : (left next : ℕ) (q : State Z F) (k : Node Z) (ks : List (Node Z)) → drop next (q .kept) ≡ k ∷ ks
-        → take-from A O cap (suc left) next q ≡ take-from A O cap left (suc next) (expand A O cap k (A .edges) 0 q)
+        → take-from A O cap (suc left) next q ≡ take-from A O cap left (suc next) (expand A O cap next k (A .edges) 0 q)
     unfolding take-from
     take-one left next q k ks e = rw (take-from, e)
 
     pub take-cases {ℓ} : (P : State Z F → Type ℓ) (left next : ℕ) (q : State Z F) → (drop next (q .kept) ≡ [] → P q)
-        → ((k : Node Z) → Nth (q .kept) next k → P (take-from A O cap left (suc next) (expand A O cap k (A .edges) 0 q)))
+        → ((k : Node Z) → Nth (q .kept) next k → P (take-from A O cap left (suc next) (expand A O cap next k (A .edges) 0 q)))
         → P (take-from A O cap (suc left) next q)
     take-cases P left next q s t = go (drop next (q .kept)) refl
       where

@@ -56,18 +56,18 @@ module _ {Z F : Type 0} (A : System) (O : Zones Z F) (cap : ℕ) where
     falls = λ B fall h. b B fall (offer-falls q c r B fall h);
   }
 
-  pub follow-later : (k : Node Z) (i : ℕ) (q : State Z F) → Later O q (follow A O cap k i q)
-  follow-later k i q =
-      follow-cases A O cap (Later O q) k i q (later-refl q) (λ e g. offer-later q _ _ e (λ B fall. fall .succ i (k .zone) (q .frac)))
+  pub follow-later : (j : ℕ) (k : Node Z) (i : ℕ) (q : State Z F) → Later O q (follow A O cap j k i q)
+  follow-later j k i q =
+      follow-cases A O cap (Later O q) j k i q (later-refl q) (λ e g. offer-later q _ _ e (λ B fall. fall .succ i (k .zone) (q .frac)))
 
-  pub expand-later : (k : Node Z) (m i : ℕ) (q : State Z F) → Later O q (expand A O cap k m i q)
+  pub expand-later : (j : ℕ) (k : Node Z) (m i : ℕ) (q : State Z F) → Later O q (expand A O cap j k m i q)
   unfolding expand
-  expand-later k zero i q = later-refl q
-  expand-later k (suc m) i q = later-trans (follow-later k i q) (expand-later k m (suc i) (follow A O cap k i q))
+  expand-later j k zero i q = later-refl q
+  expand-later j k (suc m) i q = later-trans (follow-later j k i q) (expand-later j k m (suc i) (follow A O cap j k i q))
 
   pub take-later : (left next : ℕ) (q : State Z F) → Later O q (take-from A O cap left next q)
   unfolding take-from
   take-later zero next q = later-refl q
   take-later (suc left) next q =
       take-cases A O cap (Later O q) left next q (λ e. later-refl q)
-      (λ k n. later-trans (expand-later k (A .edges) 0 q) (take-later left (suc next) (expand A O cap k (A .edges) 0 q)))
+      (λ k n. later-trans (expand-later next k (A .edges) 0 q) (take-later left (suc next) (expand A O cap next k (A .edges) 0 q)))

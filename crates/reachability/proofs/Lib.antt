@@ -9,6 +9,8 @@ pub mod Cover
 pub mod Same
 pub mod Reached
 pub mod Robust
+pub mod Branches
+pub mod Witnesses
 pub mod Capacity
 pub mod Examples
 pub mod Graphs

@@ -1,7 +1,7 @@
 -- Elements of a list by their place, and lists that have grown.
 use Prim.Native.Nat.{ℕ, zero, suc, _≤_, _<_}
 use mathlib.Core.List.{List, [], _∷_, _++_, append-assoc, append-nil}
-use mathlib.Core.Path.{_≡_, refl, sym, _∙_, subst}
+use mathlib.Core.Path.{_≡_, refl, sym, ap, _∙_, subst}
 use mathlib.Core.Logic.{_⊎_, inl, inr, ⊎-elim}
 use lib.ListN.{length, drop, length-append}
 use native.Mathlib.Omega.{arith}
@@ -31,14 +31,15 @@ module _ {X : Type 0} where
   nth-last [] y = refl
   nth-last (x ∷ xs) y = nth-last xs y
 
-  pub nth-snoc : (xs : List X) (y : X) (j : ℕ) (k : X) → Nth (xs ++ (y ∷ [])) j k → Nth xs j k ⊎ (y ≡ k)
-  nth-snoc [] y zero k h = inr h
-  nth-snoc [] y (suc j) k h = absurd h
-  nth-snoc (x ∷ xs) y zero k h = inl h
-  nth-snoc (x ∷ xs) y (suc j) k h = nth-snoc xs y j k h
+  -- an element of a list with one more is of that list, or the last
+  pub nth-place : (xs : List X) (y : X) (j : ℕ) (k : X) → Nth (xs ++ (y ∷ [])) j k → Nth xs j k ⊎ ((j ≡ length xs) × (y ≡ k))
+  nth-place [] y zero k h = inr (refl, h)
+  nth-place [] y (suc j) k h = absurd h
+  nth-place (x ∷ xs) y zero k h = inl h
+  nth-place (x ∷ xs) y (suc j) k h = ⊎-elim inl (λ m. inr (omega (arith, m .0), m .1)) (nth-place xs y j k h)
 
   pub all-snoc : {N : X → Type 0} (xs : List X) (y : X) → All N xs → N y → All N (xs ++ (y ∷ []))
-  all-snoc {N} xs y a n j k h = ⊎-elim (a j k) (λ e. subst N e n) (nth-snoc xs y j k h)
+  all-snoc {N} xs y a n j k h = ⊎-elim (a j k) (λ m. subst N (m .1) n) (nth-place xs y j k h)
 
   pub nth-one : (xs : List X) (j : ℕ) (k k′ : X) → Nth xs j k → Nth xs j k′ → k ≡ k′
   nth-one [] j k k′ h g = absurd h
@@ -58,6 +59,11 @@ module _ {X : Type 0} where
   nth-drop [] (suc n) k ks h = nil-cons h
   nth-drop (x ∷ xs) zero k ks h = cc
   nth-drop (x ∷ xs) (suc n) k ks h = nth-drop xs n k ks h
+
+  pub nth-tail : (xs : List X) (j : ℕ) (k : X) → Nth xs j k → drop j xs ≡ k ∷ drop (suc j) xs
+  nth-tail [] j k h = absurd h
+  nth-tail (x ∷ xs) zero k h = ap (λ y. y ∷ xs) h
+  nth-tail (x ∷ xs) (suc j) k h = nth-tail xs j k h
 
   pub drop-none : (xs : List X) (n : ℕ) → drop n xs ≡ [] → length xs ≤ n
   drop-none [] n h = omega arith

@@ -3,12 +3,12 @@ use Prim.Native.Nat.{ℕ, _<_}
 use mathlib.Core.Path.{_≡_, ap, _∙_, subst}
 use Rattle.runs.specs.Runs.{System, Stand, first, Reaches}
 use Rattle.reachability.specs.Search.{Result, zone, fracOf, Zones, Node, Nth, State, reached, going, ended, first-node, child, offer, nothing}
-use Rattle.reachability.specs.Search.{begin, search}
+use Rattle.reachability.specs.Search.{Came, begin, search}
 use Rattle.reachability.specs.Meaning.{Meaning}
 use Rattle.reachability.specs.Laws.{Falls, Stays, OneSided, ExactLaws}
 use Rattle.reachability.proofs.Lists.{All}
 use Rattle.reachability.proofs.Paths.{last-stands}
-use Rattle.reachability.proofs.Judged.{offer-frac, offer-met, by-edge}
+use Rattle.reachability.proofs.Judged.{offer-frac, offer-met, followed}
 use Rattle.reachability.proofs.Keeps.{search-keeps}
 use Rattle.reachability.proofs.Inherits.{begin-all, steady-all}
 use Rattle.reachability.proofs.Same.{Tight, tight-start, tight-next, tight}
@@ -24,16 +24,16 @@ module _ {Z F : Type 0} (A : System) (O : Zones Z F) (M : Meaning A Z F) (L : On
   record Reaching (q : State Z F) : Type 0 where
     fine : B (q .frac)
     tights : B (q .frac) → All T (q .kept)
-    hits : q .outcome ≡ ended reached → Reaches A s₀ e₀
+    hits : (x : Came) → q .outcome ≡ ended (reached x) → Reaches A s₀ e₀
 
   offer-fine : (q : State Z F) (c : Z → Node Z) (r : Result Z F) → B (fracOf r) → B (offer A O cap q c r .frac)
   offer-fine q c r b =
       offer-frac A O cap B q c r b (λ z f y e i. stay .lowered (c z .zone) (y .zone) f (i .holds) (subst (λ x. B (fracOf x)) e b))
 
   offer-hits : (q : State Z F) (c : Z → Node Z) (r : Result Z F) → ((z : Z) (f : F) → r ≡ zone z f → T (c z))
-      → offer A O cap q c r .outcome ≡ ended reached → Reaches A s₀ e₀
-  offer-hits q c r t o =
-      let m = offer-met A O cap q c r o in
+      → (x : Came) → offer A O cap q c r .outcome ≡ ended (reached x) → Reaches A s₀ e₀
+  offer-hits q c r t x o =
+      let m = offer-met A O cap q c r x o in
       let h = t (m .met) (m .after) (m .made) in
       let v = X .point (c (m .met) .zone) (h .shape) (h .fit) in
       let n = h .ends (v .0) (v .1) in
@@ -55,16 +55,16 @@ module _ {Z F : Type 0} (A : System) (O : Zones Z F) (M : Meaning A Z F) (L : On
       }
 
   goes-on : (q : State Z F) (j : ℕ) (k : Node Z) (i : ℕ) → q .outcome ≡ going → Nth (q .kept) j k → i < A .edges → A .from i ≡ k .at → Reaching q
-      → Reaching (by-edge A O cap k i q)
+      → Reaching (followed A O cap j k i q)
   goes-on q j k i c n l g h =
       let r = O .succ i (k .zone) (q .frac) in
       let b : B (fracOf r) = stay .succ i (k .zone) (q .frac) (h .fine) in
       let y : T k = h .tights (h .fine) j k n in
       record {
-        fine = offer-fine q (child A k i) r b;
+        fine = offer-fine q (child A j k i) r b;
         tights = steady-all A O cap fall (tight A O M L s₀ e₀ s₀ e₀ X) .edge q j k i c n l g (h .tights);
-        hits = offer-hits q (child A k i) r
-            (λ z f e. tight-next A O M L s₀ e₀ s₀ e₀ X k i z (q .frac) f y l g e (subst (λ x. B (fracOf x)) e b));
+        hits = offer-hits q (child A j k i) r
+            (λ z f e. tight-next A O M L s₀ e₀ s₀ e₀ X j k i z (q .frac) f y l g e (subst (λ x. B (fracOf x)) e b));
       }
 
   ends : Reaching (search A O cap)
@@ -73,5 +73,5 @@ module _ {Z F : Type 0} (A : System) (O : Zones Z F) (M : Meaning A Z F) (L : On
   pub stays-exact : M .Exact (search A O cap .frac) s₀ e₀
   stays-exact = ends .fine
 
-  pub reaches : search A O cap .outcome ≡ ended reached → Reaches A s₀ e₀
+  pub reaches : (x : Came) → search A O cap .outcome ≡ ended (reached x) → Reaches A s₀ e₀
   reaches = ends .hits

@@ -2,7 +2,7 @@
 use Prim.Native.Nat.{ℕ}
 use mathlib.Core.Path.{_≡_}
 use Rattle.runs.specs.Runs.{System, Reaches}
-use Rattle.reachability.specs.Search.{Zones, reached, going, ended, search}
+use Rattle.reachability.specs.Search.{Came, Zones, reached, going, ended, search}
 use Rattle.reachability.specs.Meaning.{Meaning, SameSet}
 use Rattle.reachability.specs.Laws.{Laws}
 use Rattle.reachability.proofs.Lists.{All}
@@ -23,7 +23,7 @@ module _ {Z F : Type 0} (A : System) (O : Zones Z F) (M : Meaning A Z F) (s₀ e
   exact-there = stays-exact A O M (L .one-sided) s₀ e₀ (L .both) (L .exact s₀ e₀) (L .fine) cap
 
   -- where the target is reached, a run reaches it
-  pub reached-hits : search A O cap .outcome ≡ ended reached → Reaches A s₀ e₀
+  pub reached-hits : (x : Came) → search A O cap .outcome ≡ ended (reached x) → Reaches A s₀ e₀
   reached-hits = reaches A O M (L .one-sided) s₀ e₀ (L .both) (L .exact s₀ e₀) (L .fine) cap
 
   -- where nothing is left to take, none does below the safe fraction

@@ -26,9 +26,9 @@ module _ {Z F : Type 0} (A : System) (O : Zones Z F) (M : Meaning A Z F) (L : On
           (L .enter-in s e f g z (w .time) j b (n .run .0) (w .stays (n .run .0)));
     }
 
-    whole-next : (k : Node Z) (i : ℕ) (z : Z) (f g : F) → Whole k → i < A .edges → A .from i ≡ k .at → O .succ i (k .zone) f ≡ zone z g
-        → M .Safe g s e → Whole (child A k i z)
-    whole-next k i z f g h l o j b = record {
+    whole-next : (j : ℕ) (k : Node Z) (i : ℕ) (z : Z) (f g : F) → Whole k → i < A .edges → A .from i ≡ k .at → O .succ i (k .zone) f ≡ zone z g
+        → M .Safe g s e → Whole (child A j k i z)
+    whole-next n k i z f g h l o j b = record {
       shape = L .succ-shape i (k .zone) z f g l (h .shape) j;
       holds = λ v n.
           let c = cut A s e (first A) (n .steps) (k .path) i (n .run .1) (n .takes) in
@@ -49,7 +49,7 @@ module _ {Z F : Type 0} (A : System) (O : Zones Z F) (M : Meaning A Z F) (L : On
     pub all-whole : Falls O (λ f. M .Safe f s e) → (cap : ℕ) → M .Safe (search A O cap .frac) s e → All Whole (search A O cap .kept)
     all-whole fall cap =
         search-all A O cap fall
-        (record { start = λ z f g j b a m. whole-start z f g j b; next = λ k i z f g h l o j b a m. whole-next k i z f g h l o j b })
+        (record { start = λ z f g j b a m. whole-start z f g j b; next = λ n k i z f g h l o j b a m. whole-next n k i z f g h l o j b })
 
   -- ---- states of the zone are of runs
   pub record Tight (k : Node Z) : Type 0 where
@@ -72,9 +72,9 @@ module _ {Z F : Type 0} (A : System) (O : Zones Z F) (M : Meaning A Z F) (L : On
           };
     }
 
-    pub tight-next : (k : Node Z) (i : ℕ) (z : Z) (f g : F) → Tight k → i < A .edges → A .from i ≡ k .at → O .succ i (k .zone) f ≡ zone z g
-        → M .Exact g s e → Tight (child A k i z)
-    tight-next k i z f g h l c j b = record {
+    pub tight-next : (j : ℕ) (k : Node Z) (i : ℕ) (z : Z) (f g : F) → Tight k → i < A .edges → A .from i ≡ k .at → O .succ i (k .zone) f ≡ zone z g
+        → M .Exact g s e → Tight (child A j k i z)
+    tight-next n k i z f g h l c j b = record {
       shape = L .succ-shape i (k .zone) z f g l (h .shape) j;
       fit = X .succ-fit s e i (k .zone) z f g l (h .shape) (h .fit) j b;
       ends = λ v n.
@@ -93,7 +93,7 @@ module _ {Z F : Type 0} (A : System) (O : Zones Z F) (M : Meaning A Z F) (L : On
     }
 
     pub tight : Inherited A O Tight (λ f. M .Exact f s e)
-    tight = record { start = λ z f g j b a m. tight-start z f g j b; next = λ k i z f g h l o j b a m. tight-next k i z f g h l o j b }
+    tight = record { start = λ z f g j b a m. tight-start z f g j b; next = λ n k i z f g h l o j b a m. tight-next n k i z f g h l o j b }
 
     pub all-tight : Falls O (λ f. M .Exact f s e) → (cap : ℕ) → M .Exact (search A O cap .frac) s e → All Tight (search A O cap .kept)
     all-tight fall cap = search-all A O cap fall tight

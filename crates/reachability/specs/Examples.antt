@@ -5,7 +5,8 @@ use mathlib.Core.Path.{_≡_}
 use lib.ListN.{getD}
 use lib.Dec.{ltb, leb}
 use Rattle.runs.specs.Runs.{System}
-use Rattle.reachability.specs.Search.{Result, empty, zone, Zones, Node, State, Outcome, going, ended, reached, refused, judge, search}
+use Rattle.reachability.specs.Search.{Result, empty, zone, Zones, Came, first-zone, by-edge, Node, State, Outcome, going, ended}
+use Rattle.reachability.specs.Search.{reached, refused, judge, search}
 
 -- edges 0 to 3 leave location 0, for 1, 1, 1 and 0; edge 4 leads from 1 to 2
 abbrev pub machine : ℕ → System
@@ -43,30 +44,33 @@ numbers first step = record {
 abbrev pub small : Zones ℕ ℕ
 small = numbers 1 (λ i z. getD (5 ∷ 7 ∷ 4 ∷ 0 ∷ (z + 1) ∷ []) i 0)
 
-abbrev pub node : ℕ → ℕ → List ℕ → Node ℕ
-node l z p = record { at = l; zone = z; path = p }
+abbrev pub node : ℕ → ℕ → Came → List ℕ → Node ℕ
+node l z c p = record { at = l; zone = z; came = c; path = p }
 
 abbrev pub state : List (Node ℕ) → ℕ → Outcome → State ℕ ℕ
 state ks f o = record { kept = ks; frac = f; outcome = o }
 
 abbrev pub three : List (Node ℕ)
-three = node 0 1 [] ∷ node 1 5 (0 ∷ []) ∷ node 1 7 (1 ∷ []) ∷ []
+three = node 0 1 first-zone [] ∷ node 1 5 (by-edge 0 0) (0 ∷ []) ∷ node 1 7 (by-edge 0 1) (1 ∷ []) ∷ []
 
 abbrev pub four : List (Node ℕ)
-four = node 0 1 [] ∷ node 1 5 (0 ∷ []) ∷ node 1 7 (1 ∷ []) ∷ node 2 6 (0 ∷ 4 ∷ []) ∷ []
+four = node 0 1 first-zone [] ∷ node 1 5 (by-edge 0 0) (0 ∷ []) ∷ node 1 7 (by-edge 0 1) (1 ∷ []) ∷ node 2 6 (by-edge 1 4) (0 ∷ 4 ∷ []) ∷ []
 
 abbrev pub five : List (Node ℕ)
-five = node 0 1 [] ∷ node 1 5 (0 ∷ []) ∷ node 1 7 (1 ∷ []) ∷ node 2 6 (0 ∷ 4 ∷ []) ∷ node 2 8 (1 ∷ 4 ∷ []) ∷ []
+five = node 0 1 first-zone [] ∷ node 1 5 (by-edge 0 0) (0 ∷ []) ∷ node 1 7 (by-edge 0 1) (1 ∷ []) ∷ node 2 6 (by-edge 1 4) (0 ∷ 4 ∷ []) ∷ node 2 8 (by-edge 2 4) (1 ∷ 4 ∷ []) ∷ []
+
+abbrev pub kept : List (Node ℕ)
+kept = node 2 60 first-zone [] ∷ []
 
 pub record Shown : Type 0 where
   -- oldest first, each once, edges in order; 4 is dropped within 5, the oldest that contains it
   pub holds : search (machine 9) small 5 ≡ state five 943 going
   pub full : search (machine 9) small 4 ≡ state four 943 (ended (refused 10))
   -- at once: what is left is not taken
-  pub met : search (machine 2) small 5 ≡ state three 944 (ended reached)
+  pub met : search (machine 2) small 5 ≡ state three 944 (ended (reached (by-edge 1 4)))
   -- an empty zone is dropped, at the target too
   pub nothing : search (machine 0) (numbers 0 (λ i z. 1)) 0 ≡ state [] 999 going
   -- the target, then a kept zone that contains it, then 9, then 10
-  pub target : judge (machine 2) small 1 (state (node 2 60 [] ∷ []) 999 going) (node 2 55 []) 998 ≡ state (node 2 60 [] ∷ []) 998 (ended reached)
-  pub inside : judge (machine 9) small 1 (state (node 2 60 [] ∷ []) 999 going) (node 2 55 []) 998 ≡ state (node 2 60 [] ∷ []) 398 going
-  pub big : judge (machine 9) small 1 (state (node 2 60 [] ∷ []) 999 going) (node 3 55 []) 998 ≡ state (node 2 60 [] ∷ []) 998 (ended (refused 9))
+  pub target : judge (machine 2) small 1 (state kept 999 going) (node 2 55 (by-edge 3 4) []) 998 ≡ state kept 998 (ended (reached (by-edge 3 4)))
+  pub inside : judge (machine 9) small 1 (state kept 999 going) (node 2 55 (by-edge 3 4) []) 998 ≡ state kept 398 going
+  pub big : judge (machine 9) small 1 (state kept 999 going) (node 3 55 (by-edge 3 4) []) 998 ≡ state kept 998 (ended (refused 9))

@@ -2,5 +2,7 @@
 pub mod Search
 pub mod Meaning
 pub mod Laws
+pub mod Branches
+pub mod Witnesses
 pub mod Examples
 pub mod Graphs

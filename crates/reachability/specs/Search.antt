@@ -1,4 +1,4 @@
--- The search of document 01 over any zones. A node keeps the edges that lead to it.
+-- The search of document 01 over any zones. A node keeps the edges that lead to it, and document 02's "slot it came from and the edge taken".
 use Prim.Native.Nat.{ℕ, zero, suc}
 use mathlib.Core.List.{List, [], _∷_, _++_}
 use mathlib.Core.Bool.{Bool, true, false}
@@ -30,10 +30,16 @@ pub record Zones (Z F : Type 0) : Type 0 where
   pub lowered : Z → Z → F → F
   pub big : Z → Bool
 
--- a zone to be kept: its location, and the edges that lead to it
+-- "the slot it came from and the edge taken, counted from 0, both −1 for the first zone": the place of a kept node, and an edge of it
+pub data Came : Type 0 where
+  first-zone : Came
+  by-edge : ℕ → ℕ → Came
+
+-- a zone to be kept: its location, where it came from, and the edges that lead to it
 pub record Node (Z : Type 0) : Type 0 where
   pub at : ℕ
   pub zone : Z
+  pub came : Came
   pub path : List ℕ
 
 -- the element at j is k
@@ -42,9 +48,9 @@ Nth [] j k = ⊥
 Nth (x ∷ xs) zero k = x ≡ k
 Nth (x ∷ xs) (suc j) k = Nth xs j k
 
--- why a search has stopped: the target is reached, or a refusal by its number, 9 or 10
+-- why a search has stopped: the target is reached, by a zone that came so, or a refusal by its number, 9 or 10
 pub data End : Type 0 where
-  reached : End
+  reached : Came → End
   refused : ℕ → End
 
 -- "When nothing is left to take, the card holds": a search that is still going then
@@ -71,11 +77,11 @@ module _ {Z F : Type 0} where
 module _ {Z : Type 0} (A : System) where
   -- "The first zone .. enters the start."
   abbrev pub first-node : Z → Node Z
-  first-node z = record { at = A .start; zone = z; path = [] }
+  first-node z = record { at = A .start; zone = z; came = first-zone; path = [] }
 
-  -- a zone that came from k by the edge i
-  abbrev pub child : Node Z → ℕ → Z → Node Z
-  child k i z = record { at = A .to i; zone = z; path = k .path ++ (i ∷ []) }
+  -- a zone that came from k, the node at j, by the edge i
+  abbrev pub child : ℕ → Node Z → ℕ → Z → Node Z
+  child j k i z = record { at = A .to i; zone = z; came = by-edge j i; path = k .path ++ (i ∷ []) }
 
 module _ {Z F : Type 0} (A : System) (O : Zones Z F) where
   -- the oldest kept zone of location l that contains z
@@ -89,7 +95,7 @@ module _ {Z F : Type 0} (A : System) (O : Zones Z F) where
     unfoldable pub judge : State Z F → Node Z → F → State Z F
     judge q k f =
         elim (eqb (k .at) (A .target)) [
-          | true ↦ stopped q f reached
+          | true ↦ stopped q f (reached (k .came))
           | false ↦ elim (find (q .kept) (k .at) (k .zone)) [
             | found y ↦ passed q (O .lowered (k .zone) (y .zone) f)
             | none ↦ elim (O .big (k .zone)) [
@@ -104,23 +110,23 @@ module _ {Z F : Type 0} (A : System) (O : Zones Z F) where
     offer q c (empty f) = passed q f
     offer q c (zone z f) = judge q (c z) f
 
-    -- one edge of a node; a search that has stopped stays as it is
-    unfoldable pub follow : Node Z → ℕ → State Z F → State Z F
-    follow k i q =
+    -- one edge of k, the node at j; a search that has stopped stays as it is
+    unfoldable pub follow : ℕ → Node Z → ℕ → State Z F → State Z F
+    follow j k i q =
         elim (q .outcome) [
-          | going ↦ elim (eqb (A .from i) (k .at)) [ true ↦ offer q (child A k i) (O .succ i (k .zone) (q .frac)) | false ↦ q ]
+          | going ↦ elim (eqb (A .from i) (k .at)) [ true ↦ offer q (child A j k i) (O .succ i (k .zone) (q .frac)) | false ↦ q ]
           | ended x ↦ q
         ]
 
     -- the edges from i on, m of them
-    unfoldable pub expand : Node Z → ℕ → ℕ → State Z F → State Z F
-    expand k zero i q = q
-    expand k (suc m) i q = expand k m (suc i) (follow k i q)
+    unfoldable pub expand : ℕ → Node Z → ℕ → ℕ → State Z F → State Z F
+    expand j k zero i q = q
+    expand j k (suc m) i q = expand j k m (suc i) (follow j k i q)
 
     -- the kept nodes from the one at `next` on; the first number is the slots not yet taken
     unfoldable pub take-from : ℕ → ℕ → State Z F → State Z F
     take-from zero next q = q
-    take-from (suc left) next q = elim (drop next (q .kept)) [ [] ↦ q | k ∷ ks ↦ take-from left (suc next) (expand k (A .edges) 0 q) ]
+    take-from (suc left) next q = elim (drop next (q .kept)) [ [] ↦ q | k ∷ ks ↦ take-from left (suc next) (expand next k (A .edges) 0 q) ]
 
     abbrev pub nothing : State Z F
     nothing = record { kept = []; frac = O .top; outcome = going }

@@ -21,7 +21,7 @@ use Rattle.search.specs.Verdicts.{holdingOf}
 -- its fraction "is given out in lowest terms"
 unfoldable pub answerOf : Outcome → Fraction → ℕ → Answer
 answerOf going f zones = Found (Holds (holdingOf (lowestTerms f))) zones
-answerOf (ended reached) f zones = Found Reached zones
+answerOf (ended (reached c)) f zones = Found Reached zones
 answerOf (ended (refused k)) f zones = Refused k
 
 unfoldable pub stateAnswer : State (List Pair) Fraction → Answer

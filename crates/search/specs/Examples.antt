@@ -2,7 +2,7 @@
 use Prim.Native.Nat.{ℕ, _/_, _%_}
 use mathlib.Core.List.{List, [], _∷_, _++_}
 use mathlib.Core.Path.{_≡_}
-use lib.IntN.{ℤ, pos}
+use lib.IntN.{ℤ, pos, negsuc}
 use lib.ListN.{length, replicate}
 use Rattle.search.specs.declared.verdict.Answer.{Answer}
 use Rattle.search.specs.declared.verdict.Answer.the-variants.{Found, Refused}
@@ -53,14 +53,14 @@ firstBytes = card 1 (limits 0 5) (limits 0 9) (edge 1 0 7 noUpper)
 -- ---- their stores
 -- two slots and two numbers more
 abbrev lent : List ℤ
-lent = replicate 20 (pos 7)
+lent = replicate 24 (pos 7)
 
--- the start's zone, of clock values from 0 to hi
+-- the start's zone, of clock values from 0 to hi; it came from none
 abbrev kept : ℕ → List ℤ
-kept hi = pos 0 ∷ pos 0 ∷ pos 0 ∷ pos 0 ∷ pos 0 ∷ pos hi ∷ pos 1 ∷ pos 0 ∷ pos 0 ∷ []
+kept hi = pos 0 ∷ negsuc 0 ∷ negsuc 0 ∷ pos 0 ∷ pos 0 ∷ pos 0 ∷ pos 0 ∷ pos hi ∷ pos 1 ∷ pos 0 ∷ pos 0 ∷ []
 
 abbrev first : ℕ → List ℤ
-first hi = kept hi ++ replicate 11 (pos 7)
+first hi = kept hi ++ replicate 13 (pos 7)
 
 abbrev below : ℕ → ℕ → ℕ → Answer
 below n d zones = Found (Holds (Below (record { n = n; d = d }))) zones
@@ -77,8 +77,8 @@ examples =
     ∷ record { bytes = card 1 (limits 0 5) (limits 0 9) (edge 1 1 4 noUpper); store = lent; answer = Found Reached 1; after = first 5 }  -- F
     ∷ record { bytes = card 1 (limits 0 5) (limits 3 9) (edge 1 1 0 noUpper); store = lent; answer = below 3 1 1; after = first 5 }  -- G
     ∷ record { bytes = card 1 (limits 0 5) (limits 0 9) (edge 0 1 0 noUpper); store = lent; answer = Found (Holds AnyError) 1; after = first 5 }  -- H
-    ∷ record { bytes = firstBytes; store = replicate 8 (pos 7); answer = Refused 10; after = replicate 8 (pos 7) }  -- I
-    ∷ record { bytes = firstBytes; store = replicate 9 (pos 7); answer = below 1 1 1; after = kept 5 }  -- I
+    ∷ record { bytes = firstBytes; store = replicate 10 (pos 7); answer = Refused 10; after = replicate 10 (pos 7) }  -- I
+    ∷ record { bytes = firstBytes; store = replicate 11 (pos 7); answer = below 1 1 1; after = kept 5 }  -- I
     ∷ record { bytes = card 1 (limits 0 5) (limits 0 9) (edge 1 2 7 noUpper); store = lent; answer = Refused 7; after = lent }  -- J
     ∷ record { bytes = card 9 (limits 0 5) (limits 0 9) (edge 1 0 7 noUpper); store = lent; answer = Refused 4; after = lent }  -- J, n of 9
     ∷ []

@@ -17,11 +17,12 @@ use Rattle.search.specs.declared.outcome.Turn.{Turn}
 use Rattle.search.specs.Outcomes.{outcomeOf}
 use Rattle.automata.specs.Automata.{clocks, locations, to, guardOf, invariantOf, resetsOf}
 use Rattle.search.specs.Instance.{ZoneNode, ZoneState, workOf, resultOf, zonesOf}
-use Rattle.reachability.specs.Search.{going, Nth, offer}
+use Rattle.reachability.specs.Search.{Came, going, Nth, offer}
 use Rattle.automata.specs.Semantics.{systemOf}
 use Rattle.slots.specs.Slots.{slotLength, slotLocation, Framed}
 use Rattle.slots.specs.Containing.{withinSlots}
-use Rattle.search.specs.Store.{storeOf}
+use Rattle.slots.specs.declared.slot.Origin.{Origin}
+use Rattle.search.specs.Store.{originOf, storeOf, mostSlots}
 
 -- ---- slot j, of the same location as the new one, contains it
 pub record Hits (n : ℕ) (new s : List ℤ) (j : ℕ) : Type 0 where
@@ -70,6 +71,7 @@ pub record Going (b : List ℕ) (slots : ℕ) (s : List ℤ) (t : Turn) : Type 0
   pub state : ZoneState
   pub live : Live b slots base state s t
   pub long : slots * slotLength (suc (clocks b)) ≤ length base
+  pub few : slots ≤ mostSlots
 
 -- what a part of the search gives from the store s and the turn t to s′ and r: of every state that they show, sound and going on, they
 -- show what the definition f comes to
@@ -85,13 +87,20 @@ arrivalOf b l R w = enterOf (clocks b) (invariantOf b l) (resetOf (suc (clocks b
 abbrev pub successorOf : List ℕ → ℕ → Work → Reduced
 successorOf b i w = followOf (clocks b) (guardOf b i) (resetsOf b i) (invariantOf b (to b i)) w
 
--- a zone of location l, to which the edges p lead
-abbrev pub nodeAt : ℕ → List ℕ → List Pair → ZoneNode
-nodeAt l p z = record { at = l; zone = z; path = p }
+-- a zone of location l that came so, to which the edges p lead
+abbrev pub nodeAt : ℕ → Came → List ℕ → List Pair → ZoneNode
+nodeAt l c p z = record { at = l; zone = z; came = c; path = p }
 
--- what the offer of r in l gives, whatever the edges that lead there
-abbrev pub Offers : List ℕ → ℕ → List ℤ → Turn → ℕ → Reduced → List ℤ → Turn → Type 0
-Offers b slots s t l r s′ t′ = (p : List ℕ) → Continues b slots s t (λ q. offer (systemOf b) (zonesOf b) slots q (nodeAt l p) (resultOf r)) s′ t′
+-- how a zone is led to whose slot tells the origin o
+pub record Led (o : Origin) : Type 0 where
+  pub came : Came
+  pub path : List ℕ
+  pub told : originOf came ≡ o
+
+-- what the offer of r in l gives, however it was led to
+abbrev pub Offers : List ℕ → ℕ → List ℤ → Turn → ℕ → Origin → Reduced → List ℤ → Turn → Type 0
+Offers b slots s t l o r s′ t′ =
+    (p : Led o) → Continues b slots s t (λ q. offer (systemOf b) (zonesOf b) slots q (nodeAt l (p .came) (p .path)) (resultOf r)) s′ t′
 
 -- the zone of a node that is taken
 pub record SoundZone (b : List ℕ) (z : List Pair) : Type 0 where

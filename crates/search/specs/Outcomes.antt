@@ -1,12 +1,19 @@
 -- The outcome of a search, as the code has it: the definition's for each of its cases.
 use mathlib.Core.Bool.{Bool, true, false}
+use lib.IntN.{pos, negsuc}
 use Rattle.reachability.specs.Search as definition
+use Rattle.slots.specs.declared.slot.Origin.{Origin}
+use Rattle.zones.specs.Integers.{up}
 use Rattle.search.specs.declared.outcome.Outcome.{Outcome}
 use Rattle.search.specs.declared.outcome.Outcome.the-variants.{Going, Reached, Refused}
 
+-- where the zone that met the target came from, of an origin that is none or a slot and an edge
+unfoldable pub cameOf : Origin → definition.Came
+cameOf o = elim (o .parent) [ pos j ↦ definition.by-edge j (up (o .edge)) | negsuc n ↦ definition.first-zone ]
+
 unfoldable pub outcomeOf : Outcome → definition.Outcome
 outcomeOf Going = definition.going
-outcomeOf Reached = definition.ended definition.reached
+outcomeOf (Reached o) = definition.ended (definition.reached (cameOf o))
 outcomeOf (Refused k) = definition.ended (definition.refused k)
 
 -- whether a search has stopped

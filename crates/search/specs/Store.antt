@@ -6,13 +6,19 @@ use lib.Dec.{ltb}
 use lib.IntN.{ℤ}
 use lib.ListN.{length, drop}
 use Rattle.zones.specs.declared.pair.Pair.{Pair}
-use Rattle.reachability.specs.Search.{Node}
-use Rattle.slots.specs.Slots.{slotLength, headOf, slotOf}
+use Rattle.reachability.specs.Search.{Came, first-zone, by-edge, Node}
+use Rattle.slots.specs.Slots.{slotLength, noOrigin, originAlong, headOf, slotOf}
+use Rattle.slots.specs.declared.slot.Origin.{Origin}
+
+-- where a zone came from, as its slot tells it
+unfoldable pub originOf : Came → Origin
+originOf first-zone = noOrigin
+originOf (by-edge parent edge) = originAlong parent edge
 
 -- "Slots stand in order of keeping"
 unfoldable pub slotsOf : ℕ → List (Node (List Pair)) → List ℤ
 slotsOf n [] = []
-slotsOf n (k ∷ ks) = slotOf n (headOf (k .at)) (k .zone) ++ slotsOf n ks
+slotsOf n (k ∷ ks) = slotOf n (headOf (k .at) (originOf (k .came))) (k .zone) ++ slotsOf n ks
 
 -- "all numbers past the last kept zone are unchanged"
 unfoldable pub storeOf : ℕ → List (Node (List Pair)) → List ℤ → List ℤ

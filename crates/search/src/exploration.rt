@@ -11,6 +11,7 @@ use automata::opened::edge_of;
 use slots::containment::is_within;
 use slots::containment::largest_count;
 use slots::containment::lowered_within;
+use slots::slot::Origin;
 use slots::slot::decode;
 use slots::slot::encode;
 use slots::slot::keep;
@@ -28,13 +29,14 @@ ghost use Rattle.zones.specs.Settled.{Settled};
 ghost use Rattle.zones.specs.Zones.{setOf};
 ghost use Rattle.automata.specs.Accepted.{Accepted};
 ghost use Rattle.automata.specs.Automata.{clocks, edges, locations, target, to};
-ghost use Rattle.search.specs.Exploring.{FirstHit, Shown, SoundResult, SoundZone, Offers, nodeAt, arrivalOf, successorOf, Continues, Going};
+ghost use Rattle.search.specs.Exploring.{FirstHit, Shown, SoundResult, SoundZone, Offers, Led, nodeAt, arrivalOf, successorOf};
+ghost use Rattle.search.specs.Exploring.{Continues, Going};
 ghost use Rattle.search.specs.Instance.{zonesOf};
 ghost use Rattle.automata.specs.Opened.{edgeOf};
-ghost use Rattle.reachability.specs.Search.{judge, expand, take-from};
+ghost use Rattle.reachability.specs.Search.{Came, judge, expand, take-from};
 ghost use Rattle.automata.specs.Semantics.{systemOf};
 ghost use Rattle.slots.specs.Slots.{slotLength, Framed};
-ghost use Rattle.search.specs.Store.{capacityOf};
+ghost use Rattle.search.specs.Store.{mostSlots, capacityOf};
 ghost use Rattle.search.specs.Answers.{stateOf};
 
 // A zone to be kept whose error count is larger is refused by 9.
@@ -70,20 +72,21 @@ fn judge(
     turn: Turn,
     capacity: usize,
     l: usize,
+    origin: Origin,
     w: Work,
 ) -> Turn
     requires { ⌜ Accepted (now automaton) × (l < locations (now automaton)) × (l ≡ target (now automaton) → ⊥) ⌝ }
     requires { ⌜ Going (now automaton) capacity (now store) turn ⌝ }
     requires { ⌜ Sized lastCounts (suc (clocks (now automaton))) w × Framed (suc (clocks (now automaton))) (w .zone) ⌝ }
-    ensures { λ r. ⌜ ((p : List ℕ) → Continues (now (automaton .entry)) capacity (now (store .entry)) turn
-        (λ q. judge (systemOf (now (automaton .entry))) (zonesOf (now (automaton .entry))) capacity q (nodeAt l p (w .zone)) (w .fraction))
-        (now (store .exit)) r) ⌝ }
+    ensures { λ r. ⌜ ((p : Led origin) → Continues (now (automaton .entry)) capacity (now (store .entry)) turn
+        (λ q. judge (systemOf (now (automaton .entry))) (zonesOf (now (automaton .entry))) capacity q
+        (nodeAt l (p .came) (p .path) (w .zone)) (w .fraction)) (now (store .exit)) r) ⌝ }
 {
     let size = counts_of(automaton).clocks + 1;
     let count = turn.count;
     let z = w.zone;
     let fraction = w.fraction;
-    let numbers = encode(l, z, size);
+    let numbers = encode(l, origin, z, size);
     let stride = slot_length(size);
     let j = find(store, &numbers, count, size);
     if j < count {
@@ -124,11 +127,12 @@ fn offer(
     turn: Turn,
     capacity: usize,
     l: usize,
+    origin: Origin,
     r: Reduced,
 ) -> Turn
     requires { ⌜ Accepted (now automaton) × (l < locations (now automaton)) ⌝ }
     requires { ⌜ Going (now automaton) capacity (now store) turn × SoundResult (now automaton) r ⌝ }
-    ensures { λ t. ⌜ Offers (now (automaton .entry)) capacity (now (store .entry)) turn l r (now (store .exit)) t ⌝ }
+    ensures { λ t. ⌜ Offers (now (automaton .entry)) capacity (now (store .entry)) turn l origin r (now (store .exit)) t ⌝ }
 {
     let count = turn.count;
     let work = r.work;
@@ -144,10 +148,10 @@ fn offer(
         return Turn {
             count,
             fraction,
-            outcome: Outcome::Reached,
+            outcome: Outcome::Reached(origin),
         };
     }
-    judge(automaton, store, turn, capacity, l, work)
+    judge(automaton, store, turn, capacity, l, origin, work)
 }
 
 // A settled zone enters l after a reset, and is judged. The start and the edges share this function, so that the compiler keeps it
@@ -158,17 +162,18 @@ fn arrive(
     turn: Turn,
     capacity: usize,
     l: usize,
+    origin: Origin,
     w: Work,
     resets: [bool; 9],
 ) -> Turn
     requires { ⌜ Accepted (now automaton) × (l < locations (now automaton)) × Going (now automaton) capacity (now store) turn ⌝ }
     requires { ⌜ Sized (10 * counts) (suc (clocks (now automaton))) w × Settled (suc (clocks (now automaton))) w ⌝ }
     requires { ⌜ SoundResult (now automaton) (arrivalOf (now automaton) l (setOf resets) w) ⌝ }
-    ensures { λ t. ⌜ Offers (now (automaton .entry)) capacity (now (store .entry)) turn l
+    ensures { λ t. ⌜ Offers (now (automaton .entry)) capacity (now (store .entry)) turn l origin
         (arrivalOf (now (automaton .entry)) l (setOf resets) w) (now (store .exit)) t ⌝ }
 {
     let entered = enter(automaton, l, w, resets);
-    offer(automaton, store, turn, capacity, l, entered)
+    offer(automaton, store, turn, capacity, l, origin, entered)
 }
 
 // The successor of a taken zone along edge i, which was fetched, is judged.
@@ -177,13 +182,14 @@ fn follow(
     store: &mut [i32],
     turn: Turn,
     capacity: usize,
+    origin: Origin,
     i: usize,
     edge: Edge,
     w: Work,
 ) -> Turn
     requires { ⌜ Accepted (now automaton) × (i < edges (now automaton)) × (edge ≡ edgeOf (now automaton) i) ⌝ }
     requires { ⌜ Going (now automaton) capacity (now store) turn × SoundZone (now automaton) (w .zone) × Fits32 (w .fraction) ⌝ }
-    ensures { λ t. ⌜ Offers (now (automaton .entry)) capacity (now (store .entry)) turn (to (now (automaton .entry)) i)
+    ensures { λ t. ⌜ Offers (now (automaton .entry)) capacity (now (store .entry)) turn (to (now (automaton .entry)) i) origin
         (successorOf (now (automaton .entry)) i w) (now (store .exit)) t ⌝ }
 {
     let counts = counts_of(automaton);
@@ -200,21 +206,32 @@ fn follow(
         };
     }
     let resets = edge.resets;
-    arrive(automaton, store, turn, capacity, edge.to, met.work, resets)
+    arrive(
+        automaton,
+        store,
+        turn,
+        capacity,
+        edge.to,
+        origin,
+        met.work,
+        resets,
+    )
 }
 
-// The edges of a kept zone, in order, until the search stops.
+// The edges of the kept zone of slot `parent`, in order, until the search stops.
 fn expand(
     automaton: &[u8],
     store: &mut [i32],
     turn: Turn,
     capacity: usize,
+    parent: usize,
     l: usize,
     z: [Pair; 81],
 ) -> Turn
     requires { ⌜ Accepted (now automaton) × Going (now automaton) capacity (now store) turn × SoundZone (now automaton) z ⌝ }
-    ensures { λ r. ⌜ ((p : List ℕ) → Continues (now (automaton .entry)) capacity (now (store .entry)) turn
-        (expand (systemOf (now (automaton .entry))) (zonesOf (now (automaton .entry))) capacity (nodeAt l p z)
+    requires { ⌜ parent < mostSlots ⌝ }
+    ensures { λ r. ⌜ ((c : Came) (p : List ℕ) → Continues (now (automaton .entry)) capacity (now (store .entry)) turn
+        (expand (systemOf (now (automaton .entry))) (zonesOf (now (automaton .entry))) capacity parent (nodeAt l c p z)
         (edges (now (automaton .entry))) 0) (now (store .exit)) r) ⌝ }
 {
     let mut t = turn;
@@ -230,7 +247,8 @@ fn expand(
         if edge.from == l {
             let fraction = t.fraction;
             w.fraction = fraction;
-            t = follow(automaton, store, t, capacity, i, edge, w);
+            let origin = Origin::along(parent, i);
+            t = follow(automaton, store, t, capacity, origin, i, edge, w);
             if t.has_ended() {
                 return t;
             }
@@ -254,7 +272,7 @@ fn take(automaton: &[u8], store: &mut [i32], turn: Turn, capacity: usize) -> Tur
         let at = next * stride;
         let l = store[at] as usize;
         let z = decode(&store[at..], size);
-        t = expand(automaton, store, t, capacity, l, z);
+        t = expand(automaton, store, t, capacity, next, l, z);
         if t.has_ended() {
             return t;
         }
@@ -291,6 +309,7 @@ pub(crate) fn explore(automaton: &[u8], store: &mut [i32]) -> Turn
         first,
         capacity,
         l,
+        Origin::none(),
         Work::first(),
         [false; 9],
     );

@@ -40,7 +40,7 @@ fn answer(t: Turn) -> Answer
     let outcome = t.outcome;
     match outcome {
         Outcome::Going => Answer::Found(Verdict::Holds(holding(fraction)), zones),
-        Outcome::Reached => Answer::Found(Verdict::Reached, zones),
+        Outcome::Reached(o) => Answer::Found(Verdict::Reached, zones),
         Outcome::Refused(k) => Answer::Refused(k),
     }
 }

@@ -1,12 +1,14 @@
 // The search as it stands, and why it stops.
+use slots::slot::Origin;
 use zones::fraction::Fraction;
 ghost use mathlib.Core.Path.{_≡_};
 ghost use Rattle.search.specs.Outcomes.{outcomeOf, hasEnded};
 
-// A search that goes on, or has stopped: at the target, or by the number of a refusal. One that goes on when no zone is left to take holds.
+// A search that goes on, or has stopped: at the target, by a zone of the origin told, or by the number of a refusal. One that goes on when
+// no zone is left to take holds.
 pub enum Outcome {
     Going,
-    Reached,
+    Reached(Origin),
     Refused(u32),
 }
 
@@ -25,7 +27,7 @@ impl Turn {
         let outcome = self.outcome;
         match outcome {
             Outcome::Going => false,
-            Outcome::Reached => true,
+            Outcome::Reached(o) => true,
             Outcome::Refused(k) => true,
         }
     }

@@ -1,4 +1,5 @@
--- "a slot takes 1 + 2(n + 1)²: location, then pairs row by row, m before p." A slot as one codec: its length, how it is written, and how it is read.
+-- "location, then pairs row by row, m before p"; "Each slot gains two numbers after the location .., so a slot takes 3 + 2(n + 1)²."
+-- A slot as one codec: its length, how it is written, and how it is read.
 -- Here `n` is the number of indices, clocks + 1; a place k of a zone's square is row k / 9 and column k % 9.
 use Prim.Native.Nat.{ℕ, zero, suc, _+_, _-_, _*_, _%_, _<_}
 use mathlib.Core.Path.{_≡_}
@@ -6,16 +7,17 @@ use mathlib.Core.Bool.{cond}
 use mathlib.Core.List.{List, [], _∷_, _++_}
 use lib.Dec.{ltb}
 use lib.ListN.{getD, set, replicate}
-use lib.IntN.{ℤ, pos}
+use lib.IntN.{ℤ, pos, negsuc}
 use Rattle.zones.specs.declared.pair.Pair.{Pair}
 use Rattle.zones.specs.Containment.{placeOf}
 use Rattle.zones.specs.Integers.{up}
 use Rattle.zones.specs.Pairs.{zeroPair}
+use Rattle.slots.specs.declared.slot.Origin.{Origin}
 
 -- ---- what stands where
--- the numbers before the pairs: the location
+-- the numbers before the pairs: the location, and where the zone came from
 abbrev pub fields : ℕ
-fields = 1
+fields = 3
 
 abbrev pub slotLength : ℕ → ℕ
 slotLength n = fields + 2 * (n * n)
@@ -48,9 +50,16 @@ unfoldable pub flat : List Pair → List ℤ
 flat [] = []
 flat (q ∷ qs) = q .m ∷ pos (q .p) ∷ flat qs
 
+-- "the slot it came from and the edge taken, counted from 0, both −1 for the first zone"
+abbrev pub noOrigin : Origin
+noOrigin = record { parent = negsuc 0; edge = negsuc 0 }
+
+abbrev pub originAlong : ℕ → ℕ → Origin
+originAlong parent edge = record { parent = pos parent; edge = pos edge }
+
 -- the numbers before the pairs, of a zone of location l
-unfoldable pub headOf : ℕ → List ℤ
-headOf l = pos l ∷ []
+unfoldable pub headOf : ℕ → Origin → List ℤ
+headOf l o = pos l ∷ o .parent ∷ o .edge ∷ []
 
 unfoldable pub slotOf : ℕ → List ℤ → List Pair → List ℤ
 slotOf n h z = h ++ flat (pairsOf n z)
@@ -58,6 +67,9 @@ slotOf n h z = h ++ flat (pairsOf n z)
 -- ---- reading
 abbrev pub slotLocation : List ℤ → ℤ
 slotLocation s = getD s 0 (pos 0)
+
+abbrev pub slotOrigin : List ℤ → Origin
+slotOrigin s = record { parent = getD s 1 (pos 0); edge = getD s 2 (pos 0) }
 
 -- pair t
 abbrev pub slotPair : List ℤ → ℕ → Pair

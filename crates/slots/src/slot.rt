@@ -8,10 +8,10 @@ ghost use lib.IntN.{pos};
 ghost use lib.Signed.{_≤ℤ_};
 ghost use Rattle.zones.specs.Ranges.{AllBounded, Bounded, lastCounts};
 ghost use Rattle.runs.specs.Limits.{scale};
-ghost use Rattle.slots.specs.Slots.{slotLength, spare, mAt, pAt, headOf, slotOf, slotPair, zoneOf};
+ghost use Rattle.slots.specs.Slots.{slotLength, spare, mAt, pAt, headOf, slotOf, noOrigin, originAlong, slotOrigin, slotPair, zoneOf};
 
-// The numbers before the pairs: the location.
-const FIELDS: usize = 1;
+// The numbers before the pairs: the location, and the origin.
+const FIELDS: usize = 3;
 
 // Where the first pair has its m and its p.
 pub const FIRST_M: usize = FIELDS;
@@ -19,7 +19,36 @@ pub const FIRST_M: usize = FIELDS;
 pub const FIRST_P: usize = FIELDS + 1;
 
 // The longest slot: of nine indices.
-const LONGEST: usize = 163;
+const LONGEST: usize = 165;
+
+// Where a zone came from: the slot, and the edge taken; both −1 for the first zone.
+pub struct Origin {
+    pub parent: i32,
+    pub edge: i32,
+}
+
+impl Origin {
+    // The first zone's.
+    pub fn none() -> Origin
+        ensures { λ r. ⌜ r ≡ noOrigin ⌝ }
+    {
+        Origin {
+            parent: -1,
+            edge: -1,
+        }
+    }
+
+    // From a slot along an edge.
+    pub fn along(parent: usize, edge: usize) -> Origin
+        requires { ⌜ (parent < 2147483648) × (edge < 2147483648) ⌝ }
+        ensures { λ r. ⌜ r ≡ originAlong parent edge ⌝ }
+    {
+        Origin {
+            parent: parent as i32,
+            edge: edge as i32,
+        }
+    }
+}
 
 // The number of numbers of a slot, for a zone of `size` indices.
 pub fn slot_length(size: usize) -> usize
@@ -29,14 +58,27 @@ pub fn slot_length(size: usize) -> usize
     FIELDS + 2 * (size * size)
 }
 
-// The slot of a zone, and zeros after it.
-pub fn encode(location: usize, z: [Pair; 81], size: usize) -> [i32; LONGEST]
-    requires { ⌜ (size ≤ 9) × (location < 256) ⌝ }
-    requires { ⌜ AllBounded scale lastCounts size z ⌝ }
-    ensures { λ r. ⌜ r ≡ slotOf size (headOf location) z ++ replicate (spare size) (pos 0) ⌝ }
+// The numbers before the pairs, and zeros after them.
+fn headed(location: usize, origin: Origin) -> [i32; LONGEST]
+    requires { ⌜ location < 256 ⌝ }
+    ensures { λ r. ⌜ r ≡ headOf location origin ++ replicate (spare 0) (pos 0) ⌝ }
 {
     let mut slot = [0; LONGEST];
+    let parent = origin.parent;
+    let edge = origin.edge;
     slot[0] = location as i32;
+    slot[1] = parent;
+    slot[2] = edge;
+    slot
+}
+
+// The slot of a zone, and zeros after it.
+pub fn encode(location: usize, origin: Origin, z: [Pair; 81], size: usize) -> [i32; LONGEST]
+    requires { ⌜ (size ≤ 9) × (location < 256) ⌝ }
+    requires { ⌜ AllBounded scale lastCounts size z ⌝ }
+    ensures { λ r. ⌜ r ≡ slotOf size (headOf location origin) z ++ replicate (spare size) (pos 0) ⌝ }
+{
+    let mut slot = headed(location, origin);
     let last = size * 9;
     let mut t = 0;
     let mut at = 0;
@@ -57,6 +99,17 @@ fn put_pair(slot: &mut [i32; LONGEST], t: usize, q: Pair)
 {
     slot[FIRST_M + 2 * t] = q.m as i32;
     slot[FIRST_P + 2 * t] = q.p as i32;
+}
+
+// Where the zone of a slot came from.
+pub fn origin_of(slot: &[i32]) -> Origin
+    requires { ⌜ 3 ≤ length (now slot) ⌝ }
+    ensures { λ r. ⌜ r ≡ slotOrigin (now (slot .entry)) ⌝ }
+{
+    Origin {
+        parent: slot[1],
+        edge: slot[2],
+    }
 }
 
 // The zone of a slot, (0, 0) outside its rows and columns.

@@ -54,7 +54,7 @@ module _ (b : List ℕ) (c : ℕ) (ok : refusalOf b ≡ 0) where
       go : (x : Outcome) → searchOf b c .outcome ≡ x → Robust b (answerOf (searchOf b c .outcome) (searchOf b c .frac) (length (searchOf b c .kept)))
       go going e = rw e (λ s t l d. holds (systemOf b) (zonesOf b) (meaningOf b) 1 0 (laws b (accepted b ok)) c e s t
           (l, given-below (searchOf b c .frac) running-positive s t d))
-      go (ended reached) e = rw e (reached-hits (systemOf b) (zonesOf b) (meaningOf b) 1 0 (laws b (accepted b ok)) c e)
+      go (ended (reached x)) e = rw e (reached-hits (systemOf b) (zonesOf b) (meaningOf b) 1 0 (laws b (accepted b ok)) c x e)
       go (ended (refused k)) e = rw e tt
 
 -- ---- demand 3

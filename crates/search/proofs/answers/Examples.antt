@@ -14,7 +14,7 @@ use Rattle.search.specs.Examples.{AllRight, examples}
 use Rattle.search.specs.Instance.{entering, following, overcounted, resultOf}
 use Rattle.reachability.specs.Search.{find, judge, offer, follow, expand, take-from, search}
 use Rattle.slots.specs.Slots.{flat, pairsTo, headOf, slotOf, counted}
-use Rattle.search.specs.Store.{capacityOf, slotsOf, storeOf}
+use Rattle.search.specs.Store.{capacityOf, originOf, slotsOf, storeOf}
 use Rattle.search.specs.Answers.{answerOf, searchAnswer, searchStore, stateAnswer}
 use Rattle.search.specs.Verdicts.{holdingOf}
 
@@ -28,5 +28,5 @@ unfolding countTo larger loweredTo withinTo loweredBy euclid gcdOf lowestTerms s
     relaxed rowSteps roundSteps emptyIn afterMiddle reduceSteps andThen meetOf enterOf followOf
     be16At be32At edgeIn firsts guardOf inByte invariantIn invariantOf limitsAt resetSet resetsOf outOfRangeAt refusalOf some
     entering following overcounted resultOf find judge offer follow expand take-from search
-    counted flat pairsTo headOf slotOf capacityOf slotsOf storeOf answerOf holdingOf searchAnswer searchStore stateAnswer
+    counted flat pairsTo headOf slotOf capacityOf originOf slotsOf storeOf answerOf holdingOf searchAnswer searchStore stateAnswer
 all-right = (r, (r, (r, (r, (r, (r, (r, (r, (r, (r, (r, (r, (r, (r, tt))))))))))))))

@@ -41,7 +41,7 @@ final-sound b a c = search-keeps (systemOf b) (zonesOf b) c (steady-sound b a c)
 -- ---- how it ends: it goes on to the end, or reaches the target, or is refused by 9 or by 10
 abbrev Known : Outcome → Type 0
 Known going = Unit {0}
-Known (ended reached) = Unit {0}
+Known (ended (reached c)) = Unit {0}
 Known (ended (refused k)) = (k ≡ 9) ⊎ (k ≡ 10)
 
 module _ (b : List ℕ) (c : ℕ) where
@@ -60,7 +60,7 @@ module _ (b : List ℕ) (c : ℕ) where
   final-known : Known (searchOf b c .outcome)
   final-known =
       search-keeps (systemOf b) (zonesOf b) c {P = λ q. Known (q .outcome)}
-      (record { edge = λ q j k i e n l f h. offer-known q (child (systemOf b) k i) _ }) (offer-known _ (first-node (systemOf b)) _)
+      (record { edge = λ q j k i e n l f h. offer-known q (child (systemOf b) j k i) _ }) (offer-known _ (first-node (systemOf b)) _)
 
 -- ---- the numbers of the answer
 module _ (b : List ℕ) (ok : refusalOf b ≡ 0) (amount : ℕ) where
@@ -89,7 +89,7 @@ module _ (b : List ℕ) (ok : refusalOf b ≡ 0) (amount : ℕ) where
       go : (x : Outcome) → stateOf b amount .outcome ≡ x →
           Given b (answerOf (stateOf b amount .outcome) (stateOf b amount .frac) (length (stateOf b amount .kept)))
       go going e = rw e (terms, ap holdingOf (sym (given-fraction (stateOf b amount .frac) (running-positive b c ok))), few)
-      go (ended reached) e = rw e few
+      go (ended (reached c)) e = rw e few
       go (ended (refused k)) e = rw e (inr (ok, subst Known e (final-known b c)))
 
 given : (b : List ℕ) (amount : ℕ) → Given b (searchAnswer b amount)

@@ -20,13 +20,14 @@ use Rattle.automata.specs.Accepted.{Accepted}
 use Rattle.automata.specs.Automata.{clocks, edges, locations, to, guardOf, resetsOf, invariantOf}
 use Rattle.search.specs.Exploring.{Offers, arrivalOf, successorOf, SoundResult, SoundZone}
 use Rattle.automata.specs.Opened.{edgeOf}
+use Rattle.slots.specs.declared.slot.Origin.{Origin}
 use Rattle.search.proofs.exploration.Judging.{gives-empty}
 use Rattle.search.proofs.exploration.Sounding.{node-sized, follow-sound}
 use Rattle.search.proofs.successor.Stepping.{followed-none, followed, guard-scale, met-sized, met-settled, resets-are}
 
 -- an offer gives the same, by whatever name its location and its zone go
-pub gives-of : (b : List ℕ) (capacity : ℕ) (s : List ℤ) (turn : Turn) (s′ : List ℤ) (t : Turn) {l l′ : ℕ} {r r′ : Reduced} → l ≡ l′ → r ≡ r′ →
-    Offers b capacity s turn l r s′ t → Offers b capacity s turn l′ r′ s′ t
+pub gives-of : (b : List ℕ) (capacity : ℕ) (s : List ℤ) (turn : Turn) (s′ : List ℤ) (t : Turn) {l l′ : ℕ} {o : Origin} {r r′ : Reduced} → l ≡ l′ → r ≡ r′ →
+    Offers b capacity s turn l o r s′ t → Offers b capacity s turn l′ o r′ s′ t
 gives-of b capacity s turn s′ t e f g p = rw (← e, ← f) (g p)
 
 module _ (b : List ℕ) (a : Accepted b) (i : ℕ) (hi : i < edges b) (w : Work) (z : SoundZone b (w .zone)) (fits : Fits32 (w .fraction)) where
@@ -35,9 +36,9 @@ module _ (b : List ℕ) (a : Accepted b) (i : ℕ) (hi : i < edges b) (w : Work)
 
   -- r is what the guard leaves
   module _ {r : Reduced} (e : r ≡ meetOf (clocks b) (guardOf b i) w) where
-    pub follows-none : r .empty ≡ true → (capacity : ℕ) (s : List ℤ) (turn : Turn) →
-        Offers b capacity s turn (to b i) (successorOf b i w) s (record { count = turn .count; fraction = r .work .fraction; outcome = Going })
-    follows-none f capacity s turn =
+    pub follows-none : r .empty ≡ true → (capacity : ℕ) (s : List ℤ) (turn : Turn) (o : Origin) →
+        Offers b capacity s turn (to b i) o (successorOf b i w) s (record { count = turn .count; fraction = r .work .fraction; outcome = Going })
+    follows-none f capacity s turn o =
         gives-of b capacity s turn s (record { count = turn .count; fraction = r .work .fraction; outcome = Going }) refl
         (followed-none (clocks b) (a .complete .clocks≤) w refl (guardOf b i) (resetsOf b i) (invariantOf b (to b i)) e f)
         (λ p. gives-empty b capacity s turn (to b i) r p f)

@@ -1,7 +1,7 @@
 -- The search from its first zone on: what the code's whole search shows.
 -- Assumes nothing.
 use Prim.Native.Nat.{ℕ, suc, _*_, _≤_}
-use mathlib.Core.Path.{_≡_, refl, ap}
+use mathlib.Core.Path.{_≡_, refl, sym, ap, _∙_}
 use mathlib.Core.Bool.{true, false}
 use mathlib.Core.List.{List, []}
 use lib.IntN.{ℤ}
@@ -18,15 +18,16 @@ use Rattle.automata.specs.Automata.{clocks, start, invariantOf}
 use Rattle.search.specs.Exploring.{Shown, Live, Offers, Continues}
 use Rattle.search.specs.Exploring as exploring
 use Rattle.search.specs.Instance.{ZoneState, zonesOf, resultOf, entering, searchOf}
-use Rattle.reachability.specs.Search.{nothing, begin, take-from, search}
+use Rattle.reachability.specs.Search.{first-zone, nothing, begin, take-from, search}
 use Rattle.automata.specs.Semantics.{systemOf}
-use Rattle.slots.specs.Slots.{slotLength}
-use Rattle.search.specs.Store.{storeOf, slotsOf, capacityOf}
+use Rattle.slots.specs.declared.slot.Origin.{Origin}
+use Rattle.slots.specs.Slots.{slotLength, noOrigin}
+use Rattle.search.specs.Store.{originOf, storeOf, slotsOf, mostSlots, capacityOf}
 use Rattle.search.specs.Answers.{stateOf}
 use Rattle.reachability.proofs.Later.{take-later}
 use Rattle.search.proofs.exploration.Ending.{still, stays}
 use Rattle.search.proofs.exploration.Sounding.{nothing-sound, begin-sound}
-use Rattle.search.proofs.exploration.Stores.{capacity-room}
+use Rattle.search.proofs.exploration.Stores.{capacity-room, capacity-small}
 
 -- ---- what the first offer leaves
 pub record Begun (b : List ℕ) (capacity : ℕ) (s s′ : List ℤ) (t′ : Turn) : Type 0 where
@@ -55,11 +56,18 @@ module _ {b : List ℕ} (a : Accepted b) (s : List ℤ) {capacity : ℕ} (es : c
   long : capacity * slotLength (suc (clocks b)) ≤ length s
   long = rw es (capacity-room (suc (clocks b)) (length s))
 
-  pub blank-going : exploring.Going b capacity s first-turn
-  blank-going = record { base = s; state = blank; live = blank-live; long = long }
+  room : capacity ≤ mostSlots
+  room = rw es (capacity-small (suc (clocks b)) (length s))
 
-  module _ {r : Reduced} (er : r ≡ enterOf (clocks b) (invariantOf b (start b)) firstWork) {s′ : List ℤ} {t′ : Turn}
-      (g : Offers b capacity s first-turn (start b) r s′ t′) where
+  none : originOf first-zone ≡ noOrigin
+  unfolding originOf
+  none = refl
+
+  pub blank-going : exploring.Going b capacity s first-turn
+  blank-going = record { base = s; state = blank; live = blank-live; long = long; few = room }
+
+  module _ {r : Reduced} (er : r ≡ enterOf (clocks b) (invariantOf b (start b)) firstWork) {o : Origin} (eo : o ≡ noOrigin)
+      {s′ : List ℤ} {t′ : Turn} (g : Offers b capacity s first-turn (start b) o r s′ t′) where
     abbrev state : ZoneState
     state = begin (systemOf b) (zonesOf b) capacity
 
@@ -68,7 +76,7 @@ module _ {b : List ℕ} (a : Accepted b) (s : List ℤ) {capacity : ℕ} (es : c
     entered = ap resultOf er
 
     shown : Shown (suc (clocks b)) s state s′ t′
-    shown = rw entered at (g [] .shows s blank blank-live)
+    shown = rw entered at (g (record { came = first-zone; path = []; told = none ∙ sym eo }) .shows s blank blank-live)
 
     whole : take-from (systemOf b) (zonesOf b) capacity capacity 0 state ≡ stateOf b (length s)
     unfolding search
@@ -76,7 +84,7 @@ module _ {b : List ℕ} (a : Accepted b) (s : List ℤ) {capacity : ℕ} (es : c
 
     pub begun : Begun b capacity s s′ t′
     begun = record {
-      goes-on = λ e. record { base = s; state = state; live = still shown (begin-sound b a capacity) e; long = long };
+      goes-on = λ e. record { base = s; state = state; live = still shown (begin-sound b a capacity) e; long = long; few = room };
       stops = stays (take-later (systemOf b) (zonesOf b) capacity capacity 0 state) whole shown;
       rest = λ e {s″} {t″} h. rw whole at (h .shows s state (still shown (begin-sound b a capacity) e));
     }

@@ -1,7 +1,7 @@
 -- The edges of a taken node: what each turn of the code's loop shows.
 -- Assumes nothing.
 use Prim.Native.Nat.{ℕ, suc, _+_, _-_, _*_, _<_, _≤_}
-use mathlib.Core.Path.{_≡_, sym, ap, _∙_, subst}
+use mathlib.Core.Path.{_≡_, refl, sym, ap, _∙_, subst}
 use mathlib.Core.Bool.{true, false}
 use mathlib.Core.List.{List, [], _∷_, _++_}
 use lib.IntN.{ℤ}
@@ -17,21 +17,27 @@ use Rattle.automata.specs.Accepted.{Accepted}
 use Rattle.automata.specs.Automata.{clocks, edges, from, to}
 use Rattle.search.specs.Exploring.{SoundState, SoundZone, Shown, Live, Going, Offers, nodeAt, successorOf}
 use Rattle.search.specs.Instance.{ZoneState, ZoneNode, workOf, resultOf, following, zonesOf}
-use Rattle.reachability.specs.Search.{going, follow, expand}
+use Rattle.reachability.specs.Search.{Came, by-edge, going, follow, expand}
 use Rattle.automata.specs.Semantics.{systemOf}
-use Rattle.slots.specs.Slots.{slotLength}
-use Rattle.reachability.proofs.Judged.{by-edge, follow-on}
+use Rattle.slots.specs.declared.slot.Origin.{Origin}
+use Rattle.slots.specs.Slots.{slotLength, originAlong}
+use Rattle.search.specs.Store.{originOf, mostSlots}
+use Rattle.reachability.proofs.Judged.{followed, follow-on}
 use Rattle.reachability.proofs.Later.{expand-later}
 use Rattle.search.proofs.exploration.Judging.{live-length}
 use Rattle.search.proofs.exploration.Ending.{still, stays}
 use Rattle.search.proofs.exploration.Sounding.{follow-sound, offer-sound}
 
-module _ (b : List ℕ) (capacity l : ℕ) (z : List Pair) (p : List ℕ) where
+along : (j i : ℕ) → originOf (by-edge j i) ≡ originAlong j i
+unfolding originOf
+along j i = refl
+
+module _ (b : List ℕ) (capacity j l : ℕ) (z : List Pair) (c : Came) (p : List ℕ) where
   abbrev node : ZoneNode
-  node = nodeAt l p z
+  node = nodeAt l c p z
 
   abbrev pub opened : ℕ → ℕ → ZoneState → ZoneState
-  opened m i q = expand (systemOf b) (zonesOf b) capacity node m i q
+  opened m i q = expand (systemOf b) (zonesOf b) capacity j node m i q
 
   -- after i edges: a state that goes on, from which the rest leads where the whole does
   pub record Between (s₀ : List ℤ) (q₀ : ZoneState) (i : ℕ) (s : List ℤ) (t : Turn) : Type 0 where
@@ -44,7 +50,7 @@ module _ (b : List ℕ) (capacity l : ℕ) (z : List Pair) (p : List ℕ) where
       record { state = q₀; live = h; rest = let e : edges b - 0 ≡ edges b = omega arith in ap (λ (m : ℕ). opened m 0 q₀) e }
 
   -- one edge more, which leads to q′
-  one-edge : (i : ℕ) (q : ZoneState) {q′ : ZoneState} → i < edges b → follow (systemOf b) (zonesOf b) capacity node i q ≡ q′ →
+  one-edge : (i : ℕ) (q : ZoneState) {q′ : ZoneState} → i < edges b → follow (systemOf b) (zonesOf b) capacity j node i q ≡ q′ →
       opened (edges b - i) i q ≡ opened (edges b - (i + 1)) (i + 1) q′
   unfolding expand
   one-edge i q h g =
@@ -52,29 +58,29 @@ module _ (b : List ℕ) (capacity l : ℕ) (z : List Pair) (p : List ℕ) where
       let f : suc i ≡ i + 1 = omega arith in
       ap (λ (m : ℕ). opened m i q) e ∙ (λ k. opened (edges b - (i + 1)) (f k) (g k))
 
-  follow-off : (i : ℕ) (q : ZoneState) → q .outcome ≡ going → (from b i ≡ l → ⊥) → follow (systemOf b) (zonesOf b) capacity node i q ≡ q
+  follow-off : (i : ℕ) (q : ZoneState) → q .outcome ≡ going → (from b i ≡ l → ⊥) → follow (systemOf b) (zonesOf b) capacity j node i q ≡ q
   unfolding follow
   follow-off i q e h = rw (follow, e, ne-eqb (from b i) l h) (λ k. record { kept = q .kept; frac = q .frac; outcome = e k })
 
-module _ {b : List ℕ} {capacity l : ℕ} {z : List Pair} {p : List ℕ} {s₀ : List ℤ} {q₀ : ZoneState} {i : ℕ} {s : List ℤ} {t : Turn}
-    (w : Between b capacity l z p s₀ q₀ i s t) where
+module _ {b : List ℕ} {capacity j l : ℕ} {z : List Pair} {c : Came} {p : List ℕ} {s₀ : List ℤ} {q₀ : ZoneState} {i : ℕ} {s : List ℤ} {t : Turn}
+    (w : Between b capacity j l z c p s₀ q₀ i s t) where
   -- what the next call asks
-  pub between-going : capacity * slotLength (suc (clocks b)) ≤ length s₀ → Going b capacity s t
-  between-going h = record { base = s₀; state = w .state; live = w .live; long = h }
+  pub between-going : capacity * slotLength (suc (clocks b)) ≤ length s₀ → capacity ≤ mostSlots → Going b capacity s t
+  between-going h f = record { base = s₀; state = w .state; live = w .live; long = h; few = f }
 
-  pub ends : edges b ≤ i → Shown (suc (clocks b)) s₀ (opened b capacity l z p (edges b) 0 q₀) s t
+  pub ends : edges b ≤ i → Shown (suc (clocks b)) s₀ (opened b capacity j l z c p (edges b) 0 q₀) s t
   unfolding expand
   ends h =
       let e : edges b - i ≡ 0 = omega arith in
-      rw (sym (ap (λ (m : ℕ). opened b capacity l z p m i (w .state)) e) ∙ w .rest) at (w .live .shown)
+      rw (sym (ap (λ (m : ℕ). opened b capacity j l z c p m i (w .state)) e) ∙ w .rest) at (w .live .shown)
 
   module _ (hi : i < edges b) where
     -- an edge of another location
-    pub passes : (from b i ≡ l → ⊥) → Between b capacity l z p s₀ q₀ (i + 1) s t
+    pub passes : (from b i ≡ l → ⊥) → Between b capacity j l z c p s₀ q₀ (i + 1) s t
     passes h = record {
       state = w .state;
       live = w .live;
-      rest = sym (one-edge b capacity l z p i _ hi (follow-off b capacity l z p i (w .state) (w .live .goes) h)) ∙ w .rest;
+      rest = sym (one-edge b capacity j l z c p i _ hi (follow-off b capacity j l z c p i (w .state) (w .live .goes) h)) ∙ w .rest;
     }
 
     -- an edge of this one: v is the zone with the running fraction
@@ -86,9 +92,10 @@ module _ {b : List ℕ} {capacity l : ℕ} {z : List Pair} {p : List ℕ} {s₀ 
       taken-sound = subst (λ (x : Work). SoundZone b (x .zone)) (sym e) sz
 
       -- s′ and t′ are what the offer of its successor left
-      module _ (at : from b i ≡ l) {s′ : List ℤ} {t′ : Turn} (g : Offers b capacity s t (to b i) (successorOf b i v) s′ t′) where
+      module _ (at : from b i ≡ l) {o : Origin} (eo : o ≡ originAlong j i) {s′ : List ℤ} {t′ : Turn}
+          (g : Offers b capacity s t (to b i) o (successorOf b i v) s′ t′) where
         abbrev next : ZoneState
-        next = by-edge (systemOf b) (zonesOf b) capacity (nodeAt l p z) i (w .state)
+        next = followed (systemOf b) (zonesOf b) capacity j (nodeAt l c p z) i (w .state)
 
         -- the definition's successor is what was offered
         offered : resultOf (successorOf b i v) ≡ zonesOf b .succ i z (w .state .frac)
@@ -96,25 +103,25 @@ module _ {b : List ℕ} {capacity l : ℕ} {z : List Pair} {p : List ℕ} {s₀ 
         offered = ap (λ (x : Work). resultOf (successorOf b i x)) (e ∙ ap (workOf z) (w .live .shown .fraction))
 
         shown : Shown (suc (clocks b)) s₀ next s′ t′
-        shown = rw offered at (g (p ++ (i ∷ [])) .shows s₀ (w .state) (w .live))
+        shown = rw offered at (g (record { came = by-edge j i; path = p ++ (i ∷ []); told = along j i ∙ sym eo }) .shows s₀ (w .state) (w .live))
 
         sound : SoundState b capacity next
         sound =
             rw (← offered)
-            (offer-sound b a capacity (to b i) (a .to< i hi) (p ++ (i ∷ [])) (w .state) (w .live .sound) _
+            (offer-sound b a capacity (to b i) (a .to< i hi) (by-edge j i) (p ++ (i ∷ [])) (w .state) (w .live .sound) _
             (follow-sound b a i hi (v .zone) (v .fraction) (taken-sound .ranged) (taken-sound .framed) taken-fits))
 
-        rest : opened b capacity l z p (edges b - (i + 1)) (i + 1) next ≡ opened b capacity l z p (edges b) 0 q₀
+        rest : opened b capacity j l z c p (edges b - (i + 1)) (i + 1) next ≡ opened b capacity j l z c p (edges b) 0 q₀
         rest =
-            sym (one-edge b capacity l z p i _ hi (follow-on (systemOf b) (zonesOf b) capacity (nodeAt l p z) i (w .state) (w .live .goes) at))
+            sym (one-edge b capacity j l z c p i _ hi (follow-on (systemOf b) (zonesOf b) capacity j (nodeAt l c p z) i (w .state) (w .live .goes) at))
             ∙ w .rest
 
         pub offered-length : capacity * slotLength (suc (clocks b)) ≤ length s₀ → length s′ ≡ length s₀
         offered-length h = live-length b a h shown sound
 
-        pub goes-on : hasEnded (outcomeOf (t′ .outcome)) ≡ false → Between b capacity l z p s₀ q₀ (i + 1) s′ t′
+        pub goes-on : hasEnded (outcomeOf (t′ .outcome)) ≡ false → Between b capacity j l z c p s₀ q₀ (i + 1) s′ t′
         goes-on f = record { state = next; live = still shown sound f; rest = rest }
 
         -- a search that has stopped stays as it is
-        pub stops : hasEnded (outcomeOf (t′ .outcome)) ≡ true → Shown (suc (clocks b)) s₀ (opened b capacity l z p (edges b) 0 q₀) s′ t′
-        stops f = stays (expand-later (systemOf b) (zonesOf b) capacity (nodeAt l p z) (edges b - (i + 1)) (i + 1) next) rest shown f
+        pub stops : hasEnded (outcomeOf (t′ .outcome)) ≡ true → Shown (suc (clocks b)) s₀ (opened b capacity j l z c p (edges b) 0 q₀) s′ t′
+        stops f = stays (expand-later (systemOf b) (zonesOf b) capacity j (nodeAt l c p z) (edges b - (i + 1)) (i + 1) next) rest shown f

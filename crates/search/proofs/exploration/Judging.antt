@@ -20,22 +20,33 @@ use Rattle.runs.specs.Limits.{scale}
 use Rattle.search.specs.declared.outcome.Outcome.{Outcome}
 use Rattle.search.specs.declared.outcome.Outcome.the-variants.{Going, Reached, Refused}
 use Rattle.search.specs.declared.outcome.Turn.{Turn}
-use Rattle.search.specs.Outcomes.{outcomeOf}
+use Rattle.search.specs.Outcomes.{cameOf, outcomeOf}
 use Rattle.automata.specs.Accepted.{Accepted}
 use Rattle.automata.specs.Automata.{clocks, locations, target}
-use Rattle.search.specs.Exploring.{FirstHit, SoundNode, SoundState, Shown, Live, Continues, nodeAt}
+use Rattle.search.specs.Exploring.{FirstHit, SoundNode, SoundState, Shown, Live, Continues, Led, nodeAt}
 use Rattle.search.specs.Exploring as exploring
 use Rattle.search.specs.Instance.{ZoneState, ZoneNode, resultOf, overcounted, zonesOf}
 use Rattle.reachability.specs.Search as defined
-use Rattle.reachability.specs.Search.{Nth, none, found, find, judge, offer}
+use Rattle.reachability.specs.Search.{Came, first-zone, by-edge, reached, ended, Nth, none, found, find, judge, offer}
 use Rattle.automata.specs.Semantics.{systemOf}
 use Rattle.slots.specs.Slots.{slotLength, spare, pAt, headOf, slotOf, zoneOf}
 use Rattle.slots.specs.Containing.{loweredSlots, largestSlot, Readable, ComparableSlots}
-use Rattle.search.specs.Store.{storeOf}
+use Rattle.slots.specs.declared.slot.Origin.{Origin}
+use Rattle.search.specs.Store.{originOf, storeOf}
 use Rattle.reachability.proofs.Judged.{Judged, was-target, was-inside, was-big, was-kept, was-full, computes}
 use Rattle.slots.proofs.slot.Codec.{head-size, slot-taken, slot-counts, slot-readable, slot-bounded, zone-of-slot, lowered-slots}
 use Rattle.slots.proofs.slot.Codec.{largest-slot}
-use Rattle.search.proofs.exploration.Stores.{SlotAt, slot-at, store-length, store-more, hit-none, hit-first, slot-fits, lent-part}
+use Rattle.search.proofs.exploration.Stores.{slotAs, SlotAt, slot-at, store-length, store-more, hit-none, hit-first, slot-fits, lent-part}
+
+-- the outcome that tells the origin is the definition's
+came-back : (c : Came) → cameOf (originOf c) ≡ c
+unfolding cameOf originOf
+came-back first-zone = refl
+came-back (by-edge j i) = refl
+
+met-by : {o : Origin} {c : Came} → originOf c ≡ o → outcomeOf (Reached o) ≡ ended (reached c)
+unfolding outcomeOf
+met-by {c = c} e = ap (λ x. ended (reached x)) (ap cameOf (sym e) ∙ came-back c)
 
 -- the element at a place that is there
 pub record At {X : Type 0} (xs : List X) (j : ℕ) : Type 0 where
@@ -64,6 +75,13 @@ module _ (b : List ℕ) (a : Accepted b) where
       Shown n s₀ q s turn → SoundState b capacity q → length s ≡ length s₀
   live-length {s₀ = s₀} {q = q} h d o = ap length (d .store) ∙ store-length n n≤ (q .kept) s₀ (le-trans (mul-le-mul-right (slotLength n) (o .most)) h)
 
+  -- and it has the slots
+  pub live-slots : {capacity : ℕ} {s₀ : List ℤ} {q : ZoneState} {s : List ℤ} {turn : Turn} → capacity * slotLength n ≤ length s₀ →
+      Live b capacity s₀ q s turn → turn .count * slotLength n ≤ length s
+  live-slots {capacity} {turn = turn} h d =
+      let c : turn .count ≤ capacity = omega (arith, d .shown .number, d .sound .most) in
+      omega (arith, h, live-length h (d .shown) (d .sound), mul-le-mul-right (slotLength n) c)
+
   module _ {capacity : ℕ} {s : List ℤ} {turn : Turn} (i : exploring.Going b capacity s turn) where
     pub going-length : length s ≡ length (i .base)
     going-length = live-length (i .long) (i .live .shown) (i .live .sound)
@@ -75,31 +93,31 @@ module _ (b : List ℕ) (a : Accepted b) where
     going-count = omega (arith, i .live .shown .number, i .live .sound .most)
 
     pub going-slots : turn .count * slotLength n ≤ length s
-    going-slots = le-trans (mul-le-mul-right (slotLength n) going-count) going-room
+    going-slots = live-slots (i .long) (i .live)
 
   -- ---- a slot read back
   module _ (s : List ℤ) (j at : ℕ) (k : ZoneNode) (e : at ≡ j * slotLength n) (t : SlotAt n n≤ s j k) where
-    part : take (length s - at) (drop at s) ≡ slotOf n (headOf (k .at)) (k .zone) ++ t .rest
+    part : take (length s - at) (drop at s) ≡ slotAs n k ++ t .rest
     part = lent-part s at ∙ ap (λ (i : ℕ). drop i s) e ∙ t .same
 
     pub read-counts : (m : ℕ) → m < n * n → pos 0 ≤ℤ getD (take (length s - at) (drop at s)) (pAt m) (pos 0)
-    read-counts m h = rw part (slot-counts n (headOf (k .at)) (head-size (k .at)) (k .zone) (t .rest) n≤ m h)
+    read-counts m h = rw part (slot-counts n (headOf (k .at) (originOf (k .came))) (head-size (k .at) (originOf (k .came))) (k .zone) (t .rest) n≤ m h)
 
     pub read-zone : SoundNode b k → zoneOf n (take (length s - at) (drop at s)) ≡ k .zone
-    read-zone h = rw part (zone-of-slot n (headOf (k .at)) (head-size (k .at)) (k .zone) (t .rest) n≤ (h .ranged .size) (h .framed))
+    read-zone h = rw part (zone-of-slot n (headOf (k .at) (originOf (k .came))) (head-size (k .at) (originOf (k .came))) (k .zone) (t .rest) n≤ (h .ranged .size) (h .framed))
 
   pub node-bounded : (k : ZoneNode) → SoundNode b k → AllBounded scale lastCounts n (k .zone)
   node-bounded k h x y hx hy = record { m = h .ranged .bounded x y hx hy .m; p = omega (arith, h .ranged .bounded x y hx hy .p) }
 
   -- ---- the zone to be judged, in the state q that the store and the turn show
   module _ {capacity : ℕ} {s₀ : List ℤ} {q : ZoneState} {s : List ℤ} {turn : Turn} (d : Live b capacity s₀ q s turn)
-      {l : ℕ} (away : l ≡ target b → ⊥) (w : Work) (p : List ℕ) (rest : List ℤ)
-      {j : ℕ} (h : FirstHit n (slotOf n (headOf l) (w .zone) ++ rest) s (turn .count) j) where
-    first : FirstHit n (slotOf n (headOf l) (w .zone) ++ rest) (storeOf n (q .kept) s₀) (length (q .kept)) j
+      {l : ℕ} (away : l ≡ target b → ⊥) (w : Work) {o : Origin} (p : Led o) (rest : List ℤ)
+      {j : ℕ} (h : FirstHit n (slotOf n (headOf l o) (w .zone) ++ rest) s (turn .count) j) where
+    first : FirstHit n (slotOf n (headOf l o) (w .zone) ++ rest) (storeOf n (q .kept) s₀) (length (q .kept)) j
     first = rw (d .shown .store, d .shown .number) at h
 
     abbrev to-judge : ZoneNode
-    to-judge = nodeAt l p (w .zone)
+    to-judge = nodeAt l (p .came) (p .path) (w .zone)
 
     abbrev after : ZoneState
     after = judge (systemOf b) (zonesOf b) capacity q to-judge (w .fraction)
@@ -119,20 +137,21 @@ module _ (b : List ℕ) (a : Accepted b) where
 
     -- it is inside a kept one: the oldest such counts
     judged-inside : j < turn .count → {at : ℕ} → at ≡ j * slotLength n → {g : Fraction} →
-        g ≡ loweredSlots (slotOf n (headOf l) (w .zone) ++ rest) (take (length s - at) (drop at s)) (n * n) (w .fraction) →
+        g ≡ loweredSlots (slotOf n (headOf l o) (w .zone) ++ rest) (take (length s - at) (drop at s)) (n * n) (w .fraction) →
         Shown n s₀ after s (record { count = turn .count; fraction = g; outcome = Going })
     unfolding outcomeOf
     judged-inside hj {at} e g =
         let m = nth-at (q .kept) j (omega (arith, d .shown .number)) in
         let t = stored-slot (d .shown) j (m .node) (m .nth) in
-        shows (was-inside (m .node) off (hit-first b n≤ l (w .zone) (q .kept) s₀ rest j first (m .node) (m .nth)))
+        shows (was-inside (m .node) off (hit-first b n≤ l o (w .zone) (q .kept) s₀ rest j first (m .node) (m .nth)))
         (unmoved refl (g ∙ rw (part s j at (m .node) e t)
-        (lowered-slots n (headOf l) (head-size l) (w .zone) rest _ (head-size (m .node .at)) _ (t .rest) (w .fraction) n≤)))
+        (lowered-slots n (headOf l o) (head-size l o) (w .zone) rest _
+        (head-size (m .node .at) (originOf (m .node .came))) _ (t .rest) (w .fraction) n≤)))
 
     -- no kept one contains it
     module _ (out : turn .count ≤ j) where
       alone : find (systemOf b) (zonesOf b) (q .kept) l (w .zone) ≡ none
-      alone = hit-none b n≤ l (w .zone) (q .kept) s₀ rest j first (omega (arith, d .shown .number))
+      alone = hit-none b n≤ l o (w .zone) (q .kept) s₀ rest j first (omega (arith, d .shown .number))
 
       judged-big : counts < largestCount n (w .zone) →
           Shown n s₀ after s (record { count = turn .count; fraction = w .fraction; outcome = Refused 9 })
@@ -149,21 +168,22 @@ module _ (b : List ℕ) (a : Accepted b) where
         judged-full r = shows (was-full off alone counted (omega (arith, d .shown .number))) (unmoved refl refl)
 
         judged-kept : turn .count < capacity → {at : ℕ} {s′ : List ℤ} → at ≡ turn .count * slotLength n →
-            s′ ≡ take at s ++ (take (slotLength n) (slotOf n (headOf l) (w .zone) ++ rest) ++ drop (at + slotLength n) s) →
+            s′ ≡ take at s ++ (take (slotLength n) (slotOf n (headOf l o) (w .zone) ++ rest) ++ drop (at + slotLength n) s) →
             Shown n s₀ after s′ (record { count = turn .count + 1; fraction = w .fraction; outcome = Going })
         unfolding outcomeOf
         judged-kept r {at} e f =
-            let t = slot-taken n (headOf l) (head-size l) (w .zone) rest n≤ in
+            let t = slot-taken n (headOf l o) (head-size l o) (w .zone) rest n≤ in
+            let told : slotOf n (headOf l o) (w .zone) ≡ slotAs n to-judge = ap (λ (x : Origin). slotOf n (headOf l x) (w .zone)) (sym (p .told)) in
             let m = store-more n n≤ (q .kept) to-judge s₀ at (e ∙ ap (λ (c : ℕ). c * slotLength n) (d .shown .number)) in
             shows (was-kept off alone counted (omega (arith, d .shown .number))) (record {
               number = omega (arith, d .shown .number, length-append (q .kept) (to-judge ∷ []));
-              store = f ∙ (λ i. take at (d .shown .store i) ++ (t i ++ drop (at + slotLength n) (d .shown .store i))) ∙ m;
+              store = f ∙ (λ i. take at (d .shown .store i) ++ ((t ∙ told) i ++ drop (at + slotLength n) (d .shown .store i))) ∙ m;
               fraction = refl;
               outcome = refl;
             })
 
 -- ---- the same, as the code has it: w has entered l, which is not the target, and `size` is the number of indices
-pub record Entered (b : List ℕ) (l : ℕ) (w : Work) (capacity : ℕ) (turn : Turn) (s : List ℤ) (size : ℕ) : Type 0 where
+pub record Entered (b : List ℕ) (l : ℕ) (o : Origin) (w : Work) (capacity : ℕ) (turn : Turn) (s : List ℤ) (size : ℕ) : Type 0 where
   pub accepted : Accepted b
   pub location : l < locations b
   pub away : l ≡ target b → ⊥
@@ -171,8 +191,8 @@ pub record Entered (b : List ℕ) (l : ℕ) (w : Work) (capacity : ℕ) (turn : 
   pub progress : exploring.Going b capacity s turn
   pub size≡ : size ≡ suc (clocks b)
 
-module _ {b : List ℕ} {l : ℕ} {w : Work} {capacity : ℕ} {turn : Turn} {s : List ℤ} {size : ℕ}
-    (entered : Entered b l w capacity turn s size) where
+module _ {b : List ℕ} {l : ℕ} {o : Origin} {w : Work} {capacity : ℕ} {turn : Turn} {s : List ℤ} {size : ℕ}
+    (entered : Entered b l o w capacity turn s size) where
   abbrev a : Accepted b
   a = entered .accepted
 
@@ -186,9 +206,9 @@ module _ {b : List ℕ} {l : ℕ} {w : Work} {capacity : ℕ} {turn : Turn} {s :
   asks-encode = rw es ((n≤ b a, omega (arith, entered .location, a .complete .locations≤)), entered .sized .ranged .bounded)
 
   -- the slot of w
-  module _ {new : List ℤ} (en : new ≡ slotOf size (headOf l) (w .zone) ++ replicate (spare size) (pos 0)) where
+  module _ {new : List ℤ} (en : new ≡ slotOf size (headOf l o) (w .zone) ++ replicate (spare size) (pos 0)) where
     pub asks-largest : Readable new (size * size)
-    asks-largest = rw en (slot-readable size (headOf l) (head-size l) (w .zone) _ (omega (arith, es, n≤ b a)))
+    asks-largest = rw en (slot-readable size (headOf l o) (head-size l o) (w .zone) _ (omega (arith, es, n≤ b a)))
 
     pub asks-find : (size ≤ 9) × (turn .count * slotLength size ≤ length s) × (slotLength size ≤ length new)
     asks-find = (omega (arith, es, n≤ b a), rw es (going-slots b a i), asks-largest .long)
@@ -201,16 +221,16 @@ module _ {b : List ℕ} {l : ℕ} {w : Work} {capacity : ℕ} {turn : Turn} {s :
   slot-within e h = next-within e (omega (arith, going-count b a i))
 
   -- what each branch gives
-  module _ {new : List ℤ} (en : new ≡ slotOf size (headOf l) (w .zone) ++ replicate (spare size) (pos 0))
+  module _ {new : List ℤ} (en : new ≡ slotOf size (headOf l o) (w .zone) ++ replicate (spare size) (pos 0))
       {j : ℕ} (h : FirstHit size new s (turn .count) j) where
-    new≡ : new ≡ slotOf (n b a) (headOf l) (w .zone) ++ replicate (spare (n b a)) (pos 0)
-    new≡ = en ∙ ap (λ (k : ℕ). slotOf k (headOf l) (w .zone) ++ replicate (spare k) (pos 0)) es
+    new≡ : new ≡ slotOf (n b a) (headOf l o) (w .zone) ++ replicate (spare (n b a)) (pos 0)
+    new≡ = en ∙ ap (λ (k : ℕ). slotOf k (headOf l o) (w .zone) ++ replicate (spare k) (pos 0)) es
 
-    hits : FirstHit (n b a) (slotOf (n b a) (headOf l) (w .zone) ++ replicate (spare (n b a)) (pos 0)) s (turn .count) j
+    hits : FirstHit (n b a) (slotOf (n b a) (headOf l o) (w .zone) ++ replicate (spare (n b a)) (pos 0)) s (turn .count) j
     hits = rw (es, new≡) at h
 
-    abbrev op : List ℕ → ZoneState → ZoneState
-    op p q = judge (systemOf b) (zonesOf b) capacity q (nodeAt l p (w .zone)) (w .fraction)
+    abbrev op : Led o → ZoneState → ZoneState
+    op p q = judge (systemOf b) (zonesOf b) capacity q (nodeAt l (p .came) (p .path) (w .zone)) (w .fraction)
 
     module _ (hj : j < turn .count) {at : ℕ} (e : at ≡ j * slotLength size) where
       here : at ≡ j * slotLength (n b a)
@@ -223,17 +243,17 @@ module _ {b : List ℕ} {l : ℕ} {w : Work} {capacity : ℕ} {turn : Turn} {s :
           let k = m .node in
           let t = stored-slot b a d j k (m .nth) in
           rw (es, new≡, part b a s j at k here t) (record {
-            new-reads = slot-readable _ (headOf l) (head-size l) (w .zone) _ (n≤ b a);
-            old-reads = slot-readable _ (headOf (k .at)) (head-size (k .at)) (k .zone) _ (n≤ b a);
-            new-bounded = slot-bounded _ (headOf l) (head-size l) (w .zone) _ scale lastCounts (n≤ b a) (entered .sized .ranged .bounded);
-            old-bounded = slot-bounded _ (headOf (k .at)) (head-size (k .at)) (k .zone) _ scale lastCounts (n≤ b a)
+            new-reads = slot-readable _ (headOf l o) (head-size l o) (w .zone) _ (n≤ b a);
+            old-reads = slot-readable _ (headOf (k .at) (originOf (k .came))) (head-size (k .at) (originOf (k .came))) (k .zone) _ (n≤ b a);
+            new-bounded = slot-bounded _ (headOf l o) (head-size l o) (w .zone) _ scale lastCounts (n≤ b a) (entered .sized .ranged .bounded);
+            old-bounded = slot-bounded _ (headOf (k .at) (originOf (k .came))) (head-size (k .at) (originOf (k .came))) (k .zone) _ scale lastCounts (n≤ b a)
                 (node-bounded b a k (i .live .sound .nodes j k (m .nth)));
             inside = rw (t .same) at (hits .found hj .inside);
             fraction = entered .sized .narrow;
           })
 
       pub gives-inside : {g : Fraction} → g ≡ loweredSlots new (take (length s - at) (drop at s)) (size * size) (w .fraction) →
-          (p : List ℕ) → Continues b capacity s turn (op p) s (record { count = turn .count; fraction = g; outcome = Going })
+          (p : Led o) → Continues b capacity s turn (op p) s (record { count = turn .count; fraction = g; outcome = Going })
       gives-inside g p = record {
         shows = λ s₀ q d. judged-inside b a d (entered .away) w p _ hits hj here
             (g ∙ (λ i. loweredSlots (new≡ i) (take (length s - at) (drop at s)) (es i * es i) (w .fraction)));
@@ -241,18 +261,18 @@ module _ {b : List ℕ} {l : ℕ} {w : Work} {capacity : ℕ} {turn : Turn} {s :
 
     module _ (out : turn .count ≤ j) {most : ℕ} (em : most ≡ largestSlot new (size * size)) where
       largest : most ≡ largestCount (n b a) (w .zone)
-      largest = em ∙ (λ i. largestSlot (new≡ i) (es i * es i)) ∙ largest-slot _ (headOf l) (head-size l) (w .zone) _ (n≤ b a)
+      largest = em ∙ (λ i. largestSlot (new≡ i) (es i * es i)) ∙ largest-slot _ (headOf l o) (head-size l o) (w .zone) _ (n≤ b a)
 
-      pub gives-big : counts < most → (p : List ℕ) →
+      pub gives-big : counts < most → (p : Led o) →
           Continues b capacity s turn (op p) s (record { count = turn .count; fraction = w .fraction; outcome = Refused 9 })
       gives-big g p = record { shows = λ s₀ q d. judged-big b a d (entered .away) w p _ hits out (rw largest at g) }
 
-      pub gives-full : most ≤ counts → capacity ≤ turn .count → (p : List ℕ) →
+      pub gives-full : most ≤ counts → capacity ≤ turn .count → (p : Led o) →
           Continues b capacity s turn (op p) s (record { count = turn .count; fraction = w .fraction; outcome = Refused 10 })
       gives-full g r p = record { shows = λ s₀ q d. judged-full b a d (entered .away) w p _ hits out (rw largest at g) r }
 
       pub gives-kept : most ≤ counts → turn .count < capacity → {per-slot : ℕ} {s′ : List ℤ} → per-slot ≡ slotLength size →
-          s′ ≡ take (turn .count * per-slot) s ++ (take per-slot new ++ drop (turn .count * per-slot + per-slot) s) → (p : List ℕ) →
+          s′ ≡ take (turn .count * per-slot) s ++ (take per-slot new ++ drop (turn .count * per-slot + per-slot) s) → (p : Led o) →
           Continues b capacity s turn (op p) s′ (record { count = turn .count + 1; fraction = w .fraction; outcome = Going })
       gives-kept g r {per-slot} e f p =
           let k = e ∙ ap slotLength es in
@@ -262,9 +282,9 @@ module _ {b : List ℕ} {l : ℕ} {w : Work} {capacity : ℕ} {turn : Turn} {s :
           }
 
 -- ---- the whole offer
-module _ (b : List ℕ) (capacity : ℕ) (s : List ℤ) (turn : Turn) (l : ℕ) (r : Reduced) (p : List ℕ) where
+module _ (b : List ℕ) (capacity : ℕ) (s : List ℤ) (turn : Turn) (l : ℕ) {o : Origin} (r : Reduced) (p : Led o) where
   abbrev offers : ZoneState → ZoneState
-  offers q = offer (systemOf b) (zonesOf b) capacity q (nodeAt l p) (resultOf r)
+  offers q = offer (systemOf b) (zonesOf b) capacity q (nodeAt l (p .came) (p .path)) (resultOf r)
 
   pub gives-empty : r .empty ≡ true →
       Continues b capacity s turn offers s (record { count = turn .count; fraction = r .work .fraction; outcome = Going })
@@ -274,19 +294,19 @@ module _ (b : List ℕ) (capacity : ℕ) (s : List ℤ) (turn : Turn) (l : ℕ) 
   }
 
   pub gives-target : r .empty ≡ false → l ≡ target b →
-      Continues b capacity s turn offers s (record { count = turn .count; fraction = r .work .fraction; outcome = Reached })
+      Continues b capacity s turn offers s (record { count = turn .count; fraction = r .work .fraction; outcome = Reached o })
   unfolding resultOf offer outcomeOf
   gives-target e g = record {
     shows =
         λ s₀ q d. rw e
-        (subst (λ (x : ZoneState). Shown (suc (clocks b)) s₀ x s (record { count = turn .count; fraction = r .work .fraction; outcome = Reached }))
+        (subst (λ (x : ZoneState). Shown (suc (clocks b)) s₀ x s (record { count = turn .count; fraction = r .work .fraction; outcome = Reached o }))
         (sym (computes (systemOf b) (zonesOf b) (was-target (eq-eqb l (target b) g))))
-        (record { number = d .shown .number; store = d .shown .store; fraction = refl; outcome = refl }));
+        (record { number = d .shown .number; store = d .shown .store; fraction = refl; outcome = met-by (p .told) }));
   }
 
   pub gives-judged : r .empty ≡ false → {s′ : List ℤ} {t : Turn} →
-      ((p : List ℕ) → Continues b capacity s turn
-      (λ q. judge (systemOf b) (zonesOf b) capacity q (nodeAt l p (r .work .zone)) (r .work .fraction)) s′ t) →
+      ((p : Led o) → Continues b capacity s turn
+      (λ q. judge (systemOf b) (zonesOf b) capacity q (nodeAt l (p .came) (p .path) (r .work .zone)) (r .work .fraction)) s′ t) →
       Continues b capacity s turn offers s′ t
   unfolding resultOf offer
   gives-judged e h = rw e (h p)

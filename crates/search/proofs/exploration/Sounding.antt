@@ -25,7 +25,7 @@ use Rattle.automata.specs.Accepted.{Accepted}
 use Rattle.automata.specs.Automata.{clocks, locations, edges, start, to, invariantOf, guardOf, resetsOf}
 use Rattle.search.specs.Exploring.{SoundNode, SoundState, SoundResult, nodeAt}
 use Rattle.search.specs.Instance.{ZoneState, workOf, resultOf, entering, overcounted, zonesOf}
-use Rattle.reachability.specs.Search.{zone, offer, nothing, begin}
+use Rattle.reachability.specs.Search.{Came, first-zone, zone, offer, nothing, begin}
 use Rattle.automata.specs.Semantics.{systemOf}
 use Rattle.slots.specs.Slots.{Framed}
 use Rattle.reachability.proofs.Judged.{offer-kept, offer-frac}
@@ -139,10 +139,10 @@ module _ (b : List ℕ) (a : Accepted b) where
 
   -- ---- a judged state
   -- a zone that may be kept has no error count above 65,535
-  kept-sound : (l : ℕ) → l < locations b → (z : List Pair) (f : Fraction) (p : List ℕ) → Sized lastCounts n (workOf z f) →
-      Framed n z → overcounted b z ≡ false → SoundNode b (record { at = l; zone = z; path = p })
+  kept-sound : (l : ℕ) → l < locations b → (z : List Pair) (f : Fraction) (c : Came) (p : List ℕ) → Sized lastCounts n (workOf z f) →
+      Framed n z → overcounted b z ≡ false → SoundNode b (record { at = l; zone = z; came = c; path = p })
   unfolding overcounted
-  kept-sound l hl z f p r g e = record {
+  kept-sound l hl z f c p r g e = record {
     location = hl;
     ranged = record {
       size = r .ranged .size;
@@ -164,15 +164,15 @@ module _ (b : List ℕ) (a : Accepted b) where
         subst (Framed n) (w .square) (h .framed (w .live)),
       )
 
-  module _ (capacity : ℕ) (l : ℕ) (hl : l < locations b) (p : List ℕ) (q : ZoneState)
+  module _ (capacity : ℕ) (l : ℕ) (hl : l < locations b) (c : Came) (p : List ℕ) (q : ZoneState)
       (sound : SoundState b capacity q) (r : Reduced) (h : SoundResult b r) where
-    pub offer-sound : SoundState b capacity (offer (systemOf b) (zonesOf b) capacity q (nodeAt l p) (resultOf r))
+    pub offer-sound : SoundState b capacity (offer (systemOf b) (zonesOf b) capacity q (nodeAt l c p) (resultOf r))
     offer-sound = record {
-      nodes = offer-kept (systemOf b) (zonesOf b) capacity (All (SoundNode b)) q (nodeAt l p) (resultOf r) (sound .nodes)
+      nodes = offer-kept (systemOf b) (zonesOf b) capacity (All (SoundNode b)) q (nodeAt l c p) (resultOf r) (sound .nodes)
           (λ z f e away small room. let o = zone-fit r z f h e in
-          all-snoc (q .kept) (nodeAt l p z) (sound .nodes) (kept-sound l hl z f p (o .0) (o .1) small));
-      most = offer-room (systemOf b) (zonesOf b) capacity q (nodeAt l p) (resultOf r) (sound .most);
-      fraction = offer-frac (systemOf b) (zonesOf b) capacity Fits32 q (nodeAt l p) (resultOf r)
+          all-snoc (q .kept) (nodeAt l c p z) (sound .nodes) (kept-sound l hl z f c p (o .0) (o .1) small));
+      most = offer-room (systemOf b) (zonesOf b) capacity q (nodeAt l c p) (resultOf r) (sound .most);
+      fraction = offer-frac (systemOf b) (zonesOf b) capacity Fits32 q (nodeAt l c p) (resultOf r)
           (subst Fits32 (sym (result-fraction r)) (h .fraction))
           (λ z f k e i. let o = zone-fit r z f h e in
           lowered-fits z (k .zone) n (o .0 .ranged .bounded) (node-bounded b a k (sound .nodes (i .place) k (i .kept))) (i .holds) f
@@ -185,4 +185,4 @@ module _ (b : List ℕ) (a : Accepted b) where
 
   pub begin-sound : (capacity : ℕ) → SoundState b capacity (begin (systemOf b) (zonesOf b) capacity)
   unfolding entering firstWork
-  begin-sound capacity = offer-sound capacity (start b) (a .start<) [] _ (nothing-sound capacity) _ start-sound
+  begin-sound capacity = offer-sound capacity (start b) (a .start<) first-zone [] _ (nothing-sound capacity) _ start-sound

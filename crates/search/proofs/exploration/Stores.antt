@@ -22,18 +22,20 @@ use Rattle.search.specs.Exploring.{Hits, FirstHit}
 use Rattle.search.specs.Instance.{ZoneNode, zonesOf}
 use Rattle.reachability.specs.Search.{Found, none, found, Nth, find}
 use Rattle.automata.specs.Semantics.{systemOf}
+use Rattle.slots.specs.declared.slot.Origin.{Origin}
 use Rattle.slots.specs.Slots.{slotLength, headOf, slotOf, slotLocation}
 use Rattle.slots.specs.Containing.{withinSlots}
-use Rattle.search.specs.Store.{slotsOf, storeOf, mostSlots, capacityOf}
+use Rattle.search.specs.Store.{originOf, slotsOf, storeOf, mostSlots, capacityOf}
 use Rattle.reachability.proofs.Lists.{nth-lt}
 use Rattle.slots.proofs.slot.Codec.{slot-size, head-size, slot-location, within-slots}
 
-abbrev slotAs : ℕ → ZoneNode → List ℤ
-slotAs n k = slotOf n (headOf (k .at)) (k .zone)
+-- the slot of a node
+abbrev pub slotAs : ℕ → ZoneNode → List ℤ
+slotAs n k = slotOf n (headOf (k .at) (originOf (k .came))) (k .zone)
 
 module _ (n : ℕ) (n≤ : n ≤ 9) where
   node-size : (k : ZoneNode) → length (slotAs n k) ≡ slotLength n
-  node-size k = slot-size n (headOf (k .at)) (head-size (k .at)) (k .zone) n≤
+  node-size k = slot-size n (headOf (k .at) (originOf (k .came))) (head-size (k .at) (originOf (k .came))) (k .zone) n≤
 
   slots-length : (ks : List ZoneNode) → length (slotsOf n ks) ≡ length ks * slotLength n
   unfolding slotsOf
@@ -48,7 +50,7 @@ module _ (n : ℕ) (n≤ : n ≤ 9) where
   -- ---- the slot of node j
   pub record SlotAt (s : List ℤ) (j : ℕ) (k : ZoneNode) : Type 0 where
     pub rest : List ℤ
-    pub same : drop (j * slotLength n) s ≡ slotOf n (headOf (k .at)) (k .zone) ++ rest
+    pub same : drop (j * slotLength n) s ≡ slotAs n k ++ rest
 
   slot-in : (ks : List ZoneNode) (t : List ℤ) (j : ℕ) (k : ZoneNode) → Nth ks j k → SlotAt (slotsOf n ks ++ t) j k
   unfolding slotsOf
@@ -70,7 +72,7 @@ module _ (n : ℕ) (n≤ : n ≤ 9) where
   pub location-at : (s : List ℤ) (j : ℕ) (k : ZoneNode) {at : ℕ} → at ≡ j * slotLength n → SlotAt s j k → getD s at (pos 0) ≡ pos (k .at)
   location-at s j k {at} e t =
       let f : at ≡ j * slotLength n + 0 = omega arith in
-      rw (f, ← getD-drop (j * slotLength n) s 0 (pos 0), t .same) (slot-location n (k .at) (k .zone) (t .rest))
+      rw (f, ← getD-drop (j * slotLength n) s 0 (pos 0), t .same) (slot-location n (k .at) (originOf (k .came)) (k .zone) (t .rest))
 
   pub slot-at : (ks : List ZoneNode) (s₀ : List ℤ) (j : ℕ) (k : ZoneNode) → Nth ks j k → SlotAt (storeOf n ks s₀) j k
   unfolding storeOf
@@ -83,7 +85,7 @@ module _ (n : ℕ) (n≤ : n ≤ 9) where
       length-append (slotsOf n ks) (drop (length (slotsOf n ks)) s₀) ∙ omega (arith, length-drop (length (slotsOf n ks)) s₀, slots-length ks)
 
   pub store-more : (ks : List ZoneNode) (k : ZoneNode) (s₀ : List ℤ) (at : ℕ) → at ≡ length ks * slotLength n →
-      take at (storeOf n ks s₀) ++ (slotOf n (headOf (k .at)) (k .zone) ++ drop (at + slotLength n) (storeOf n ks s₀)) ≡ storeOf n (ks ++ (k ∷ [])) s₀
+      take at (storeOf n ks s₀) ++ (slotAs n k ++ drop (at + slotLength n) (storeOf n ks s₀)) ≡ storeOf n (ks ++ (k ∷ [])) s₀
   unfolding storeOf
   store-more ks k s₀ at e =
       let p = slotsOf n ks in
@@ -151,7 +153,7 @@ pub misses-more : (n : ℕ) (new s : List ℤ) (j : ℕ) → ((i : ℕ) → i < 
 misses-more n new s j f g i h = up-to (λ i. Hits n new s i → ⊥) j f g i (omega arith)
 
 -- ---- the first slot that contains the new one is the node that the definition finds
-module _ (b : List ℕ) (n≤ : suc (clocks b) ≤ 9) (l : ℕ) (z : List Pair) where
+module _ (b : List ℕ) (n≤ : suc (clocks b) ≤ 9) (l : ℕ) (o : Origin) (z : List Pair) where
   abbrev n : ℕ
   n = suc (clocks b)
 
@@ -193,20 +195,21 @@ module _ (b : List ℕ) (n≤ : suc (clocks b) ≤ 9) (l : ℕ) (z : List Pair) 
     location : getD (storeOf n ks s₀) (j * slotLength n) (pos 0) ≡ pos (k .at)
     location = location-at n n≤ _ j k refl slot
 
-    test : withinSlots (slotOf n (headOf l) z ++ rest) (drop (j * slotLength n) (storeOf n ks s₀)) (n * n) ≡ within n z (k .zone)
-    test = rw (slot .same) (within-slots n (headOf l) (head-size l) z rest (headOf (k .at)) (head-size (k .at)) (k .zone) (slot .rest) n≤)
+    test : withinSlots (slotOf n (headOf l o) z ++ rest) (drop (j * slotLength n) (storeOf n ks s₀)) (n * n) ≡ within n z (k .zone)
+    test = rw (slot .same) (within-slots n (headOf l o) (head-size l o) z rest (headOf (k .at) (originOf (k .came)))
+        (head-size (k .at) (originOf (k .came))) (k .zone) (slot .rest) n≤)
 
-    hits-contains : Hits n (slotOf n (headOf l) z ++ rest) (storeOf n ks s₀) j → Contains k
+    hits-contains : Hits n (slotOf n (headOf l o) z ++ rest) (storeOf n ks s₀) j → Contains k
     hits-contains h =
-        let e : pos (k .at) ≡ pos l = sym location ∙ h .same ∙ slot-location n l z rest in
+        let e : pos (k .at) ≡ pos l = sym location ∙ h .same ∙ slot-location n l o z rest in
         record { at = cc; inside = sym test ∙ h .inside }
 
-    contains-hits : Contains k → Hits n (slotOf n (headOf l) z ++ rest) (storeOf n ks s₀) j
-    contains-hits c = record { same = location ∙ ap pos (c .at) ∙ sym (slot-location n l z rest); inside = test ∙ c .inside }
+    contains-hits : Contains k → Hits n (slotOf n (headOf l o) z ++ rest) (storeOf n ks s₀) j
+    contains-hits c = record { same = location ∙ ap pos (c .at) ∙ sym (slot-location n l o z rest); inside = test ∙ c .inside }
 
   -- the code's answer r
   module _ (ks : List ZoneNode) (s₀ rest : List ℤ) (r : ℕ)
-      (h : FirstHit n (slotOf n (headOf l) z ++ rest) (storeOf n ks s₀) (length ks) r) where
+      (h : FirstHit n (slotOf n (headOf l o) z ++ rest) (storeOf n ks s₀) (length ks) r) where
     pub hit-none : length ks ≤ r → finds ks ≡ none
     hit-none g = find-none ks (λ j k m c. h .before j (omega (arith, nth-lt ks j k m)) (contains-hits ks s₀ rest j k m c))
 

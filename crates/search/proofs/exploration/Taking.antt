@@ -19,23 +19,20 @@ use Rattle.automata.specs.Accepted.{Accepted}
 use Rattle.automata.specs.Automata.{clocks, edges, to}
 use Rattle.search.specs.Exploring.{SoundState, SoundNode, SoundZone, Shown, Live, Going, Continues, nodeAt}
 use Rattle.search.specs.Instance.{ZoneState, ZoneNode, zonesOf, following}
-use Rattle.reachability.specs.Search.{Nth, expand, take-from}
+use Rattle.reachability.specs.Search.{Came, by-edge, Nth, expand, take-from}
 use Rattle.automata.specs.Semantics.{systemOf}
 use Rattle.slots.specs.Slots.{slotLength, pAt, zoneOf}
 use Rattle.reachability.proofs.Judged.{take-none, take-one}
 use Rattle.reachability.proofs.Keeps.{Steady, expand-keeps}
 use Rattle.reachability.proofs.Later.{take-later}
-use Rattle.search.proofs.exploration.Judging.{At, nth-at, n≤, stored-slot, live-length, going-slots, read-counts, read-zone}
+use Rattle.reachability.proofs.Lists.{nth-tail}
+use Rattle.search.specs.Store.{mostSlots}
+use Rattle.search.proofs.exploration.Judging.{At, nth-at, n≤, stored-slot, live-length, live-slots, read-counts, read-zone}
 use Rattle.search.proofs.exploration.Ending.{still, stays}
 use Rattle.search.proofs.exploration.Sounding.{follow-sound, offer-sound}
 use Rattle.slots.proofs.slot.Loops.{reads-p}
 use mir.ValLaws.{toZ-ofZ}
 use Rattle.search.proofs.exploration.Stores.{SlotAt, location-at, slot-fits, lent-length}
-
-drop-nth : {X : Type 0} (xs : List X) (j : ℕ) (k : X) → Nth xs j k → drop j xs ≡ k ∷ drop (suc j) xs
-drop-nth [] j k h = absurd h
-drop-nth (x ∷ xs) zero k h = ap (λ y. y ∷ xs) h
-drop-nth (x ∷ xs) (suc j) k h = drop-nth xs j k h
 
 -- ---- the number of a location, as the code reads it
 module _ {x : ℤ} {l : ℕ} (h : SFits w32 x) (e : x ≡ pos l) where
@@ -81,12 +78,12 @@ module _ (b : List ℕ) (a : Accepted b) (capacity : ℕ) where
   steady-sound = record {
     edge = λ q j k i e m hi f o.
         let s = o .nodes j k m in
-        offer-sound b a capacity (to b i) (a .to< i hi) (k .path ++ (i ∷ [])) q o _
+        offer-sound b a capacity (to b i) (a .to< i hi) (by-edge j i) (k .path ++ (i ∷ [])) q o _
         (follow-sound b a i hi (k .zone) (q .frac) (s .ranged) (s .framed) (o .fraction));
   }
 
   expand-sound : (j : ℕ) (k : ZoneNode) (q : ZoneState) → Nth (q .kept) j k → SoundState b capacity q →
-      SoundState b capacity (expand (systemOf b) (zonesOf b) capacity k (edges b) 0 q)
+      SoundState b capacity (expand (systemOf b) (zonesOf b) capacity j k (edges b) 0 q)
   expand-sound j k q m o = expand-keeps (systemOf b) (zonesOf b) capacity steady-sound j k (edges b) 0 q m (omega arith) o
 
 -- ---- the node at `next`
@@ -96,8 +93,8 @@ module _ {b : List ℕ} (a : Accepted b) where
 
   module _ {capacity : ℕ} {s₀ : List ℤ} {q₀ : ZoneState} {next : ℕ} {s : List ℤ} {t : Turn}
       (w : Onward b capacity s₀ q₀ next s t) (h : next < t .count) where
-    pub onward : capacity * slotLength n ≤ length s₀ → Going b capacity s t
-    onward long = record { base = s₀; state = w .state; live = w .live; long = long }
+    pub onward : capacity * slotLength n ≤ length s₀ → capacity ≤ mostSlots → Going b capacity s t
+    onward long most = record { base = s₀; state = w .state; live = w .live; long = long; few = most }
 
     pub here : At (w .state .kept) next
     here = nth-at (w .state .kept) next (omega (arith, w .live .shown .number))
@@ -113,7 +110,7 @@ module _ {b : List ℕ} (a : Accepted b) where
       slot = stored-slot b a (w .live .shown) next (here .node) (here .nth)
 
       pub slot-inside : capacity * slotLength n ≤ length s₀ → at + slotLength n ≤ length s
-      slot-inside long = slot-fits (slotLength n) h (going-slots b a (onward long)) e
+      slot-inside long = slot-fits (slotLength n) h (live-slots b a long (w .live)) e
 
       pub location : getD s at (pos 0) ≡ pos (here .node .at)
       location = location-at n (n≤ b a) s next (here .node) e slot
@@ -132,18 +129,19 @@ module _ {b : List ℕ} (a : Accepted b) where
 
         -- s′ and t′ are what the expansion left
         module _ {l : ℕ} (el : getD s at (pos 0) ≡ pos l) {s′ : List ℤ} {t′ : Turn}
-            (g : (p : List ℕ) → Continues b capacity s t (expand (systemOf b) (zonesOf b) capacity (nodeAt l p z) (edges b) 0) s′ t′) where
+            (g : (c : Came) (p : List ℕ) → Continues b capacity s t
+            (expand (systemOf b) (zonesOf b) capacity next (nodeAt l c p z) (edges b) 0) s′ t′) where
           abbrev expanded : ZoneState
-          expanded = expand (systemOf b) (zonesOf b) capacity (here .node) (edges b) 0 (w .state)
+          expanded = expand (systemOf b) (zonesOf b) capacity next (here .node) (edges b) 0 (w .state)
 
           at≡ : l ≡ here .node .at
           at≡ = let e : pos l ≡ pos (here .node .at) = sym el ∙ location in cc
 
-          same-node : nodeAt l (here .node .path) z ≡ here .node
-          same-node = λ i. record { at = at≡ i; zone = zone≡ i; path = here .node .path }
+          same-node : nodeAt l (here .node .came) (here .node .path) z ≡ here .node
+          same-node = λ i. record { at = at≡ i; zone = zone≡ i; came = here .node .came; path = here .node .path }
 
           shown : Shown n s₀ expanded s′ t′
-          shown = rw same-node at (g (here .node .path) .shows s₀ (w .state) (w .live))
+          shown = rw same-node at (g (here .node .came) (here .node .path) .shows s₀ (w .state) (w .live))
 
           sound : SoundState b capacity expanded
           sound = expand-sound b a capacity next (here .node) (w .state) (here .nth) (w .live .sound)
@@ -154,7 +152,7 @@ module _ {b : List ℕ} (a : Accepted b) where
               let c : suc next ≡ next + 1 = omega arith in
               sym (ap (λ (m : ℕ). taken b capacity m next (w .state)) f
               ∙ take-one (systemOf b) (zonesOf b) capacity (capacity - (next + 1)) next (w .state) (here .node) _
-              (drop-nth (w .state .kept) next (here .node) (here .nth))
+              (nth-tail (w .state .kept) next (here .node) (here .nth))
               ∙ ap (λ (j : ℕ). taken b capacity (capacity - (next + 1)) j expanded) c) ∙ w .rest
 
           pub turned : Turned b capacity s₀ q₀ next s′ t′

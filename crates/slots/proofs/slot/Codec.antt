@@ -25,7 +25,8 @@ use Rattle.zones.specs.Ranges.{AllBounded, Bounded}
 use Rattle.zones.proofs.places.Inside.{bounded-place}
 use Rattle.zones.proofs.sets.Squares.{up-to}
 use Rattle.slots.specs.Slots.{fields, slotLength, mAt, pAt, pairsTo, pairsOf, flat, headOf, slotOf, slotLocation, slotPair, counted, squareTo}
-use Rattle.slots.specs.Slots.{zoneOf, Framed}
+use Rattle.slots.specs.Slots.{slotOrigin, zoneOf, Framed}
+use Rattle.slots.specs.declared.slot.Origin.{Origin}
 use Rattle.slots.specs.Containing.{lessAt, withinSlots, loweredSlots, largestSlot, Readable}
 
 -- ---- how many places count
@@ -205,14 +206,18 @@ module _ (n : ℕ) (hd : List ℤ) (hd≡ : length hd ≡ fields) (z : List Pair
         counted-ind n (λ k t. largestSlot (slotOf n hd z ++ rest) t ≡ countTo n k z) refl
         (λ k h c ih. rw (lt-ltb (k % 9) n c, slot-p k h c, ih)) (λ k c ih. rw (le-ltb (k % 9) n c) ih)
 
--- the head of a zone of location l
-pub head-size : (l : ℕ) → length (headOf l) ≡ fields
+-- the head of a zone of location l, and what is read of it
+pub head-size : (l : ℕ) (o : Origin) → length (headOf l o) ≡ fields
 unfolding headOf
-head-size l = refl
+head-size l o = refl
 
-pub slot-location : (n l : ℕ) (z : List Pair) (rest : List ℤ) → slotLocation (slotOf n (headOf l) z ++ rest) ≡ pos l
+pub slot-location : (n l : ℕ) (o : Origin) (z : List Pair) (rest : List ℤ) → slotLocation (slotOf n (headOf l o) z ++ rest) ≡ pos l
 unfolding slotOf headOf
-slot-location n l z rest = refl
+slot-location n l o z rest = refl
+
+pub slot-origin : (n l : ℕ) (o : Origin) (z : List Pair) (rest : List ℤ) → slotOrigin (slotOf n (headOf l o) z ++ rest) ≡ o
+unfolding slotOf headOf
+slot-origin n l o z rest = refl
 
 -- ---- the square of a slot's pairs
 module _ (n : ℕ) (s : List ℤ) where

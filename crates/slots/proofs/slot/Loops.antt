@@ -3,11 +3,11 @@
 use Prim.Native.Nat.{ℕ, zero, suc, _+_, _-_, _*_, _%_, _<_, _≤_}
 use mathlib.Core.Path.{_≡_, refl, sym, ap, _∙_}
 use mathlib.Core.Bool.{Bool, true, false, cond}
-use mathlib.Core.List.{List, [], _∷_, _++_, append-assoc}
+use mathlib.Core.List.{List, [], _∷_, _++_, append-assoc, append-nil}
 use borrow.Author.Tests.{lt-ltb, le-ltb}
 use lib.IntN.{ℤ, pos, negsuc, natAbs}
 use lib.ListN.{length, getD, take, drop, set, replicate, length-append}
-use lib.Seq.{set-at, append-snoc, paste-suc}
+use lib.Seq.{take-at, set-at, append-snoc, paste-suc}
 use lib.Signed.{_≤ℤ_, ltZ, nonNeg, yes-nonNeg}
 use lib.Dec.{T}
 use mir.Syntax.{w32, w64}
@@ -27,7 +27,8 @@ use Rattle.zones.specs.Ranges.{Bounded, Fits32, ChoiceReady, lastCounts, widest
 use Rattle.runs.specs.Limits.{scale}
 use Rattle.runs.proofs.Contradictions.{true-false}
 use Rattle.zones.proofs.ranges.Ranges.{lowered-narrow, chosen-narrow, last-here}
-use Rattle.slots.specs.Slots.{longest, spare, mAt, pAt, pairsTo, flat, headOf, slotOf, slotPair, counted, squareTo, zoneOf}
+use Rattle.slots.specs.declared.slot.Origin.{Origin}
+use Rattle.slots.specs.Slots.{fields, longest, spare, mAt, pAt, pairsTo, flat, headOf, slotOf, slotPair, counted, squareTo, zoneOf}
 use Rattle.slots.specs.Containing.{lessAt, withinSlots, loweredSlots, largestSlot, ComparableSlots}
 use Rattle.slots.proofs.slot.Codec.{counted-in, counted-out, counted-all, counted-below, pairs-in, pairs-out, pairs-length, head-size}
 use Rattle.slots.proofs.slot.Codec.{flat-length, flat-append, square-in, square-out}
@@ -179,37 +180,53 @@ module _ (n k : ℕ) {t : ℕ} (e : t ≡ counted n k) where
   pub few : n ≤ 9 → k < n * 9 → k % 9 < n → (t < n * n) × (t < 81)
   few h hk c = (omega (arith, counted-below n h k hk c), omega (arith, counted-below n h k hk c, mul-le-mul h h))
 
--- ---- `encode`: the slot of the first k places, and zeros
-pub encoded : ℕ → ℕ → List Pair → ℕ → List ℤ
-encoded n l z k = (headOf l ++ flat (pairsTo n k z)) ++ replicate (longest - mAt (counted n k)) (pos 0)
+-- ---- `headed`
+pub headed-all : (l : ℕ) (o : Origin) → l < 256 → SFits w32 (o .parent) → SFits w32 (o .edge)
+    → set (set (set (replicate longest (pos 0)) 0 (toZ w32 l)) 1 (toZ w32 (ofZ w32 (o .parent)))) 2 (toZ w32 (ofZ w32 (o .edge)))
+    ≡ headOf l o ++ replicate (spare 0) (pos 0)
+unfolding headOf
+headed-all l o h p q = rw (toZ-pos w32 l (omega arith), toZ-ofZ w32 (o .parent) p, toZ-ofZ w32 (o .edge) q)
 
-module _ (n l : ℕ) (z : List Pair) where
-  pub encode-start : l < 256 → set (replicate longest (pos 0)) 0 (toZ w32 l) ≡ encoded n l z 0
-  unfolding encoded pairsTo flat counted headOf
-  encode-start h = rw (toZ-pos w32 l (omega arith))
+-- ---- `encode`: the numbers hd, the pairs of the first k places, and zeros
+pub encoded : ℕ → List ℤ → List Pair → ℕ → List ℤ
+encoded n hd z k = (hd ++ flat (pairsTo n k z)) ++ replicate (longest - mAt (counted n k)) (pos 0)
 
-  pub encode-in : (k : ℕ) {t : ℕ} {slot : List ℤ} → k % 9 < n → t < 81 → t ≡ counted n k → slot ≡ encoded n l z k
-      → set (set slot (mAt t) (placeOf z k .m)) (pAt t) (pos (placeOf z k .p)) ≡ encoded n l z (k + 1)
+-- the numbers before the pairs, of the slot that it begins with
+abbrev pub headIn : List ℤ → List ℤ
+headIn slot = take fields slot
+
+pub head-in : (l : ℕ) (o : Origin) {slot : List ℤ} → slot ≡ headOf l o ++ replicate (spare 0) (pos 0) → headIn slot ≡ headOf l o
+head-in l o e = rw e (take-at (headOf l o) (replicate (spare 0) (pos 0)) fields (head-size l o))
+
+pub encode-start : (n l : ℕ) (o : Origin) (z : List Pair) {slot : List ℤ} → slot ≡ headOf l o ++ replicate (spare 0) (pos 0)
+    → slot ≡ encoded n (headIn slot) z 0
+unfolding encoded pairsTo flat counted
+encode-start n l o z e = rw (head-in l o e, append-nil (headOf l o)) e
+
+module _ (n : ℕ) (hd : List ℤ) (hd≡ : length hd ≡ fields) (z : List Pair) where
+  pub encode-in : (k : ℕ) {t : ℕ} {slot : List ℤ} → k % 9 < n → t < 81 → t ≡ counted n k → slot ≡ encoded n hd z k
+      → set (set slot (mAt t) (placeOf z k .m)) (pAt t) (pos (placeOf z k .p)) ≡ encoded n hd z (k + 1)
   unfolding encoded flat
   encode-in k {t} {slot} c h e f =
       let q = placeOf z k in
-      let front : List ℤ = headOf l ++ flat (pairsTo n k z) in
+      let front : List ℤ = hd ++ flat (pairsTo n k z) in
       let zeros : List ℤ = replicate (longest - mAt (counted n (suc k))) (pos 0) in
       let more : longest - mAt (counted n k) ≡ suc (suc (longest - mAt (counted n (suc k)))) = omega (arith, counted-in n k c) in
       let one : length front ≡ mAt t =
-      length-append (headOf l) (flat (pairsTo n k z)) ∙ omega (arith, head-size l, flat-length (pairsTo n k z), pairs-length n z k) in
+      length-append hd (flat (pairsTo n k z)) ∙ omega (arith, hd≡, flat-length (pairsTo n k z), pairs-length n z k) in
       let two : length (front ++ (q .m ∷ [])) ≡ pAt t = length-append front (q .m ∷ []) ∙ omega (arith, one) in
       rw (add-one k, f, more, set-at front (pos 0) (pos 0 ∷ zeros) (q .m) (mAt t) one)
       (rw (← append-snoc front (q .m) (pos 0 ∷ zeros), set-at (front ++ (q .m ∷ [])) (pos 0) zeros (pos (q .p)) (pAt t) two)
       (rw (pairs-in n z k c) (simp (flat-append, append-assoc))))
 
-  pub encode-out : (k : ℕ) {slot : List ℤ} → n ≤ k % 9 → slot ≡ encoded n l z k → slot ≡ encoded n l z (k + 1)
+  pub encode-out : (k : ℕ) {slot : List ℤ} → n ≤ k % 9 → slot ≡ encoded n hd z k → slot ≡ encoded n hd z (k + 1)
   unfolding encoded
   encode-out k c f = rw (add-one k, pairs-out n z k c, counted-out n k c) f
 
-  pub encode-all : (k : ℕ) {slot : List ℤ} → n ≤ 9 → k ≡ n * 9 → slot ≡ encoded n l z k → slot ≡ slotOf n (headOf l) z ++ replicate (spare n) (pos 0)
-  unfolding encoded slotOf
-  encode-all k h e f = f ∙ rw (e, counted-all n h)
+pub encode-all : (n l : ℕ) (o : Origin) (z : List Pair) (k : ℕ) {slot₀ slot : List ℤ} → slot₀ ≡ headOf l o ++ replicate (spare 0) (pos 0) → n ≤ 9
+    → k ≡ n * 9 → slot ≡ encoded n (headIn slot₀) z k → slot ≡ slotOf n (headOf l o) z ++ replicate (spare n) (pos 0)
+unfolding encoded slotOf
+encode-all n l o z k g h e f = f ∙ rw (head-in l o g, e, counted-all n h)
 
 -- ---- `decode`
 module _ (n : ℕ) (s : List ℤ) (k : ℕ) where

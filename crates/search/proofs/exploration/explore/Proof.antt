@@ -31,7 +31,7 @@ few c = few-clocks _ (c .counts-of .ensures) (c .before .before .pre)
 -- ---- with the first zone
 module _ (c : tie.After-first) where
   abbrev room : tie.After-capacity-of
-  room = c .before .before .before
+  room = c .before .before .before .before
 
   abbrev entry : tie.Start
   entry = room .before .before .before .before
@@ -45,16 +45,16 @@ module _ (c : tie.After-first) where
       ∙ ap (λ (n : ℕ). capacityOf n (length (entry .args .store .now))) (size≡ _ (room .before .before .counts-of .ensures))
 
   -- what arrives is the definition's first zone
-  arrived : arrivalOf automaton (c .before .before .start .result) (setOf (replicate 9 false)) (c .first .result)
+  arrived : arrivalOf automaton (c .before .before .before .start .result) (setOf (replicate 9 false)) (c .first .result)
       ≡ enterOf (clocks automaton) (invariantOf automaton (start automaton)) firstWork
   arrived =
-      (λ i. enterOf (clocks automaton) (invariantOf automaton (c .before .before .start .ensures i))
+      (λ i. enterOf (clocks automaton) (invariantOf automaton (c .before .before .before .start .ensures i))
       ((reset-none (suc (clocks automaton)) (setOf (replicate 9 false)) none-reset (c .first .result) ∙ c .first .ensures) i))
 
 arrive-requires : tie.Need-arrive-requires
 arrive-requires c κs =
     let a = entry c .pre in (
-      (a, rw (c .before .before .start .ensures) (a .start<), blank-going a _ (capacity≡ c)),
+      (a, rw (c .before .before .before .start .ensures) (a .start<), blank-going a _ (capacity≡ c)),
       (
         rw (c .first .ensures) (first-sized (10 * counts) _ (n≤ _ a), first-settled _ (n≤ _ a)),
         subst (SoundResult _) (sym (arrived c)) (start-sound _ a),
@@ -66,8 +66,8 @@ offered : (c : tie.After-arrive) →
     Begun (automaton (c .before)) (room (c .before) .capacity-of .result) (entry (c .before) .args .store .now)
     (c .arrive .last .1 .0) (c .arrive .result)
 offered c =
-    begun (entry (c .before) .pre) _ (capacity≡ (c .before)) refl
-    (gives-of _ _ _ _ _ _ (c .before .before .before .start .ensures) (arrived (c .before)) (c .arrive .ensures))
+    begun (entry (c .before) .pre) _ (capacity≡ (c .before)) refl (c .before .before .none .ensures)
+    (gives-of _ _ _ _ _ _ (c .before .before .before .before .start .ensures) (arrived (c .before)) (c .arrive .ensures))
 
 returns : tie.Need-returns
 returns c = offered (c .before .before .before) .stops (sym (c .before .has-ended .ensures) ∙ c .if1 .taken)
@@ -90,6 +90,7 @@ explore-spec =
     (λ c κs. c .before .pre)
     (λ c. omega (arith, few (c .before)))
     (λ c κs. omega (arith, few (c .before)))
+    (λ c κs. search needs)
     (λ c κs. search needs)
     (λ c κs. search needs)
     arrive-requires

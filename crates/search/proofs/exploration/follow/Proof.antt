@@ -62,7 +62,7 @@ returns : tie.Need-returns
 returns c =
     let guard = c .before .before .before in
     let pre = start guard .pre in
-    follows-none _ (pre .0 .0) _ (pre .0 .1) _ (pre .1 .1) (pre .1 .2) (met guard) (c .before .before .if1 .taken) _ _ _
+    follows-none _ (pre .0 .0) _ (pre .0 .1) _ (pre .1 .1) (pre .1 .2) (met guard) (c .before .before .if1 .taken) _ _ _ _
 
 arrive-requires : tie.Need-arrive-requires
 arrive-requires c κs =

@@ -23,7 +23,7 @@ module _ (c : tie.After-counts-of) where
   few : c .counts-of .result .clocks ≤ 8
   few = few-clocks _ (c .counts-of .ensures) (start .pre .0 .0)
 
-  entered : Entered (start .args .automaton .now) (start .args .l) (start .args .w)
+  entered : Entered (start .args .automaton .now) (start .args .l) (start .args .origin) (start .args .w)
       (start .args .capacity) (start .args .turn) (start .args .store .now) (c .counts-of .result .clocks + 1)
   entered = record {
     accepted = start .pre .0 .0;

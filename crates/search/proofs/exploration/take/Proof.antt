@@ -103,9 +103,12 @@ expand-requires : tie.Need-expand-requires Inv-loop μ-loop
 expand-requires c κs =
     let turn = c .before .before .before .before .before in
     let pre = entry turn .pre in (
-      pre .0,
-      onward (pre .0) (on (head turn)) (turn .if1 .taken) (pre .1 .long),
-      sound-zone (pre .0) (on (head turn)) (turn .if1 .taken) (place≡ turn) (rw (head turn .loop .inv .0) at (c .before .decode .ensures)),
+      (
+        pre .0,
+        onward (pre .0) (on (head turn)) (turn .if1 .taken) (pre .1 .long) (pre .1 .few),
+        sound-zone (pre .0) (on (head turn)) (turn .if1 .taken) (place≡ turn) (rw (head turn .loop .inv .0) at (c .before .decode .ensures)),
+      ),
+      omega (arith, below turn, pre .1 .few),
     )
 
 -- ---- after the expansion
