@@ -8,8 +8,8 @@ use Rattle.runs.specs.Runs.{System}
 use Rattle.reachability.specs.Search.{Result, zone, fracOf, Zones, Came, first-zone, by-edge, Node, Nth, State, reached, going, ended, first-node}
 use Rattle.reachability.specs.Search.{child, offer, nothing, begin, search}
 use Rattle.reachability.specs.Laws.{Stays}
-use Rattle.reachability.specs.Branches.{Branch, BranchOf, Branches, Arrived}
-use Rattle.reachability.proofs.Lists.{Grown, grown-nth, nth-lt, nth-place}
+use Rattle.reachability.specs.Branches.{Branch, BranchOf, Branches, Arrived, pathOf}
+use Rattle.reachability.proofs.Lists.{Grown, grown-nth, nth-lt, nth-tail, nth-place}
 use Rattle.reachability.proofs.Judged.{offer-kept, offer-frac, offer-met}
 use Rattle.reachability.proofs.Keeps.{Steady, search-keeps}
 
@@ -57,6 +57,12 @@ module _ {Z F : Type 0} (A : System) (O : Zones Z F) (B : F → Type 0) where
     made = e;
     fine = b;
   }
+
+  -- the edges that lead to a node are its path
+  pub path-is : (ks : List (Node Z)) (j : ℕ) (k : Node Z) (c : Came) → Branch A O B ks j k c → pathOf ks c ≡ k .path
+  unfolding pathOf
+  path-is ks j k first-zone b = sym (b .path)
+  path-is ks j k (by-edge f i) b = rw (pathOf, nth-tail ks f (b .parent) (b .kept)) (sym (b .path))
 
   -- ---- of all, and of the one that met the target
   module _ (stay : Stays O B) (cap : ℕ) where

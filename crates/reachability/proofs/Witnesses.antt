@@ -14,7 +14,7 @@ use Rattle.reachability.specs.Witnesses.{Witnesses, backTo, lastState, r
 use Rattle.reachability.proofs.Lists.{All, nth-tail}
 use Rattle.reachability.proofs.Robust.{exact-there}
 use Rattle.reachability.proofs.Same.{Tight, all-tight}
-use Rattle.reachability.proofs.Branches.{branches, arrived}
+use Rattle.reachability.proofs.Branches.{path-is, branches, arrived}
 
 module _ {Z F : Type 0} (A : System) (O : Zones Z F) (M : Meaning A Z F) (s e : ℕ) (L : Laws A O M s e) (W : Witnesses A Z)
     (H : WitnessLaws A O M W s e) (ks : List (Node Z)) (B : Branches A O (λ f. M .Exact f s e) ks)
@@ -98,12 +98,6 @@ module _ {Z F : Type 0} (A : System) (O : Zones Z F) (M : Meaning A Z F) (s e : 
   nothing-more : (l : ℕ) (v : W .S) → l ≡ A .target → Follows l v [] []
   nothing-more l v h = record { turns = λ t. alone t; steps = tt; takes = refl; there = h }
 
-  path-is : (j : ℕ) (k : Node Z) (c : Came) → Branch A O X ks j k c → pathOf ks c ≡ k .path
-  unfolding pathOf
-  path-is j k first-zone b = sym (b .path)
-  path-is j k (by-edge f i) b =
-      rw (pathOf, nth-tail ks f (b .parent) (b .kept)) (sym (b .path))
-
   last-in : (j : ℕ) (k : Node Z) (c : Came) → Branch A O X ks j k c → M .In (k .zone) s e (W .val (lastState W ks c))
   unfolding lastState
   last-in j k first-zone b =
@@ -124,7 +118,7 @@ module _ {Z F : Type 0} (A : System) (O : Zones Z F) (M : Meaning A Z F) (s e : 
   whole c a =
       let k = a .node in
       let b = subst (Branch A O X ks (length ks) k) (a .came) (a .branch) in
-      let p : pathOf ks c ≡ k .path = path-is (length ks) k c b in
+      let p : pathOf ks c ≡ k .path = path-is A O X ks (length ks) k c b in
       let h = back-run (length (pathOf ks c)) k (lastState W ks c) [] [] (length ks) c b (ap length (sym p))
       (last-in (length ks) k c b) (nothing-more (k .at) (lastState W ks c) (a .there)) in
       subst (λ x. RunAlong A s e x (runTo W ks c)) (append-nil (k .path) ∙ sym p) h

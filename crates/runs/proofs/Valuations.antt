@@ -8,7 +8,7 @@ use lib.ListN.{length, getD, replicate, getD-replicate}
 use lib.Seq.{ext-getD}
 use native.Mathlib.Omega.{arith}
 use native.Mathlib.Nat.{add-zero, add-assoc, not-suc-le-zero}
-use Rattle.runs.specs.Timed.{Valuation, ticks, later, zeroed}
+use Rattle.runs.specs.Timed.{Valuation, ticks, listed, later, zeroed}
 
 -- ---- waits add up
 pub later-none : (v : Valuation) → later 0 v ≡ v
@@ -47,10 +47,6 @@ zeroed-at R k (y ∷ v) (suc x) h =
     zeroed-at R (suc k) v x (omega arith) ∙ ap (λ (j : ℕ). cond (R j) 0 (getD v x 0)) e
 
 -- ---- a valuation from its clocks, and that they say which it is
-pub listed : ℕ → (ℕ → ℕ) → Valuation
-listed zero u = []
-listed (suc c) u = u 1 ∷ listed c (λ x. u (suc x))
-
 pub listed-length : (c : ℕ) (u : ℕ → ℕ) → length (listed c u) ≡ c
 unfolding listed
 listed-length zero u = refl

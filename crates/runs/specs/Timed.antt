@@ -26,6 +26,11 @@ abbrev pub ticks : Valuation → ℕ → ℕ
 ticks v zero = 0
 ticks v (suc x) = getD v x 0
 
+-- the valuation of c clocks in which clock x has u x ticks
+unfoldable pub listed : ℕ → (ℕ → ℕ) → Valuation
+listed zero u = []
+listed (suc c) u = u 1 ∷ listed c (λ x. u (suc x))
+
 -- "A wait adds the same whole number of ticks, 0 or more, to all clocks"
 unfoldable pub later : ℕ → Valuation → Valuation
 later t [] = []

@@ -14,7 +14,7 @@ use Rattle.runs.specs.Limits.{scale}
 use Rattle.zones.specs.Successors.{enterOf, followOf}
 use Rattle.zones.specs.Zones.{resetOf}
 use Rattle.search.specs.declared.outcome.Turn.{Turn}
-use Rattle.search.specs.Outcomes.{outcomeOf}
+use Rattle.search.specs.Outcomes.{outcomeOf, Honest}
 use Rattle.automata.specs.Automata.{clocks, locations, to, guardOf, invariantOf, resetsOf}
 use Rattle.search.specs.Instance.{ZoneNode, ZoneState, workOf, resultOf, zonesOf}
 use Rattle.reachability.specs.Search.{Came, going, Nth, offer}
@@ -58,6 +58,7 @@ pub record Shown (n : ℕ) (s₀ : List ℤ) (q : ZoneState) (s : List ℤ) (t :
   pub store : s ≡ storeOf n (q .kept) s₀
   pub fraction : t .fraction ≡ q .frac
   pub outcome : outcomeOf (t .outcome) ≡ q .outcome
+  pub honest : Honest (t .outcome)
 
 -- a sound state that goes on
 pub record Live (b : List ℕ) (slots : ℕ) (s₀ : List ℤ) (q : ZoneState) (s : List ℤ) (t : Turn) : Type 0 where

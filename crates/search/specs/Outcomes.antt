@@ -1,9 +1,11 @@
 -- The outcome of a search, as the code has it: the definition's for each of its cases.
 use mathlib.Core.Bool.{Bool, true, false}
+use mathlib.Core.Path.{_≡_}
 use lib.IntN.{pos, negsuc}
 use Rattle.reachability.specs.Search as definition
 use Rattle.slots.specs.declared.slot.Origin.{Origin}
 use Rattle.zones.specs.Integers.{up}
+use Rattle.search.specs.Store.{originOf}
 use Rattle.search.specs.declared.outcome.Outcome.{Outcome}
 use Rattle.search.specs.declared.outcome.Outcome.the-variants.{Going, Reached, Refused}
 
@@ -15,6 +17,12 @@ unfoldable pub outcomeOf : Outcome → definition.Outcome
 outcomeOf Going = definition.going
 outcomeOf (Reached o) = definition.ended (definition.reached (cameOf o))
 outcomeOf (Refused k) = definition.ended (definition.refused k)
+
+-- the origin told is one that a slot tells
+abbrev pub Honest : Outcome → Type 0
+Honest Going = Unit {0}
+Honest (Reached o) = originOf (cameOf o) ≡ o
+Honest (Refused k) = Unit {0}
 
 -- whether a search has stopped
 unfoldable pub hasEnded : definition.Outcome → Bool

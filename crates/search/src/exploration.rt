@@ -291,7 +291,7 @@ fn capacity_of(numbers: usize, size: usize) -> usize
 }
 
 // The whole search of an accepted automaton.
-pub(crate) fn explore(automaton: &[u8], store: &mut [i32]) -> Turn
+pub fn explore(automaton: &[u8], store: &mut [i32]) -> Turn
     requires { ⌜ Accepted (now automaton) ⌝ }
     ensures { λ r. ⌜ Shown (suc (clocks (now (automaton .entry)))) (now (store .entry))
         (stateOf (now (automaton .entry)) (length (now (store .entry)))) (now (store .exit)) r ⌝ }

@@ -1,7 +1,7 @@
 // The search for the verdict of an automaton.
-mod exploration;
-mod outcome;
-mod successor;
+pub mod exploration;
+pub mod outcome;
+pub mod successor;
 pub mod verdict;
 
 use automata::refusal;
@@ -31,7 +31,7 @@ fn holding(f: Fraction) -> Holding
 }
 
 // The search's answer, from where it stopped.
-fn answer(t: Turn) -> Answer
+pub fn answer(t: Turn) -> Answer
     requires { ⌜ t .count ≤ mostSlots ⌝ }
     ensures { λ r. ⌜ r ≡ answerOf (outcomeOf (t .outcome)) (t .fraction) (t .count) ⌝ }
 {

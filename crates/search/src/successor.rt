@@ -63,7 +63,7 @@ fn meet(automaton: &[u8], at: usize, c: usize, w: Work, settled: bool) -> Met
 }
 
 // The limits at `at` are met, and the zone is reduced. A settled zone is its own reduction: every middle index is left out.
-pub(crate) fn narrow(automaton: &[u8], at: usize, c: usize, w: Work, settled: bool) -> Reduced
+pub fn narrow(automaton: &[u8], at: usize, c: usize, w: Work, settled: bool) -> Reduced
     requires { ⌜ Accepted (now automaton) ⌝ }
     requires { ⌜ (c ≤ 8) × (at + 8 * c ≤ length (now automaton)) ⌝ }
     requires { ⌜ OnScale scale c (limitsAt (now automaton) at) × Sized stepCounts (suc c) w ⌝ }

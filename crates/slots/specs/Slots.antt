@@ -3,11 +3,12 @@
 -- Here `n` is the number of indices, clocks + 1; a place k of a zone's square is row k / 9 and column k % 9.
 use Prim.Native.Nat.{ℕ, zero, suc, _+_, _-_, _*_, _%_, _<_}
 use mathlib.Core.Path.{_≡_}
-use mathlib.Core.Bool.{cond}
+use mathlib.Core.Bool.{Bool, cond}
 use mathlib.Core.List.{List, [], _∷_, _++_}
 use lib.Dec.{ltb}
 use lib.ListN.{getD, set, replicate}
 use lib.IntN.{ℤ, pos, negsuc}
+use lib.Signed.{nonNeg}
 use Rattle.zones.specs.declared.pair.Pair.{Pair}
 use Rattle.zones.specs.Containment.{placeOf}
 use Rattle.zones.specs.Integers.{up}
@@ -56,6 +57,9 @@ noOrigin = record { parent = negsuc 0; edge = negsuc 0 }
 
 abbrev pub originAlong : ℕ → ℕ → Origin
 originAlong parent edge = record { parent = pos parent; edge = pos edge }
+
+abbrev pub isAlong : Origin → Bool
+isAlong o = nonNeg (o .parent)
 
 -- the numbers before the pairs, of a zone of location l
 unfoldable pub headOf : ℕ → Origin → List ℤ

@@ -6,9 +6,10 @@ ghost use Prim.Native.Nat.{ℕ, _+_, _*_, _≤_, _<_};
 ghost use lib.ListN.{length, getD, take, drop, set, replicate};
 ghost use lib.IntN.{pos};
 ghost use lib.Signed.{_≤ℤ_};
+ghost use Rattle.zones.specs.Integers.{up};
 ghost use Rattle.zones.specs.Ranges.{AllBounded, Bounded, lastCounts};
 ghost use Rattle.runs.specs.Limits.{scale};
-ghost use Rattle.slots.specs.Slots.{slotLength, spare, mAt, pAt, headOf, slotOf, noOrigin, originAlong, slotOrigin, slotPair, zoneOf};
+ghost use Rattle.slots.specs.Slots.{slotLength, spare, mAt, pAt, headOf, slotOf, noOrigin, originAlong, isAlong, slotOrigin, slotPair, zoneOf};
 
 // The numbers before the pairs: the location, and the origin.
 const FIELDS: usize = 3;
@@ -47,6 +48,29 @@ impl Origin {
             parent: parent as i32,
             edge: edge as i32,
         }
+    }
+
+    // Whether there is a slot that it came from.
+    pub fn is_along(self) -> bool
+        ensures { λ r. ⌜ r ≡ isAlong self ⌝ }
+    {
+        let parent = self.parent;
+        0 <= parent
+    }
+
+    // That slot, and the edge.
+    pub fn slot(self) -> usize
+        requires { ⌜ pos 0 ≤ℤ self .parent ⌝ }
+        ensures { λ r. ⌜ r ≡ up (self .parent) ⌝ }
+    {
+        self.parent as usize
+    }
+
+    pub fn edge(self) -> usize
+        requires { ⌜ pos 0 ≤ℤ self .edge ⌝ }
+        ensures { λ r. ⌜ r ≡ up (self .edge) ⌝ }
+    {
+        self.edge as usize
     }
 }
 

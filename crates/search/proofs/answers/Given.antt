@@ -35,7 +35,7 @@ use Rattle.search.proofs.exploration.Stores.{capacity-small, capacity-m
 use Rattle.search.proofs.exploration.Taking.{steady-sound}
 
 -- ---- the state in which a search ends
-final-sound : (b : List ℕ) → Accepted b → (c : ℕ) → SoundState b c (searchOf b c)
+pub final-sound : (b : List ℕ) → Accepted b → (c : ℕ) → SoundState b c (searchOf b c)
 final-sound b a c = search-keeps (systemOf b) (zonesOf b) c (steady-sound b a c) (begin-sound b a c)
 
 -- ---- how it ends: it goes on to the end, or reaches the target, or is refused by 9 or by 10

@@ -48,7 +48,7 @@ module _ {b : List ℕ} (a : Accepted b) (s : List ℤ) {capacity : ℕ} (es : c
   blank-live : Live b capacity s blank s first-turn
   unfolding storeOf slotsOf outcomeOf
   blank-live = record {
-    shown = record { number = refl; store = refl; fraction = refl; outcome = refl };
+    shown = record { number = refl; store = refl; fraction = refl; outcome = refl; honest = tt };
     sound = nothing-sound b a capacity;
     goes = refl;
   }

@@ -20,7 +20,7 @@ use Rattle.runs.specs.Limits.{scale}
 use Rattle.search.specs.declared.outcome.Outcome.{Outcome}
 use Rattle.search.specs.declared.outcome.Outcome.the-variants.{Going, Reached, Refused}
 use Rattle.search.specs.declared.outcome.Turn.{Turn}
-use Rattle.search.specs.Outcomes.{cameOf, outcomeOf}
+use Rattle.search.specs.Outcomes.{cameOf, outcomeOf, Honest}
 use Rattle.automata.specs.Accepted.{Accepted}
 use Rattle.automata.specs.Automata.{clocks, locations, target}
 use Rattle.search.specs.Exploring.{FirstHit, SoundNode, SoundState, Shown, Live, Continues, Led, nodeAt}
@@ -39,7 +39,7 @@ use Rattle.slots.proofs.slot.Codec.{largest-slot}
 use Rattle.search.proofs.exploration.Stores.{slotAs, SlotAt, slot-at, store-length, store-more, hit-none, hit-first, slot-fits, lent-part}
 
 -- the outcome that tells the origin is the definition's
-came-back : (c : Came) → cameOf (originOf c) ≡ c
+pub came-back : (c : Came) → cameOf (originOf c) ≡ c
 unfolding cameOf originOf
 came-back first-zone = refl
 came-back (by-edge j i) = refl
@@ -47,6 +47,9 @@ came-back (by-edge j i) = refl
 met-by : {o : Origin} {c : Came} → originOf c ≡ o → outcomeOf (Reached o) ≡ ended (reached c)
 unfolding outcomeOf
 met-by {c = c} e = ap (λ x. ended (reached x)) (ap cameOf (sym e) ∙ came-back c)
+
+well-told : {o : Origin} (c : Came) → originOf c ≡ o → originOf (cameOf o) ≡ o
+well-told c e = ap originOf (ap cameOf (sym e) ∙ came-back c) ∙ e
 
 -- the element at a place that is there
 pub record At {X : Type 0} (xs : List X) (j : ℕ) : Type 0 where
@@ -131,9 +134,9 @@ module _ (b : List ℕ) (a : Accepted b) where
     shows {s′} {r} was e = subst (λ (x : ZoneState). Shown n s₀ x s′ r) (sym (computes (systemOf b) (zonesOf b) was)) e
 
     -- a state with the same zones
-    unmoved : {x : Outcome} {y : defined.Outcome} {g f : Fraction} → outcomeOf x ≡ y → g ≡ f →
+    unmoved : {x : Outcome} {y : defined.Outcome} {g f : Fraction} → outcomeOf x ≡ y → Honest x → g ≡ f →
         Shown n s₀ (record { kept = q .kept; frac = f; outcome = y }) s (record { count = turn .count; fraction = g; outcome = x })
-    unmoved e f = record { number = d .shown .number; store = d .shown .store; fraction = f; outcome = e }
+    unmoved e h f = record { number = d .shown .number; store = d .shown .store; fraction = f; outcome = e; honest = h }
 
     -- it is inside a kept one: the oldest such counts
     judged-inside : j < turn .count → {at : ℕ} → at ≡ j * slotLength n → {g : Fraction} →
@@ -144,7 +147,7 @@ module _ (b : List ℕ) (a : Accepted b) where
         let m = nth-at (q .kept) j (omega (arith, d .shown .number)) in
         let t = stored-slot (d .shown) j (m .node) (m .nth) in
         shows (was-inside (m .node) off (hit-first b n≤ l o (w .zone) (q .kept) s₀ rest j first (m .node) (m .nth)))
-        (unmoved refl (g ∙ rw (part s j at (m .node) e t)
+        (unmoved refl tt (g ∙ rw (part s j at (m .node) e t)
         (lowered-slots n (headOf l o) (head-size l o) (w .zone) rest _
         (head-size (m .node .at) (originOf (m .node .came))) _ (t .rest) (w .fraction) n≤)))
 
@@ -156,7 +159,7 @@ module _ (b : List ℕ) (a : Accepted b) where
       judged-big : counts < largestCount n (w .zone) →
           Shown n s₀ after s (record { count = turn .count; fraction = w .fraction; outcome = Refused 9 })
       unfolding outcomeOf overcounted
-      judged-big g = shows (was-big off alone (lt-ltb counts (largestCount n (w .zone)) g)) (unmoved refl refl)
+      judged-big g = shows (was-big off alone (lt-ltb counts (largestCount n (w .zone)) g)) (unmoved refl tt refl)
 
       module _ (small : largestCount n (w .zone) ≤ counts) where
         counted : overcounted b (w .zone) ≡ false
@@ -165,7 +168,7 @@ module _ (b : List ℕ) (a : Accepted b) where
 
         judged-full : capacity ≤ turn .count → Shown n s₀ after s (record { count = turn .count; fraction = w .fraction; outcome = Refused 10 })
         unfolding outcomeOf
-        judged-full r = shows (was-full off alone counted (omega (arith, d .shown .number))) (unmoved refl refl)
+        judged-full r = shows (was-full off alone counted (omega (arith, d .shown .number))) (unmoved refl tt refl)
 
         judged-kept : turn .count < capacity → {at : ℕ} {s′ : List ℤ} → at ≡ turn .count * slotLength n →
             s′ ≡ take at s ++ (take (slotLength n) (slotOf n (headOf l o) (w .zone) ++ rest) ++ drop (at + slotLength n) s) →
@@ -180,6 +183,7 @@ module _ (b : List ℕ) (a : Accepted b) where
               store = f ∙ (λ i. take at (d .shown .store i) ++ ((t ∙ told) i ++ drop (at + slotLength n) (d .shown .store i))) ∙ m;
               fraction = refl;
               outcome = refl;
+              honest = tt;
             })
 
 -- ---- the same, as the code has it: w has entered l, which is not the target, and `size` is the number of indices
@@ -290,7 +294,7 @@ module _ (b : List ℕ) (capacity : ℕ) (s : List ℤ) (turn : Turn) (l : ℕ) 
       Continues b capacity s turn offers s (record { count = turn .count; fraction = r .work .fraction; outcome = Going })
   unfolding resultOf offer outcomeOf
   gives-empty e = record {
-    shows = λ s₀ q d. rw e (record { number = d .shown .number; store = d .shown .store; fraction = refl; outcome = refl });
+    shows = λ s₀ q d. rw e (record { number = d .shown .number; store = d .shown .store; fraction = refl; outcome = refl; honest = tt });
   }
 
   pub gives-target : r .empty ≡ false → l ≡ target b →
@@ -301,7 +305,7 @@ module _ (b : List ℕ) (capacity : ℕ) (s : List ℤ) (turn : Turn) (l : ℕ) 
         λ s₀ q d. rw e
         (subst (λ (x : ZoneState). Shown (suc (clocks b)) s₀ x s (record { count = turn .count; fraction = r .work .fraction; outcome = Reached o }))
         (sym (computes (systemOf b) (zonesOf b) (was-target (eq-eqb l (target b) g))))
-        (record { number = d .shown .number; store = d .shown .store; fraction = refl; outcome = met-by (p .told) }));
+        (record { number = d .shown .number; store = d .shown .store; fraction = refl; outcome = met-by (p .told); honest = well-told (p .came) (p .told) }));
   }
 
   pub gives-judged : r .empty ≡ false → {s′ : List ℤ} {t : Turn} →

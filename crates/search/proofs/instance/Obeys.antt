@@ -29,10 +29,10 @@ use Rattle.automata.specs.Automata.{clocks, locations, edges, start, to, invari
 use Rattle.search.specs.Instance.{workOf, resultOf, entering, following, zonesOf, Inside, meaningOf}
 use Rattle.reachability.specs.Laws.{Falls, Stays, OneSided, ExactLaws, FromStart, FromZone, Laws}
 use Rattle.reachability.specs.Search.{empty, zone, fracOf}
-use Rattle.runs.specs.Timed.{Valuation, ticks, later, zeroed}
+use Rattle.runs.specs.Timed.{Valuation, ticks, listed, later, zeroed}
 use Rattle.automata.specs.Semantics.{systemOf}
 use Rattle.automata.proofs.fields.Resets.{reset-zero}
-use Rattle.runs.proofs.Valuations.{later-none, later-more, later-length, zeroed-length, listed, listed-length, ticks-listed, same-ticks, origin-ticks}
+use Rattle.runs.proofs.Valuations.{later-none, later-more, later-length, zeroed-length, listed-length, ticks-listed, same-ticks, origin-ticks}
 use Rattle.search.proofs.instance.Results.{WasZone, result-fraction, was-zone, was-empty}
 use Rattle.search.proofs.instance.Valuations.{ticks-wait, ticks-put}
 
@@ -143,6 +143,13 @@ module _ (b : List ℕ) (a : Accepted b) where
       enters = waits s e t I (zeroed R 1 v) (zeroed-length R 1 v ∙ l) h k;
     }
 
+    -- a state of the successor comes from one of the zone
+    pub came-from : (s e : ℕ) → 0 < s → (y z : List Pair) (f g : Fraction) → Shaped c (workOf y noLimit) → Closed (suc c) (squareOf s e (workOf y noLimit)) →
+        following b i y f ≡ zone z g → Below s e g → (v : ℕ → ℕ) → Has s e c (workOf z noLimit) v →
+        (u : ℕ → ℕ) × Has s e c (workOf y f) u × Follows s e c G R I u v
+    unfolding following
+    came-from s e h y z f g p k j q v n = step-from (follows-exactly s e h y f p k) j q v n
+
   -- ---- the fraction
   falls : (s e : ℕ) → Falls (zonesOf b) (λ f. (1 ≤ s) × Below s e f)
   unfolding entering following
@@ -225,10 +232,17 @@ module _ (b : List ℕ) (a : Accepted b) where
         same = same;
       }
 
-  -- a state of a successor: a state of the zone, the jump and a wait
-  from-zone : (s e i : ℕ) (y : List Pair) (f : Fraction) (u : ℕ → ℕ) (v : Valuation) → length v ≡ c → Has s e c (workOf y f) u →
-      Follows s e c (guardOf b i) (resetsOf b i) (invariantOf b (to b i)) u (ticks v) → FromZone (systemOf b) (zonesOf b) (meaningOf b) s e i y v
-  from-zone s e i y f u v l h n =
+  -- a state of a successor: a state of the zone, the jump and a wait of t
+  pub record Jumped (s e i : ℕ) (y : List Pair) (u : ℕ → ℕ) (t : ℕ) (v : Valuation) : Type 0 where
+    pub inside : Inside b y s e (listed c u)
+    pub may : Within s e c (guardOf b i) (ticks (listed c u))
+    pub lands : Within s e c (invariantOf b (to b i)) (ticks (zeroed (resetsOf b i) 1 (listed c u)))
+    pub stays : Within s e c (invariantOf b (to b i)) (ticks (later t (zeroed (resetsOf b i) 1 (listed c u))))
+    pub same : later t (zeroed (resetsOf b i) 1 (listed c u)) ≡ v
+
+  pub jumped : (s e i : ℕ) (y : List Pair) (f : Fraction) (u : ℕ → ℕ) (v : Valuation) → length v ≡ c → Has s e c (workOf y f) u →
+      (n : Follows s e c (guardOf b i) (resetsOf b i) (invariantOf b (to b i)) u (ticks v)) → Jumped s e i y u (n .enters .wait) v
+  jumped s e i y f u v l h n =
       let R = resetsOf b i in
       let I = invariantOf b (to b i) in
       let o = listed c u in
@@ -238,13 +252,25 @@ module _ (b : List ℕ) (a : Accepted b) where
       λ x hx. ticks-put c o (listed-length c u) R x hx ∙ ticks-listed c u (h .start) (home R x) (home-below R (suc c) x hx) ∙ sym (n .put x hx) in
       let same = later-is t q v (n .after) (zeroed-length R 1 o ∙ listed-length c u) l after (n .enters .waited) in
       record {
-        old = o;
-        time = t;
         inside = listed-in s e y f u h;
         may = to-within s e (guardOf b i) u (ticks o) (ticks-listed c u (h .start)) (n .guard);
         lands = to-within s e I (n .after) (ticks q) after (n .enters .arrived);
         stays = subst (λ (x : Valuation). Within s e c I (ticks x)) (sym same) (n .enters .still);
         same = same;
+      }
+
+  from-zone : (s e i : ℕ) (y : List Pair) (f : Fraction) (u : ℕ → ℕ) (v : Valuation) → length v ≡ c → Has s e c (workOf y f) u →
+      Follows s e c (guardOf b i) (resetsOf b i) (invariantOf b (to b i)) u (ticks v) → FromZone (systemOf b) (zonesOf b) (meaningOf b) s e i y v
+  from-zone s e i y f u v l h n =
+      let j = jumped s e i y f u v l h n in
+      record {
+        old = listed c u;
+        time = n .enters .wait;
+        inside = j .inside;
+        may = j .may;
+        lands = j .lands;
+        stays = j .stays;
+        same = j .same;
       }
 
   both : ExactLaws (systemOf b) (zonesOf b) (meaningOf b) 1 0
@@ -256,7 +282,7 @@ module _ (b : List ℕ) (a : Accepted b) where
         let x = step-from (enters-exactly s e (p .0) f) j (p .1) (ticks v) (n .has) in
         from-start s e (x .0) v (n .all) (first-has s e (p .0) c n≤ (x .0) .0 (x .1)) (x .2);
     succ-from = λ s e i y z f g v l h k j p n.
-        let x = step-from (follows-exactly i l s e (p .0) y f h k) j (p .1) (ticks v) (n .has) in
+        let x = came-from i l s e (p .0) y z f g h k j (p .1) (ticks v) (n .has) in
         from-zone s e i y f (x .0) v (n .all) (x .1) (x .2);
     point = λ z h k. let x = closed-point 1 0 c (workOf z noLimit) k in (listed c (x .0), listed-in 1 0 z noLimit (x .0) (x .1));
   }

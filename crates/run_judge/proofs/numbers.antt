@@ -1,0 +1,2 @@
+-- The numbers of a buffer as naturals.
+pub mod Numbers

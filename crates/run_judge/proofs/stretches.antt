@@ -1,0 +1,4 @@
+-- The judging in stretches.
+pub mod Following
+pub mod Stretches
+pub mod Ending

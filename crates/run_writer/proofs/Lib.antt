@@ -1,0 +1,3 @@
+-- What is proved of the run that is written.
+pub mod Witnessing
+pub mod Answering

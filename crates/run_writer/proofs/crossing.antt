@@ -1,0 +1,2 @@
+-- Zones on their way along an edge.
+pub mod Along
