@@ -1,4 +1,4 @@
--- Numbers written over what was there, one by one; and an answer, a lookup or a form told in numbers, by its case.
+-- Numbers written over what was there, one by one; and an answer, a lookup, a form or a judgement told in numbers, by its case.
 -- Assumes nothing.
 use Prim.Native.Nat.{ℕ, zero, suc, _<_, _≤_}
 use mathlib.Core.List.{List, [], _∷_}
@@ -7,12 +7,15 @@ use lib.ListN.{length, take, getD, set}
 use native.Mathlib.Omega.{arith}
 use Rattle.canonical.specs.declared.reply.Reply.{Reply}
 use Rattle.canonical.specs.declared.reply.Reply.the-variants as reply
+use Rattle.run_judge.specs.declared.judgement.Judgement.{Judgement}
+use Rattle.run_judge.specs.declared.judgement.Judgement.the-variants as judgement
 use Rattle.search.specs.declared.verdict.Answer.{Answer}
 use Rattle.search.specs.declared.verdict.Answer.the-variants.{Found, Refused}
 use Rattle.search.specs.declared.verdict.Verdict.{Verdict}
 use Rattle.cache.specs.declared.lookup.Lookup.{Lookup}
 use Rattle.cache.specs.declared.lookup.Lookup.the-variants as lookup
 use Rattle.exports.specs.Replies.{verdictNumbers, over, answerNumber, told, lookupNumber, filedTold, lookupTold, formNumber, formTold}
+use Rattle.exports.specs.Replies.{judgementNumber, passesTold}
 
 -- ---- `write_over`: a turn writes the next number; where nothing is left to write, or no room, all are written
 pub over-turn : (xs old : List ℕ) (i : ℕ) → i < length xs → set (over (take i xs) old) i (getD xs i 0) ≡ over (take (suc i) xs) old
@@ -65,3 +68,17 @@ module _ {w : Reply} (old : ℕ) where
   pub tells-unwritten : (k : ℕ) → w ≡ reply.Refused k → (k ≡ formNumber w) × (old ≡ formTold w old)
   unfolding formNumber formTold
   tells-unwritten k e = rw e (refl, refl)
+
+-- ---- `tell_judgement`
+module _ {j : Judgement} (old : ℕ) where
+  pub tells-unjudged : (k : ℕ) → j ≡ judgement.Refused k → (k ≡ judgementNumber j) × (old ≡ passesTold j old)
+  unfolding judgementNumber passesTold
+  tells-unjudged k e = rw e (refl, refl)
+
+  pub tells-yes : j ≡ judgement.Yes → (0 ≡ judgementNumber j) × (1 ≡ passesTold j old)
+  unfolding judgementNumber passesTold
+  tells-yes e = rw e (refl, refl)
+
+  pub tells-no : j ≡ judgement.No → (0 ≡ judgementNumber j) × (0 ≡ passesTold j old)
+  unfolding judgementNumber passesTold
+  tells-no e = rw e (refl, refl)

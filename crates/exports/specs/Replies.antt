@@ -4,6 +4,8 @@ use mathlib.Core.Bool.{Bool, cond}
 use mathlib.Core.List.{List, _∷_, []}
 use Rattle.canonical.specs.declared.reply.Reply.{Reply}
 use Rattle.canonical.specs.declared.reply.Reply.the-variants as reply
+use Rattle.run_judge.specs.declared.judgement.Judgement.{Judgement}
+use Rattle.run_judge.specs.declared.judgement.Judgement.the-variants as judgement
 use Rattle.search.specs.declared.verdict.Answer.{Answer}
 use Rattle.search.specs.declared.verdict.Answer.the-variants.{Found, Refused}
 use Rattle.search.specs.declared.verdict.Verdict.{Verdict}
@@ -58,3 +60,14 @@ formNumber (reply.Refused k) = k
 unfoldable pub formTold : Reply → ℕ → ℕ
 formTold (reply.Written n) old = n
 formTold (reply.Refused k) old = old
+
+-- ---- a judgement: 0 with 1 for yes and 0 for no in the lent place, or the refusal's number with the place as it was
+unfoldable pub judgementNumber : Judgement → ℕ
+judgementNumber (judgement.Refused k) = k
+judgementNumber judgement.Yes = 0
+judgementNumber judgement.No = 0
+
+unfoldable pub passesTold : Judgement → ℕ → ℕ
+passesTold (judgement.Refused k) old = old
+passesTold judgement.Yes old = 1
+passesTold judgement.No old = 0

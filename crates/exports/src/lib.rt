@@ -1,4 +1,4 @@
-// The search and the cache, open to C and to Rust (include/robustness.h).
+// The search, the run and its judge, and the cache, open to C and to Rust (include/robustness.h).
 use automata::refusal;
 use cache::consult;
 use cache::look_up;
@@ -7,6 +7,9 @@ use cache::make_empty;
 use cache::sound;
 use canonical::reply::Reply;
 use canonical::write_canonical;
+use run_judge::judge;
+use run_judge::judgement::Judgement;
+use run_writer::write_run;
 use search::search;
 use search::verdict::Answer;
 use search::verdict::Verdict;
@@ -20,7 +23,9 @@ ghost use Rattle.cache.specs.Consulting.{makeEmptyReply, makeEmptyCache};
 ghost use Rattle.cache.specs.Drawn.{lookUpIn, consultAnswer, consultCache, consultStore};
 ghost use Rattle.canonical.specs.Writing.{formAnswer, formBuffer};
 ghost use Rattle.exports.specs.Replies.{verdictNumbers, over, answerNumber, told, lookupNumber, filedTold, lookupTold, soundNumber};
-ghost use Rattle.exports.specs.Replies.{formNumber, formTold};
+ghost use Rattle.exports.specs.Replies.{formNumber, formTold, judgementNumber, passesTold};
+ghost use Rattle.run_judge.specs.Judging.{judgementOf};
+ghost use Rattle.run_writer.specs.Writing.{runAnswer, runBuffer};
 
 // What is told of a verdict: kind, n, d, zones; then exact n, exact d, again and inside, which are 0 until later changes have them.
 fn verdict_numbers(v: Verdict, zones: u32) -> [u64; 8]
@@ -89,6 +94,24 @@ fn tell_form(reply: Reply, written: &mut u64) -> u32
     }
 }
 
+// What the judge says: 0 with 1 for yes and 0 for no, or the refusal's number alone.
+fn tell_judgement(judgement: Judgement, passes: &mut u64) -> u32
+    ensures { λ r. ⌜ r ≡ judgementNumber judgement ⌝ }
+    ensures { λ r. ⌜ now (passes .exit) ≡ passesTold judgement (now (passes .entry)) ⌝ }
+{
+    match judgement {
+        Judgement::Refused(k) => k,
+        Judgement::Yes => {
+            *passes = 1;
+            0
+        }
+        Judgement::No => {
+            *passes = 0;
+            0
+        }
+    }
+}
+
 // 0, or the number by which the automaton is turned down.
 #[no_mangle]
 pub extern "C" fn robustness_refusal(automaton: &[u8]) -> u32
@@ -115,6 +138,32 @@ pub extern "C" fn robustness_search(automaton: &[u8], store: &mut [i32], answer:
     ensures { λ r. ⌜ now (answer .exit) ≡ told (searchAnswer (now (automaton .entry)) (length (now (store .entry)))) (now (answer .entry)) ⌝ }
 {
     tell(search(automaton, store), answer)
+}
+
+// The same, and where the target is reached, a run that ends there.
+#[no_mangle]
+pub extern "C" fn robustness_write_run(
+    automaton: &[u8],
+    store: &mut [i32],
+    run: &mut [i64],
+    answer: &mut [u64],
+) -> u32
+    ensures { λ r. ⌜ r ≡ answerNumber (runAnswer (now (automaton .entry)) (length (now (store .entry))) (length (now (run .entry)))) ⌝ }
+    ensures { λ r. ⌜ now (store .exit) ≡ searchStore (now (automaton .entry)) (now (store .entry)) ⌝ }
+    ensures { λ r. ⌜ now (run .exit) ≡ runBuffer (now (automaton .entry)) (length (now (store .entry))) (now (run .entry)) ⌝ }
+    ensures { λ r. ⌜ now (answer .exit)
+        ≡ told (runAnswer (now (automaton .entry)) (length (now (store .entry))) (length (now (run .entry)))) (now (answer .entry)) ⌝ }
+{
+    tell(write_run(automaton, store, run), answer)
+}
+
+// Whether the buffer begins with a run of the automaton that ends at the target, told.
+#[no_mangle]
+pub extern "C" fn robustness_judge(automaton: &[u8], run: &[i64], passes: &mut u64) -> u32
+    ensures { λ r. ⌜ r ≡ judgementNumber (judgementOf (now (automaton .entry)) (now (run .entry))) ⌝ }
+    ensures { λ r. ⌜ now (passes .exit) ≡ passesTold (judgementOf (now (automaton .entry)) (now (run .entry))) (now (passes .entry)) ⌝ }
+{
+    tell_judgement(judge(automaton, run), passes)
 }
 
 // 0, or 12 where fewer than five bytes are lent.
