@@ -6,6 +6,8 @@ mod draft;
 mod draws;
 mod families;
 mod filed;
+#[path = "../tests/lengths.rs"]
+mod lengths;
 #[path = "../tests/library.rs"]
 mod library;
 mod literal;

@@ -1,7 +1,8 @@
 // Document 01's shelf with document 02's one order of edges in plain Rust, step for step: at each
 // asking the automaton's canonical form, then whether the cache is sound, then the lookup, then the
 // search and its record.
-use crate::literal::{gcd, slot_length, Search, Verdict};
+use crate::lengths::slot;
+use crate::literal::{gcd, Search, Verdict};
 use crate::ordered;
 
 const HEADER: usize = 5;
@@ -180,7 +181,7 @@ pub fn consult(
     if cache.len() < end || LONGEST < end {
         return Err(12);
     }
-    let search = Search::of(form, (store.len() / slot_length(form)).min(MOST_SLOTS));
+    let search = Search::of(form, (store.len() / slot(form)).min(MOST_SLOTS));
     search.store(store);
     let verdict = search.answer()?;
     cache[used..end].copy_from_slice(&record(verdict, form));

@@ -1,4 +1,6 @@
-// Document 01's search in plain Rust, step for step, on an automaton that is free of 1 to 8.
+// Document 01's search in plain Rust, step for step, with document 02's slots, on an automaton that
+// is free of 1 to 8.
+use crate::lengths::{slot, BEFORE_PAIRS};
 use crate::plain::{less, lowered, Fraction, Pair, Work, Zone, NO_LIMIT};
 
 const NO_UPPER: u32 = u32::MAX;
@@ -14,11 +16,20 @@ enum Stop {
     Refused(u32),
 }
 
+// The slot that a zone came from and the edge taken, both -1 for the first.
+type Origin = [i32; 2];
+
+pub struct Kept {
+    location: usize,
+    origin: Origin,
+    zone: Zone,
+}
+
 pub struct Search<'a> {
     automaton: &'a [u8],
     clocks: usize,
     slots: usize,
-    pub kept: Vec<(usize, Zone)>,
+    pub kept: Vec<Kept>,
     fraction: Fraction,
     stop: Stop,
 }
@@ -34,12 +45,6 @@ pub fn gcd(a: u64, b: u64) -> u64 {
 // A limit, loosened by the error.
 fn loosened(m: i64) -> Pair {
     Pair { m, p: 1 }
-}
-
-// Document 01's 1 + 2(n + 1)².
-pub fn slot_length(automaton: &[u8]) -> usize {
-    let size = automaton[5] as usize + 1;
-    1 + 2 * size * size
 }
 
 // Whether each of a's pairs is the smaller or equal beside b's.
@@ -60,7 +65,7 @@ impl<'a> Search<'a> {
             stop: Stop::No,
         };
         let start = automaton[7] as usize;
-        s.enter(start, [Pair { m: 0, p: 0 }; 81]);
+        s.enter(start, [Pair { m: 0, p: 0 }; 81], [-1; 2]);
         let mut next = 0;
         while next < s.kept.len() && s.stop == Stop::No {
             s.expand(next);
@@ -85,23 +90,25 @@ impl<'a> Search<'a> {
     // The kept zones into their slots; the rest of the store stands.
     pub fn store(&self, store: &mut [i32]) {
         let size = self.clocks + 1;
-        let slots = store.chunks_exact_mut(slot_length(self.automaton));
-        for ((location, zone), slot) in self.kept.iter().zip(slots) {
-            slot[0] = *location as i32;
+        let slots = store.chunks_exact_mut(slot(self.automaton));
+        for (kept, slot) in self.kept.iter().zip(slots) {
+            let (first, pairs) = slot.split_at_mut(BEFORE_PAIRS);
+            first[0] = kept.location as i32;
+            first[1..].copy_from_slice(&kept.origin);
             let places = (0..size * 9).filter(|at| at % 9 < size);
-            for (pair, at) in slot[1..].chunks_exact_mut(2).zip(places) {
-                pair.copy_from_slice(&[zone[at].m as i32, zone[at].p as i32]);
+            for (pair, at) in pairs.chunks_exact_mut(2).zip(places) {
+                pair.copy_from_slice(&[kept.zone[at].m as i32, kept.zone[at].p as i32]);
             }
         }
     }
 
     fn expand(&mut self, taken: usize) {
-        let (location, zone) = self.kept[taken];
+        let Kept { location, zone, .. } = self.kept[taken];
         let edges = u16::from_be_bytes([self.automaton[9], self.automaton[10]]) as usize;
         for i in 0..edges {
             let at = 11 + 8 * self.clocks * self.automaton[6] as usize + i * (3 + 8 * self.clocks);
             if self.automaton[at] as usize == location {
-                self.follow(at, zone);
+                self.follow(at, zone, [taken as i32, i as i32]);
             }
             if self.stop != Stop::No {
                 return;
@@ -110,7 +117,7 @@ impl<'a> Search<'a> {
     }
 
     // Along the edge that stands at a place of the automaton.
-    fn follow(&mut self, at: usize, zone: Zone) {
+    fn follow(&mut self, at: usize, zone: Zone, origin: Origin) {
         let mut w = Work {
             zone,
             fraction: self.fraction,
@@ -120,11 +127,11 @@ impl<'a> Search<'a> {
         self.fraction = w.fraction;
         if !empty {
             let zone = self.reset(&w.zone, self.automaton[at + 2]);
-            self.enter(self.automaton[at + 1] as usize, zone);
+            self.enter(self.automaton[at + 1] as usize, zone, origin);
         }
     }
 
-    fn enter(&mut self, location: usize, zone: Zone) {
+    fn enter(&mut self, location: usize, zone: Zone, origin: Origin) {
         let mut w = Work {
             zone,
             fraction: self.fraction,
@@ -140,27 +147,31 @@ impl<'a> Search<'a> {
         }
         self.fraction = w.fraction;
         if !empty {
-            self.judge(location, &w.zone);
+            self.judge(location, &w.zone, origin);
         }
     }
 
-    fn judge(&mut self, location: usize, zone: &Zone) {
+    fn judge(&mut self, location: usize, zone: &Zone, origin: Origin) {
         let size = self.clocks + 1;
         if location == self.automaton[8] as usize {
             self.stop = Stop::Reached;
             return;
         }
-        let inside = |k: &&(usize, Zone)| k.0 == location && is_within(zone, &k.1, size);
-        if let Some((_, old)) = self.kept.iter().find(inside) {
+        let inside = |k: &&Kept| k.location == location && is_within(zone, &k.zone, size);
+        if let Some(old) = self.kept.iter().find(inside) {
             for at in (0..size * 9).filter(|at| at % 9 < size) {
-                self.fraction = lowered(self.fraction, zone[at], old[at]);
+                self.fraction = lowered(self.fraction, zone[at], old.zone[at]);
             }
         } else if (0..size * 9).any(|at| at % 9 < size && COUNTS < zone[at].p) {
             self.stop = Stop::Refused(9);
         } else if self.kept.len() == self.slots {
             self.stop = Stop::Refused(10);
         } else {
-            self.kept.push((location, *zone));
+            self.kept.push(Kept {
+                location,
+                origin,
+                zone: *zone,
+            });
         }
     }
 

@@ -9,6 +9,8 @@
 mod draft;
 mod draws;
 mod heavy;
+#[path = "../tests/lengths.rs"]
+mod lengths;
 #[path = "../tests/library.rs"]
 mod library;
 mod literal;
@@ -21,7 +23,7 @@ mod searched;
 mod sides;
 mod times;
 
-use literal::slot_length;
+use lengths::slot;
 use searched::{Case, Family, FAMILIES};
 use sides::{one_search, Answer, SIDES};
 use std::time::Duration;
@@ -87,7 +89,7 @@ fn told(answer: Answer) -> String {
 }
 
 fn kept(case: &Case, store: &[i32]) -> usize {
-    let slots = store.chunks_exact(slot_length(&case.automaton));
+    let slots = store.chunks_exact(slot(&case.automaton));
     slots.take_while(|slot| slot[0] != UNTOUCHED).count()
 }
 

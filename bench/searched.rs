@@ -10,7 +10,7 @@ mod stored;
 mod wheels;
 
 use crate::draft::Draft;
-use crate::literal::slot_length;
+use crate::lengths::slot;
 
 // The program's store.
 const STORE: usize = 16_384;
@@ -66,7 +66,7 @@ impl Case {
     }
 
     fn room_for(self, zones: usize) -> Case {
-        let store = zones * slot_length(&self.automaton);
+        let store = zones * slot(&self.automaton);
         Case { store, ..self }
     }
 

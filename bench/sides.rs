@@ -1,6 +1,7 @@
 // The searches that are timed: the proved crate's, and two in Rust.
+use crate::lengths::slot;
 use crate::library;
-use crate::literal::{slot_length, Search, Verdict};
+use crate::literal::{Search, Verdict};
 use crate::oracle::{self, Outcome};
 use crate::times::opaque;
 
@@ -27,7 +28,7 @@ pub const SIDES: [Side; 3] = [
 ];
 
 fn literal(automaton: &[u8], store: &mut [i32]) -> Answer {
-    let search = Search::of(automaton, store.len() / slot_length(automaton));
+    let search = Search::of(automaton, store.len() / slot(automaton));
     search.store(store);
     search.answer()
 }

@@ -1,12 +1,19 @@
-//! Lengths that document 01 lays down.
+//! Lengths that documents 01 and 02 lay down.
 
 // Each program asks for some of them.
 #![allow(dead_code)]
 
-/// The number of numbers that one zone takes in the store.
+/// The numbers of a slot before its pairs: the location, the slot it came from and the edge taken.
+pub const BEFORE_PAIRS: usize = 3;
+
+/// The numbers that one zone of so many clocks takes in the store: 3 + 2(n + 1)².
+pub const fn slot_of(clocks: usize) -> usize {
+    BEFORE_PAIRS + 2 * (clocks + 1) * (clocks + 1)
+}
+
+/// The same for an automaton's zones.
 pub fn slot(automaton: &[u8]) -> usize {
-    let side = usize::from(automaton[5]) + 1;
-    1 + 2 * side * side
+    slot_of(usize::from(automaton[5]))
 }
 
 /// The length that an automaton tells.

@@ -5,6 +5,9 @@ use crate::heavy::{self, EIGHT_CLOCKS, RING_ZONES, THREE_CLOCKS};
 
 // The zones of the wheel up to its refusal 9.
 const WHEEL_ZONES: usize = 65_535;
+// One more than "3 clocks" and "8 clocks" keep.
+const THREE_ROOM: usize = 496;
+const EIGHT_ROOM: usize = 100;
 
 pub fn tiny() -> Vec<Case> {
     vec![
@@ -47,12 +50,14 @@ pub fn heavy() -> Vec<Case> {
             "3 clocks",
             include_bytes!("../automata/3-clocks.card"),
             THREE_CLOCKS.automaton(),
-        ),
+        )
+        .room_for(THREE_ROOM),
         case(
             "8 clocks",
             include_bytes!("../automata/8-clocks.card"),
             EIGHT_CLOCKS.automaton(),
-        ),
+        )
+        .room_for(EIGHT_ROOM),
         ring.room_for(RING_ZONES).repeated(3),
         wheel.room_for(WHEEL_ZONES).repeated(2),
     ]

@@ -3,7 +3,7 @@
 
 use crate::draft::{Draft, Edge, Limit, NO_UPPER};
 use crate::drawn::Dice;
-use crate::lengths::slot;
+use crate::lengths::{slot, BEFORE_PAIRS};
 use crate::oracle::{self, Outcome};
 use crate::rings::{counter, ring, wheel, FREE, PERIOD};
 use crate::tally::{Answer, Left, Tally};
@@ -19,13 +19,12 @@ const ASIDE: u8 = LOCATIONS + 1;
 const STEP: Limit = (PERIOD, PERIOD);
 const LATE: u32 = PERIOD * MOST;
 
-/// The largest count among the zones kept: in the slots that were written, of all pairs behind the
-/// location.
+/// The largest count among the zones kept: of all pairs in the slots that were written.
 fn largest(left: &Left, slot: usize) -> u32 {
     let before = left.before.chunks_exact(slot);
     let slots = left.store.chunks_exact(slot).zip(before);
     let kept = slots.take_while(|(after, before)| after != before);
-    let pairs = kept.flat_map(|(after, _)| after[1..].chunks_exact(2));
+    let pairs = kept.flat_map(|(after, _)| after[BEFORE_PAIRS..].chunks_exact(2));
     pairs.map(|pair| pair[1] as u32).max().unwrap_or(0)
 }
 

@@ -5,7 +5,7 @@ use crate::calls::{form_length, random_bytes, Call, Lent};
 use crate::draft::Draft;
 use crate::drawn::Dice;
 use crate::forms;
-use crate::lengths::{slot, used};
+use crate::lengths::{slot, slot_of, used};
 use crate::oracle::{self, Cache};
 use crate::rings;
 use crate::table::named;
@@ -86,7 +86,17 @@ fn asked(dice: &mut Dice, cache: &[u8], automaton: &[u8], store: usize) -> Lent 
     }
 }
 
-const STORES: [usize; 9] = [0, 0, 8, 9, 40, 163, 800, 3_000, 6_000];
+const STORES: [usize; 9] = [
+    0,
+    0,
+    slot_of(1) - 1,
+    slot_of(1),
+    40,
+    slot_of(8),
+    800,
+    3_000,
+    6_000,
+];
 
 /// A cache with room for all, with automata of every kind, each consulted several times.
 pub fn large(tally: &mut Tally, round: u64) {
@@ -220,13 +230,18 @@ pub fn large_counts(tally: &mut Tally) {
     let mut dice = Dice::new(31);
     let automaton = rings::wheel(62, 1).bytes();
     let mut grown = Grown::empty(tally, &mut dice, "9", 5_000);
-    let filed = Lent::new(&mut dice, &grown.cache, &named("A"), 9);
+    let filed = Lent::new(&mut dice, &grown.cache, &named("A"), slot_of(1));
     grown.consult(tally, "9, before it", &filed);
-    let before = Lent::new(&mut dice, &grown.cache, &automaton, 65_535 * 19 + 1);
+    let before = Lent::new(&mut dice, &grown.cache, &automaton, 65_535 * slot_of(2) + 1);
     tally.must("9", Call::Search, &before, 9);
     let after = tally.must("9", Call::Consult, &before, 9).lent;
     tally.check(after.formed(&before), || "9: the form".into());
-    let before = Lent::new(&mut dice, &grown.cache[..60], &automaton, 65_535 * 19);
+    let before = Lent::new(
+        &mut dice,
+        &grown.cache[..60],
+        &automaton,
+        65_535 * slot_of(2),
+    );
     tally.must("9 without room", Call::Consult, &before, 12);
 }
 
@@ -255,6 +270,6 @@ pub fn past_three_bytes(tally: &mut Tally) {
         format!("past three bytes: {}", first)
     });
     tally.must("past three bytes, again", Call::Consult, &left, 0);
-    let before = Lent::new(&mut dice, &left.cache, &turned(count + 1), 9);
+    let before = Lent::new(&mut dice, &left.cache, &turned(count + 1), slot(&longest));
     tally.must("past three bytes, full", Call::Consult, &before, 12);
 }

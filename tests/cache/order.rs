@@ -4,7 +4,7 @@ use crate::automata;
 use crate::calls::{form_length, random_bytes, Call, Lent};
 use crate::drawn::Dice;
 use crate::forms;
-use crate::lengths::slot;
+use crate::lengths::{slot, slot_of};
 use crate::oracle::{Cache, Verdict};
 use crate::table::{named, with_byte};
 use crate::tally::Tally;
@@ -41,11 +41,11 @@ pub fn layout(tally: &mut Tally) {
     for (drawn, before, after) in rows {
         let tail = random_bytes(&mut dice, 70);
         let lent = [&before[..], &tail].concat();
-        let lent = Lent::new(&mut dice, &lent, drawn, 12);
+        let lent = Lent::new(&mut dice, &lent, drawn, 14);
         let left = tally.must("layout", Call::Consult, &lent, 0).lent;
         let stands = &tail[after.len() - before.len()..];
         let right = left.cache == [&after[..], stands].concat() && left.verdict() == [1, 1, 1, 1];
-        let kept = [&[0, 0, 0, 0, 0, 5, 1, 0, 0], &lent.store[9..]].concat();
+        let kept = [&[0, -1, -1, 0, 0, 0, 0, 5, 1, 0, 0], &lent.store[11..]].concat();
         let formed = left.form.starts_with(&a);
         tally.check(right && formed && left.store == kept, || {
             format!("layout of {:?}", left.cache)
@@ -59,7 +59,7 @@ pub fn empty(tally: &mut Tally) {
         for length in (0..=8).chain([60, 61, 1_000]) {
             let what = format!("making empty {} bytes, turn {}", length, turn);
             let contents = random_bytes(&mut dice, length);
-            let before = Lent::new(&mut dice, &contents, &named("A"), 9);
+            let before = Lent::new(&mut dice, &contents, &named("A"), slot_of(1));
             let reply = if length < 5 { 12 } else { 0 };
             let made = tally.must(&what, Call::MakeEmpty, &before, reply).lent;
             let stands = made.cache.get(5..) == contents.get(5..);
@@ -238,7 +238,7 @@ fn judge(tally: &mut Tally, dice: &mut Dice, asked: &Asked, setting: Setting) {
     let (unsound, full) = if *bad == 11 { (11, 0) } else { (0, *bad) };
     let (short, small) = (
         if room == Room::Short { 13 } else { 0 },
-        if store < 9 { 10 } else { 0 },
+        if store < slot_of(1) { 10 } else { 0 },
     );
     let written = first(&[asked.number, short]);
     let looked = first(&[written, unsound]);
@@ -269,7 +269,8 @@ pub fn order(tally: &mut Tally) {
     let mut dice = Dice::new(131);
     let caches = caches(&mut dice);
     let rooms = [Room::Short, Room::Exact, Room::Drawn];
-    let lent = [0, 8, 9].map(|store| rooms.map(|room| (store, room)));
+    let stores = [0, slot_of(1) - 1, slot_of(1)];
+    let lent = stores.map(|store| rooms.map(|room| (store, room)));
     for asked in all_asked() {
         for cache in &caches {
             for (store, room) in lent.concat() {

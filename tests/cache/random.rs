@@ -3,6 +3,7 @@
 use crate::automata;
 use crate::calls::{random_bytes, Call, Lent};
 use crate::drawn::Dice;
+use crate::lengths::slot_of;
 use crate::oracle::{self, Cache, Record, Verdict};
 use crate::tally::Tally;
 use crate::unsound::{disorders, put, VERDICTS};
@@ -121,7 +122,7 @@ pub fn damage(tally: &mut Tally, round: u64) {
         let what = format!("random damage, round {}, turn {}", round, turn);
         let cache = damaged(&mut dice, &forms);
         let automaton = asked(&mut dice, &automata, &cache);
-        let store = dice.pick(&[0, 8, 9, 20, 100, 400]);
+        let store = dice.pick(&[0, slot_of(1) - 1, slot_of(1), 20, 100, 400]);
         let before = Lent::new(&mut dice, &cache, &automaton, store);
         let before = if dice.chance(10) {
             let length = dice.below(automaton.len() + 1);

@@ -3,6 +3,7 @@
 
 use crate::calls::{Call, Lent};
 use crate::drawn::Dice;
+use crate::lengths::slot_of;
 use crate::oracle::Cache;
 use crate::table::named;
 use crate::tally::Tally;
@@ -10,6 +11,8 @@ use crate::unsound::record;
 
 const LENGTHS: [usize; 8] = [0, 1, 3, 4, 7, 8, 9, 20];
 const ROUNDS: usize = 8;
+/// A zone of one clock.
+const SLOT: usize = slot_of(1);
 
 /// Kind, n, d, zones, exact n, exact d, again and inside.
 type Numbers = [u64; 8];
@@ -31,11 +34,11 @@ type Case = (
 );
 
 const CASES: [Case; 23] = [
-    (Call::Search, "A", 9, None, 0, Some(A)),
-    (Call::Search, "B", 9, None, 0, Some(B)),
-    (Call::Search, "D", 9, None, 0, Some(D)),
-    (Call::Search, "J", 9, None, 7, None),
-    (Call::Search, "A", 8, None, 10, None),
+    (Call::Search, "A", SLOT, None, 0, Some(A)),
+    (Call::Search, "B", SLOT, None, 0, Some(B)),
+    (Call::Search, "D", SLOT, None, 0, Some(D)),
+    (Call::Search, "J", SLOT, None, 7, None),
+    (Call::Search, "A", SLOT - 1, None, 10, None),
     (Call::LookUp, "G", 0, Some(0), 0, Some(FILED)),
     (Call::LookUp, "H", 0, Some(9), 0, Some(D)),
     (Call::LookUp, "K", 0, Some(9), 0, Some(B)),
@@ -45,15 +48,15 @@ const CASES: [Case; 23] = [
     (Call::LookUp, "G", 0, Some(0), 13, None),
     (Call::LookUp, "A", 0, None, 13, None),
     (Call::Consult, "G", 0, Some(0), 0, Some(FILED)),
-    (Call::Consult, "A", 9, Some(55), 0, Some(A)),
-    (Call::Consult, "B", 9, Some(55), 0, Some(B)),
-    (Call::Consult, "D", 9, Some(44), 0, Some(D)),
-    (Call::Consult, "J", 9, Some(55), 7, None),
-    (Call::Consult, "A", 8, Some(55), 10, None),
-    (Call::Consult, "A", 9, None, 11, None),
-    (Call::Consult, "A", 9, Some(54), 12, None),
+    (Call::Consult, "A", SLOT, Some(55), 0, Some(A)),
+    (Call::Consult, "B", SLOT, Some(55), 0, Some(B)),
+    (Call::Consult, "D", SLOT, Some(44), 0, Some(D)),
+    (Call::Consult, "J", SLOT, Some(55), 7, None),
+    (Call::Consult, "A", SLOT - 1, Some(55), 10, None),
+    (Call::Consult, "A", SLOT, None, 11, None),
+    (Call::Consult, "A", SLOT, Some(54), 12, None),
     (Call::Consult, "G", 0, Some(0), 13, None),
-    (Call::Consult, "A", 8, Some(55), 13, None),
+    (Call::Consult, "A", SLOT - 1, Some(55), 13, None),
 ];
 
 /// With a verdict that no search gives, to see that it is the filed one.

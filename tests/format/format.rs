@@ -148,7 +148,8 @@ impl Format {
         let empty = make_empty(&mut cache);
         let before = cache.clone();
         let (automaton, mut form) = (self.automaton.bytes(), self.room());
-        let reply = consult(&mut cache, &automaton, &mut form, &mut [NUMBER; 9]);
+        let mut store = vec![NUMBER; self.slot.numbers().len()];
+        let reply = consult(&mut cache, &automaton, &mut form, &mut store);
         let mut short = [BYTE; 4];
         empty == 0
             && reply == Err(12)

@@ -97,7 +97,7 @@ fn free(dice: &mut Dice, automaton: &[u8]) -> Vec<u8> {
 fn store(dice: &mut Dice, automaton: &[u8]) -> usize {
     let slot = match automaton.get(5) {
         Some(1..=8) => lengths::slot(automaton),
-        _ => 9,
+        _ => lengths::slot_of(1),
     };
     let slots = slot * dice.pick(&[1, 2, 3, 10, 30]);
     match dice.range(0, 5) {

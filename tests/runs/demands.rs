@@ -6,6 +6,7 @@ use crate::draft::Draft;
 use crate::explorer::{Explorer, Grid, Loosening};
 use crate::kept::Kept;
 use crate::library::{self, Verdict};
+use crate::own;
 use std::collections::BTreeMap;
 use std::process::ExitCode;
 
@@ -15,8 +16,10 @@ const MOST_COMPARED: usize = 4_000;
 const AT: &str = "a run at the fraction itself";
 const TWICE: &str = "a run below twice the fraction";
 const INEXACT: &str = "kept zones not exact below twice the fraction";
+const OWN_INEXACT: &str = "a zone and its own runs differ below twice the fraction";
+const BRANCHES: &str = "zones behind another than the first";
 /// What must be met, and how often at least, lest the checks say little.
-const LEAST: [(&str, usize); 9] = [
+const LEAST: [(&str, usize); 11] = [
     ("holds any", 1_000),
     ("holds n/d", 5_000),
     ("holds n/d, three zones or more", 1_000),
@@ -26,6 +29,8 @@ const LEAST: [(&str, usize); 9] = [
     (AT, 2_000),
     (TWICE, 2_000),
     (INEXACT, 2_000),
+    (OWN_INEXACT, 200),
+    (BRANCHES, 2_000),
 ];
 
 #[derive(Default)]
@@ -98,8 +103,27 @@ fn differences(automaton: &Draft, kept: &Kept, errors: &[Loosening]) -> (usize, 
     (unreached, missed)
 }
 
-/// Demand 2, for the kept zones of a location together, as the store does not tell a zone's own
-/// edges: runs reach all their states and, where the automaton holds, no others. Where it does not,
+/// Demand 2 for each zone and the runs along its own edges, which the slots tell.
+fn own_runs(tally: &mut Tally, automaton: &Draft, kept: &Kept, claim: Claim) {
+    let few = |l: &&Loosening| Grid::new(automaton, **l).states() <= MOST_COMPARED;
+    let differ = |errors: &[Loosening]| -> Option<usize> {
+        let each = errors.iter().filter(few);
+        each.map(|l| own::differences(automaton, kept, *l)).sum()
+    };
+    let found = differ(&claim.errors());
+    tally.checks.check(found == Some(0), || {
+        let bytes = automaton.bytes();
+        format!("{claim:?}: {found:?} states differ from a zone's own runs\n  {bytes:02x?}")
+    });
+    let deep = |slot: usize| kept.told(slot)[1] > 0;
+    tally.meet(BRANCHES, (0..kept.zones()).any(deep));
+    if let Claim::Below(n, d) = claim {
+        let twice = differ(&Claim::Below(2 * n, d).errors());
+        tally.meet(OWN_INEXACT, twice != Some(0));
+    }
+}
+
+/// Demand 2 for the kept zones of a location together: runs reach all their states and, where the automaton holds, no others. Where it does not,
 /// the fraction isn't told, and the error is 0, which is below any.
 fn demand_2(tally: &mut Tally, automaton: &Draft, kept: &Kept, claim: Claim) {
     let (unreached, missed) = match claim {
@@ -130,6 +154,7 @@ pub fn judge(tally: &mut Tally, automaton: &Draft) -> Result<Verdict, u32> {
             let kept = Kept::new(automaton, &store, verdict[3] as usize);
             demand_3(tally, automaton, claim);
             demand_2(tally, automaton, &kept, claim);
+            own_runs(tally, automaton, &kept, claim);
         }
         Err(number) => {
             let otherwise = || format!("refused {number}: {bytes:02x?}");
@@ -137,6 +162,7 @@ pub fn judge(tally: &mut Tally, automaton: &Draft) -> Result<Verdict, u32> {
             // Every slot is filled. Of their states the same is known as where it is reached.
             let kept = Kept::new(automaton, &store, STORE);
             demand_2(tally, automaton, &kept, Claim::Reached);
+            own_runs(tally, automaton, &kept, Claim::Reached);
         }
     }
     answer

@@ -17,7 +17,7 @@ pub struct Loosening {
 
 impl Loosening {
     /// lo × s − e ≤ clock ≤ hi × s + e, written so that nothing falls below 0.
-    fn allows(self, limits: &[Limit], valuation: &Valuation) -> bool {
+    pub fn allows(self, limits: &[Limit], valuation: &Valuation) -> bool {
         limits.iter().zip(valuation).all(|(&(lo, hi), &clock)| {
             lo * self.scale <= clock + self.error
                 && (hi == NO_UPPER || clock <= hi * self.scale + self.error)
@@ -61,7 +61,7 @@ impl Grid {
         valuation
     }
 
-    fn place(&self, location: u8, valuation: &Valuation) -> usize {
+    pub fn place(&self, location: u8, valuation: &Valuation) -> usize {
         let clocks = valuation[..self.clocks].iter().rev();
         clocks.fold(usize::from(location), |place, &clock| {
             place * self.span + clock as usize
@@ -78,7 +78,7 @@ pub struct Explorer<'a> {
     open: Vec<(u8, Valuation)>,
 }
 
-fn reset(edge: &Edge, valuation: &Valuation) -> Valuation {
+pub fn reset(edge: &Edge, valuation: &Valuation) -> Valuation {
     let mut after = *valuation;
     for (clock, ticks) in after.iter_mut().enumerate() {
         if edge.reset >> clock & 1 == 1 {

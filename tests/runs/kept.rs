@@ -2,6 +2,7 @@
 
 use crate::draft::Draft;
 use crate::explorer::{Explorer, Loosening, Valuation};
+use crate::lengths::{slot_of, BEFORE_PAIRS};
 
 pub struct Kept<'a> {
     clocks: usize,
@@ -11,11 +12,24 @@ pub struct Kept<'a> {
 impl Kept<'_> {
     pub fn new<'a>(automaton: &Draft, store: &'a [i32], zones: usize) -> Kept<'a> {
         let clocks = automaton.invariants[0].len();
-        let width = 1 + 2 * (clocks + 1) * (clocks + 1);
         Kept {
             clocks,
-            slots: store.chunks_exact(width).take(zones).collect(),
+            slots: store.chunks_exact(slot_of(clocks)).take(zones).collect(),
         }
+    }
+
+    pub fn zones(&self) -> usize {
+        self.slots.len()
+    }
+
+    /// Of a slot its location, the slot that it came from, and the edge taken.
+    pub fn told(&self, slot: usize) -> [i32; BEFORE_PAIRS] {
+        let first = &self.slots[slot][..BEFORE_PAIRS];
+        first.try_into().expect("the numbers before the pairs")
+    }
+
+    pub fn has(&self, slot: usize, valuation: &Valuation, loosening: Loosening) -> bool {
+        self.within(self.slots[slot], valuation, loosening)
     }
 
     /// Each pair (m, p) bounds its difference in ticks: a − b ≤ m × s + p × e.
@@ -26,7 +40,8 @@ impl Kept<'_> {
             0 => 0,
             _ => i64::from(valuation[index - 1]),
         };
-        slot[1..].chunks(2).enumerate().all(|(entry, pair)| {
+        let mut pairs = slot[BEFORE_PAIRS..].chunks(2).enumerate();
+        pairs.all(|(entry, pair)| {
             let (m, p) = (i64::from(pair[0]), i64::from(pair[1]));
             ticks(entry / side) - ticks(entry % side) <= m * scale + p * error
         })

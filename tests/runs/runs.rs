@@ -13,10 +13,13 @@ mod draft;
 mod drawn;
 mod explorer;
 mod kept;
+#[path = "../lengths.rs"]
+mod lengths;
 #[path = "../library.rs"]
 mod library;
 #[path = "../long.rs"]
 mod long;
+mod own;
 mod small;
 // Only A to H are needed.
 #[allow(dead_code)]

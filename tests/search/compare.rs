@@ -6,6 +6,8 @@ mod checks;
 #[path = "../draft.rs"]
 mod draft;
 mod drawn;
+#[path = "../lengths.rs"]
+mod lengths;
 #[path = "../long.rs"]
 mod long;
 mod oracle;
@@ -15,6 +17,7 @@ mod table;
 use checks::Checks;
 use draft::{recount, Draft};
 use drawn::{Dice, Lean, Size};
+use lengths::slot_of;
 use oracle::Outcome;
 use spoilt::spoilt;
 use std::collections::BTreeMap;
@@ -99,8 +102,9 @@ fn examples(checks: &mut Checks, program: &Path, folder: &Path) {
     });
 }
 
-/// Document 01's results for stores that the program does not lend.
+/// Document 01's results for stores that the program does not lend, with document 02's slots.
 fn other_stores(checks: &mut Checks) {
+    let wheel = slot_of(2);
     let holds = [
         ("E with an empty store", "E", 0, "holds 2/1 zones 0"),
         (
@@ -109,19 +113,24 @@ fn other_stores(checks: &mut Checks) {
             0,
             "holds 2/1 zones 0",
         ),
-        ("I with 8 numbers", "A", 8, "refused 10"),
-        ("I with 9 numbers", "A", 9, "holds 1/1 zones 1"),
-        ("the wheel with 12 slots", "K", 12 * 19, "refused 10"),
-        ("the wheel with slots enough", "K", 65_535 * 19, "refused 9"),
+        ("I with 10 numbers", "A", 10, "refused 10"),
+        ("I with 11 numbers", "A", 11, "holds 1/1 zones 1"),
+        ("the wheel with 12 slots", "K", 12 * wheel, "refused 10"),
+        (
+            "the wheel with slots enough",
+            "K",
+            65_535 * wheel,
+            "refused 9",
+        ),
     ];
     for (what, name, numbers, line) in holds {
         let got = oracle::search(&named(name), &mut vec![0; numbers]).to_string();
         same(checks, &format!("oracle, {}", what), &got, line);
     }
 
-    let mut store = [7; 12];
+    let mut store = [7; 14];
     oracle::search(&named("A"), &mut store);
-    let left = [0, 0, 0, 0, 0, 5, 1, 0, 0, 7, 7, 7];
+    let left = [0, -1, -1, 0, 0, 0, 0, 5, 1, 0, 0, 7, 7, 7];
     checks.check(store == left, || {
         format!("oracle, the store of I is {:?}", store)
     });
@@ -130,7 +139,7 @@ fn other_stores(checks: &mut Checks) {
 /// Automata that need every slot of the program's store, and one slot more.
 fn full_stores(checks: &mut Checks, program: &Path) {
     for clocks in 5..=8 {
-        let slots = STORE / (1 + 2 * (clocks + 1) * (clocks + 1));
+        let slots = STORE / slot_of(clocks);
         let full = format!("holds any zones {}", slots);
         for (edges, line) in [(slots - 1, full.as_str()), (slots, "refused 10")] {
             let automaton = drawn::crowd(clocks, edges).bytes();

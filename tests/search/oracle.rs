@@ -1,6 +1,9 @@
-//! A second search, written from document 01 alone, to hold the program against. It shares nothing
-//! with the verified library: automata are copied out, zones grow on the heap, numbers are 64 bits
-//! wide.
+//! A second search, written from documents 01 and 02 alone, to hold the program against. It shares
+//! nothing with the verified library: automata are copied out, zones grow on the heap, numbers are 64
+//! bits wide.
+
+// Each program asks for some of it.
+#![allow(dead_code)]
 
 use std::fmt;
 
@@ -288,16 +291,40 @@ impl fmt::Display for Outcome {
     }
 }
 
+/// "The slot it came from and the edge taken, counted from 0, both −1 for the first zone."
+#[derive(Clone, Copy)]
+struct Origin {
+    slot: i64,
+    edge: i64,
+}
+
+const FIRST: Origin = Origin { slot: -1, edge: -1 };
+
 /// Why a search stops before nothing is left to take.
 enum Stop {
-    Reached,
+    Reached(Origin),
     Refused(u8),
+}
+
+struct Kept {
+    location: usize,
+    origin: Origin,
+    zone: Zone,
+}
+
+impl Kept {
+    /// Location, slot it came from, edge taken, then pairs row by row, m before p.
+    fn slot(&self) -> Vec<i64> {
+        let pairs = self.zone.pairs.iter().flat_map(|pair| [pair.m, pair.p]);
+        let first = [self.location as i64, self.origin.slot, self.origin.edge];
+        first.into_iter().chain(pairs).collect()
+    }
 }
 
 struct Search<'a> {
     automaton: &'a Automaton,
     store: &'a mut [i32],
-    kept: Vec<(usize, Zone)>,
+    kept: Vec<Kept>,
     /// The numbers of the kept zones by location, oldest first.
     at_location: Vec<Vec<usize>>,
     fraction: Fraction,
@@ -306,44 +333,54 @@ struct Search<'a> {
 impl Search<'_> {
     fn run(&mut self) -> Result<(), Stop> {
         let automaton = self.automaton;
-        self.arrive(Zone::first(automaton.clocks), automaton.start)?;
+        self.arrive(Zone::first(automaton.clocks), automaton.start, FIRST)?;
         let mut taken = 0;
         while taken < self.kept.len() {
-            let from = self.kept[taken].0;
-            for edge in automaton.edges.iter().filter(|e| e.from == from) {
-                self.follow(taken, edge)?;
+            let from = self.kept[taken].location;
+            for (number, edge) in automaton.edges.iter().enumerate() {
+                if edge.from == from {
+                    self.follow(taken, number, edge)?;
+                }
             }
             taken += 1;
         }
         Ok(())
     }
 
-    fn follow(&mut self, taken: usize, edge: &Edge) -> Result<(), Stop> {
-        let mut zone = self.kept[taken].1.clone();
+    fn follow(&mut self, taken: usize, number: usize, edge: &Edge) -> Result<(), Stop> {
+        let mut zone = self.kept[taken].zone.clone();
+        let origin = Origin {
+            slot: taken as i64,
+            edge: number as i64,
+        };
         zone.meet(&edge.guard, &mut self.fraction);
         match zone.reduce(&mut self.fraction) {
-            Some(zone) => self.arrive(zone.reset(edge.reset), edge.to),
+            Some(zone) => self.arrive(zone.reset(edge.reset), edge.to, origin),
             None => Ok(()),
         }
     }
 
-    fn arrive(&mut self, zone: Zone, location: usize) -> Result<(), Stop> {
+    fn arrive(&mut self, zone: Zone, location: usize, origin: Origin) -> Result<(), Stop> {
         match zone.enter(&self.automaton.invariants[location], &mut self.fraction) {
-            Some(zone) => self.judge(zone, location),
+            Some(zone) => self.judge(Kept {
+                location,
+                origin,
+                zone,
+            }),
             None => Ok(()),
         }
     }
 
-    fn judge(&mut self, zone: Zone, location: usize) -> Result<(), Stop> {
-        if location == self.automaton.target {
-            return Err(Stop::Reached);
+    fn judge(&mut self, new: Kept) -> Result<(), Stop> {
+        if new.location == self.automaton.target {
+            return Err(Stop::Reached(new.origin));
         }
-        let kept = &self.kept;
-        if let Some(&old) = self.at_location[location]
+        let (kept, zone) = (&self.kept, &new.zone);
+        if let Some(&old) = self.at_location[new.location]
             .iter()
-            .find(|&&k| zone.within(&kept[k].1))
+            .find(|&&k| zone.within(&kept[k].zone))
         {
-            for (a, b) in zone.pairs.iter().zip(&kept[old].1.pairs) {
+            for (a, b) in zone.pairs.iter().zip(&kept[old].zone.pairs) {
                 self.fraction.compared(*a, *b);
             }
             return Ok(());
@@ -351,31 +388,50 @@ impl Search<'_> {
         if zone.pairs.iter().any(|pair| pair.p > MOST_ERRORS) {
             return Err(Stop::Refused(9));
         }
-        self.keep(zone, location)
+        self.keep(new)
     }
 
-    fn keep(&mut self, zone: Zone, location: usize) -> Result<(), Stop> {
-        let width = 1 + 2 * zone.pairs.len();
-        let slot = self.kept.len();
+    fn keep(&mut self, new: Kept) -> Result<(), Stop> {
+        let (numbers, slot) = (new.slot(), self.kept.len());
+        let width = numbers.len();
         if slot >= (self.store.len() / width).min(MOST_SLOTS) {
             return Err(Stop::Refused(10));
         }
-        let numbers = zone.pairs.iter().flat_map(|pair| [pair.m, pair.p]);
-        let numbers = std::iter::once(location as i64).chain(numbers);
         for (cell, n) in self.store[slot * width..].iter_mut().zip(numbers) {
             *cell = i32::try_from(n).expect("a kept number has 32 bits");
         }
-        self.at_location[location].push(slot);
-        self.kept.push((location, zone));
+        self.at_location[new.location].push(slot);
+        self.kept.push(new);
         Ok(())
     }
+
+    /// The edges from the first zone to one with this origin.
+    fn branch(&self, mut origin: Origin) -> Vec<usize> {
+        let mut edges = Vec::new();
+        while let Ok(edge) = usize::try_from(origin.edge) {
+            edges.push(edge);
+            origin = self.kept[origin.slot as usize].origin;
+        }
+        edges.reverse();
+        edges
+    }
+}
+
+/// Refusals 1 to 8 alone.
+pub fn refusal(bytes: &[u8]) -> Result<(), u8> {
+    Automaton::read(bytes).map(|_| ())
 }
 
 /// The program's answer for these bytes, with this store lent.
 pub fn search(bytes: &[u8], store: &mut [i32]) -> Outcome {
+    search_with_branch(bytes, store).0
+}
+
+/// The same, and where it is reached the edges of the search's branch to the target.
+pub fn search_with_branch(bytes: &[u8], store: &mut [i32]) -> (Outcome, Option<Vec<usize>>) {
     let automaton = match Automaton::read(bytes) {
         Ok(automaton) => automaton,
-        Err(number) => return Outcome::Refused(number),
+        Err(number) => return (Outcome::Refused(number), None),
     };
     let at_location = vec![Vec::new(); automaton.invariants.len()];
     let mut s = Search {
@@ -388,13 +444,12 @@ pub fn search(bytes: &[u8], store: &mut [i32]) -> Outcome {
     let end = s.run();
     let zones = s.kept.len();
     match (end, s.fraction.0) {
-        (Err(Stop::Refused(number)), _) => Outcome::Refused(number),
-        (Err(Stop::Reached), _) => Outcome::Reached { zones },
-        (Ok(()), None) => Outcome::HoldsAny { zones },
-        (Ok(()), Some((n, d))) => Outcome::Holds {
-            n: n / gcd(n, d),
-            d: d / gcd(n, d),
-            zones,
-        },
+        (Err(Stop::Refused(number)), _) => (Outcome::Refused(number), None),
+        (Err(Stop::Reached(origin)), _) => (Outcome::Reached { zones }, Some(s.branch(origin))),
+        (Ok(()), None) => (Outcome::HoldsAny { zones }, None),
+        (Ok(()), Some((n, d))) => {
+            let (n, d) = (n / gcd(n, d), d / gcd(n, d));
+            (Outcome::Holds { n, d, zones }, None)
+        }
     }
 }

@@ -1,8 +1,10 @@
-//! Document 01's cards that ask for a store of their own, by the proved search: each answer and the
-//! store that it leaves.
+//! Document 01's cards that ask for a store of their own, with document 02's slots, by the proved
+//! search: each answer and the store that it leaves.
 
 #[path = "../checks.rs"]
 mod checks;
+#[path = "../lengths.rs"]
+mod lengths;
 #[path = "../library.rs"]
 mod library;
 
@@ -12,10 +14,10 @@ use std::process::ExitCode;
 
 /// What the store has before, to see that the rest of it stands.
 const UNTOUCHED: i32 = -7;
-/// The numbers of a slot of two clocks: a location, and nine pairs.
-const SLOT: usize = 19;
-/// What A leaves in its only slot.
-const KEPT: &[i32] = &[0, 0, 0, 0, 0, 5, 1, 0, 0];
+/// The numbers of a slot of two clocks: a location, where the zone came from, and nine pairs.
+const SLOT: usize = lengths::slot_of(2);
+/// What A leaves in its only slot: its location, −1 and −1 as for any first zone, its pairs.
+const KEPT: &[i32] = &[0, -1, -1, 0, 0, 0, 0, 5, 1, 0, 0];
 
 /// The automaton's name; the store's numbers; the answer; the first numbers of the store, where 01 prints them,
 /// past which it is untouched.
@@ -27,9 +29,9 @@ type Case = (
 );
 
 const CASES: [Case; 6] = [
-    ("A", 8, Err(10), Some(&[])),
-    ("A", 9, Ok([1, 1, 1, 1]), Some(KEPT)),
-    ("A", 12, Ok([1, 1, 1, 1]), Some(KEPT)),
+    ("A", 10, Err(10), Some(&[])),
+    ("A", 11, Ok([1, 1, 1, 1]), Some(KEPT)),
+    ("A", 14, Ok([1, 1, 1, 1]), Some(KEPT)),
     ("E", 0, Ok([1, 2, 1, 0]), Some(&[])),
     ("K", 12 * SLOT, Err(10), None),
     ("K", 65_535 * SLOT, Err(9), None),
