@@ -27,6 +27,23 @@ extern "C" {
         answer: *mut u64,
         answer_len: usize,
     ) -> u32;
+    pub fn robustness_write_run(
+        automaton: *const u8,
+        automaton_len: usize,
+        store: *mut i32,
+        store_len: usize,
+        run: *mut i64,
+        run_len: usize,
+        answer: *mut u64,
+        answer_len: usize,
+    ) -> u32;
+    pub fn robustness_judge(
+        automaton: *const u8,
+        automaton_len: usize,
+        run: *const i64,
+        run_len: usize,
+        passes: *mut u64,
+    ) -> u32;
     pub fn robustness_make_empty(cache: *mut u8, cache_len: usize) -> u32;
     pub fn robustness_sound(cache: *const u8, cache_len: usize) -> u32;
     pub fn robustness_look_up(
@@ -92,6 +109,30 @@ pub fn search(automaton: &[u8], store: &mut [i32]) -> Result<Verdict, u32> {
     let (s, s_len) = (store.as_mut_ptr(), store.len());
     let number = unsafe { robustness_search(a, a_len, s, s_len, answer.as_mut_ptr(), LENT) };
     verdict(number, answer)
+}
+
+/// The search's verdict, with a run in its buffer where it is reached, or a refusal.
+pub fn write_run(automaton: &[u8], store: &mut [i32], run: &mut [i64]) -> Result<Verdict, u32> {
+    let mut answer = [BEFORE; LENT];
+    let (a, a_len) = (automaton.as_ptr(), automaton.len());
+    let (s, s_len) = (store.as_mut_ptr(), store.len());
+    let (r, r_len) = (run.as_mut_ptr(), run.len());
+    let t = answer.as_mut_ptr();
+    let number = unsafe { robustness_write_run(a, a_len, s, s_len, r, r_len, t, LENT) };
+    verdict(number, answer)
+}
+
+/// Whether the buffer begins with a run to the target, or a refusal.
+pub fn judge(automaton: &[u8], run: &[i64]) -> Result<bool, u32> {
+    let mut passes = BEFORE;
+    let (a, a_len) = (automaton.as_ptr(), automaton.len());
+    let number = unsafe { robustness_judge(a, a_len, run.as_ptr(), run.len(), &mut passes) };
+    if number > 0 {
+        assert_eq!(passes, BEFORE, "{number} leaves the number");
+        return Err(number);
+    }
+    assert!(passes <= 1, "{passes} is neither yes nor no");
+    Ok(passes == 1)
 }
 
 pub fn make_empty(cache: &mut [u8]) -> u32 {

@@ -1,5 +1,5 @@
-/* offices NORTH SOUTH: calls each function of the header, for two drawings of an automaton whose form has 100 bytes. Prints a line for
- * each call that tells more than its reply: the reply; the length, or whether it is filed; the answer; the form. What is as it was
+/* offices NORTH SOUTH: calls each function of the header but those of runs, for two drawings of an automaton whose form has 100 bytes. Prints
+ * a line for each call that tells more than its reply: the reply; the length, or whether it is filed; the answer; the form. What is as it was
  * before is a dash. */
 #include <inttypes.h>
 #include <stdio.h>

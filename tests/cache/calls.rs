@@ -4,8 +4,9 @@
 use crate::drawn::Dice;
 use crate::forms;
 use crate::library::{
-    robustness_canonical, robustness_consult, robustness_look_up, robustness_make_empty,
-    robustness_refusal, robustness_search, robustness_sound,
+    robustness_canonical, robustness_consult, robustness_judge, robustness_look_up,
+    robustness_make_empty, robustness_refusal, robustness_search, robustness_sound,
+    robustness_write_run,
 };
 use crate::oracle::{self, Verdict};
 
@@ -14,6 +15,8 @@ pub enum Call {
     Refusal,
     Canonical,
     Search,
+    WriteRun,
+    Judge,
     MakeEmpty,
     Sound,
     LookUp,
@@ -28,6 +31,8 @@ pub struct Lent {
     pub form: Vec<u8>,
     pub length: u64,
     pub store: Vec<i32>,
+    pub run: Vec<i64>,
+    pub passes: u64,
     pub filed: u64,
     pub answer: Vec<u64>,
 }
@@ -57,6 +62,8 @@ impl Lent {
             form: Vec::new(),
             length: random_number(dice),
             store: (0..store).map(|_| dice.range(1, u32::MAX) as i32).collect(),
+            run: Vec::new(),
+            passes: 7_777_777_777,
             filed: random_number(dice),
             answer: Vec::new(),
         };
@@ -69,6 +76,12 @@ impl Lent {
     /// With a buffer of another length for the form.
     pub fn forming(mut self, dice: &mut Dice, length: usize) -> Lent {
         self.form = random_bytes(dice, length);
+        self
+    }
+
+    /// With a buffer of these numbers for a run.
+    pub fn running(mut self, run: &[i64]) -> Lent {
+        self.run = run.to_vec();
         self
     }
 
@@ -107,6 +120,8 @@ pub struct Places {
     pub length: *mut u64,
     pub cache: *mut u8,
     pub store: *mut i32,
+    pub run: *mut i64,
+    pub passes: *mut u64,
     pub filed: *mut u64,
     pub answer: *mut u64,
 }
@@ -118,12 +133,15 @@ impl Places {
         let (f, f_len) = (self.form, lent.form.len());
         let (c, c_len) = (self.cache, lent.cache.len());
         let (s, s_len) = (self.store, lent.store.len());
+        let (r, r_len) = (self.run, lent.run.len());
         let (t, t_len) = (self.answer, lent.answer.len());
         unsafe {
             match call {
                 Call::Refusal => robustness_refusal(a, a_len),
                 Call::Canonical => robustness_canonical(a, a_len, f, f_len, self.length),
                 Call::Search => robustness_search(a, a_len, s, s_len, t, t_len),
+                Call::WriteRun => robustness_write_run(a, a_len, s, s_len, r, r_len, t, t_len),
+                Call::Judge => robustness_judge(a, a_len, r, r_len, self.passes),
                 Call::MakeEmpty => robustness_make_empty(c, c_len),
                 Call::Sound => robustness_sound(c, c_len),
                 Call::LookUp => {
@@ -177,6 +195,8 @@ pub fn proved(call: Call, lent: &mut Lent) -> Option<u32> {
     let mut length = Guarded::new(&[lent.length]);
     let mut cache = Guarded::new(&lent.cache);
     let mut store = Guarded::new(&lent.store);
+    let mut run = Guarded::new(&lent.run);
+    let mut passes = Guarded::new(&[lent.passes]);
     let mut filed = Guarded::new(&[lent.filed]);
     let mut answer = Guarded::new(&lent.answer);
     let places = Places {
@@ -185,6 +205,8 @@ pub fn proved(call: Call, lent: &mut Lent) -> Option<u32> {
         length: length.start(),
         cache: cache.start(),
         store: store.start(),
+        run: run.start(),
+        passes: passes.start(),
         filed: filed.start(),
         answer: answer.start(),
     };
@@ -194,6 +216,8 @@ pub fn proved(call: Call, lent: &mut Lent) -> Option<u32> {
     lent.length = length.part()?[0];
     lent.cache = cache.part()?;
     lent.store = store.part()?;
+    lent.run = run.part()?;
+    lent.passes = passes.part()?[0];
     lent.filed = filed.part()?[0];
     lent.answer = answer.part()?;
     Some(reply)
@@ -214,6 +238,7 @@ pub fn expected(call: Call, lent: &mut Lent) -> u32 {
             oracle::canonical(automaton, form).map(|form| lent.length = form.len() as u64)
         }
         Call::Search => oracle::searched(automaton, store).map(|verdict| lent.tell(verdict)),
+        Call::WriteRun | Call::Judge => unreachable!("tests/story holds them to document 02"),
         Call::MakeEmpty => oracle::make_empty(cache),
         Call::Sound => oracle::sound(cache),
         Call::LookUp => oracle::look_up(cache, automaton, form).map(|found| {

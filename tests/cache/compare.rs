@@ -4,6 +4,8 @@
 //! 'N passed, M failed'.
 
 mod automata;
+// Those of runs are for others.
+#[allow(dead_code)]
 mod calls;
 #[path = "../checks.rs"]
 mod checks;

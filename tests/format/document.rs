@@ -127,22 +127,24 @@ pub fn headings_with_offsets(text: &str) -> Vec<&str> {
 }
 
 // ---- lengths
-// The numbers of clocks, locations and edges, and an automaton's length.
+// The numbers of clocks, locations and edges, an automaton's length, and the jumps of a run.
 #[derive(Clone, Copy)]
 pub struct Sizes {
     pub n: usize,
     pub m: usize,
     pub edges: usize,
     pub length: usize,
+    pub jumps: usize,
 }
 
 impl Sizes {
-    pub const fn new(n: usize, m: usize, edges: usize, length: usize) -> Sizes {
+    pub const fn new(n: usize, m: usize, edges: usize, length: usize, jumps: usize) -> Sizes {
         Sizes {
             n,
             m,
             edges,
             length,
+            jumps,
         }
     }
 
@@ -180,6 +182,7 @@ impl Sizes {
             'm' => self.m,
             'E' => self.edges,
             'L' => self.length,
+            'k' => self.jumps,
             '(' => {
                 let sum = self.sum(left);
                 assert_eq!(left.next(), Some(')'), "a bracket is closed");

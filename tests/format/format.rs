@@ -9,6 +9,7 @@ mod forms;
 mod library;
 mod own;
 mod ranges;
+mod runs;
 
 use checks::Checks;
 use document::{dump, Dump};
@@ -28,6 +29,7 @@ struct Format {
     example: Vec<u8>,
     automaton: Dump,
     slot: Dump,
+    run: Dump,
     cache: Dump,
 }
 
@@ -173,7 +175,7 @@ impl Format {
 
 type Check = (&'static str, fn(&Format) -> bool);
 
-const CHECKS: [Check; 25] = [
+const CHECKS: [Check; 29] = [
     ("the tables add up", Format::tables_add_up),
     ("the ranges of lengths", Format::lengths_are_ranged),
     ("the versions", Format::versions_are_said),
@@ -208,12 +210,16 @@ const CHECKS: [Check; 25] = [
     ("no record has an edge twice", Format::repeats_are_unsound),
     ("the ranges of counts", Format::counts_are_ranged),
     ("the ranges of limits", Format::limits_are_ranged),
-    ("the refusals are 1 to 13", Format::refusals_are_listed),
+    ("the refusals are 1 to 14", Format::refusals_are_listed),
     ("refusals 1 to 8", Format::automata_are_refused),
     ("refusal 10", Format::store_is_full),
     ("refusal 11", Format::cache_is_bad),
     ("refusal 12", Format::cache_is_full),
     ("refusal 13", Format::form_is_too_long),
+    ("the run passes", Format::run_is_judged),
+    ("the run is written", Format::run_is_written),
+    ("no run is written", Format::no_run_is_written),
+    ("refusal 14", Format::run_is_too_long),
 ];
 
 fn main() -> ExitCode {
@@ -221,12 +227,14 @@ fn main() -> ExitCode {
     let mut file =
         || std::fs::read(arguments.next().expect("the document and an example")).expect("a file");
     let text = String::from_utf8(file()).expect("text");
-    let [automaton, slot, cache] = ["automaton", "slot", "cache"].map(|mark| dump(&text, mark));
+    let marks = ["automaton", "slot", "run", "cache"];
+    let [automaton, slot, run, cache] = marks.map(|mark| dump(&text, mark));
     let format = Format {
         text,
         example: file(),
         automaton,
         slot,
+        run,
         cache,
     };
     let mut checks = Checks::default();

@@ -3,9 +3,9 @@
 use crate::document::{headings_with_offsets, table, Dump, Row, Sizes};
 use crate::Format;
 
-pub const SMALLEST: Sizes = Sizes::new(1, 1, 0, 19);
-const LARGEST: Sizes = Sizes::new(8, 64, 256, 21_259);
-const OTHER: Sizes = Sizes::new(3, 5, 7, 320);
+pub const SMALLEST: Sizes = Sizes::new(1, 1, 0, 19, 0);
+const LARGEST: Sizes = Sizes::new(8, 64, 256, 21_259, 5_000);
+const OTHER: Sizes = Sizes::new(3, 5, 7, 320, 9);
 
 // The last row is the total, and has no offset.
 pub fn total(text: &str, heading: &str, sizes: Sizes) -> usize {
@@ -24,11 +24,11 @@ fn adds_up(rows: &[Row], sizes: Sizes) -> bool {
 }
 
 impl Format {
-    // Of the automaton in the dump.
+    // Of the automaton in the dump, and of the run, which has one jump.
     pub fn sizes(&self) -> Sizes {
         let a = self.automaton.bytes();
         let edges = a[9] as usize * 256 + a[10] as usize;
-        Sizes::new(a[5] as usize, a[6] as usize, edges, a.len())
+        Sizes::new(a[5] as usize, a[6] as usize, edges, a.len(), 1)
     }
 
     pub fn tables_add_up(&self) -> bool {
@@ -39,6 +39,7 @@ impl Format {
             "Edge",
             "Slot",
             "Pair",
+            "Run",
             "Cache",
             "Record",
         ];
@@ -66,11 +67,12 @@ impl Format {
 
     pub fn dumps_are_counted(&self) -> bool {
         let size = |heading| total(&self.text, heading, self.sizes());
-        [&self.automaton, &self.slot, &self.cache]
+        [&self.automaton, &self.slot, &self.run, &self.cache]
             .iter()
             .all(|d| d.is_counted())
             && self.automaton.bytes().len() == size("Automaton")
             && self.slot.numbers().len() == size("Slot")
+            && self.run.numbers().len() == size("Run")
             && self.cache.bytes().len() == size("Cache") + size("Record")
     }
 
@@ -111,6 +113,7 @@ impl Format {
                 .all(|at| self.fields_begin_lines("Limits", &self.automaton, *at))
             && self.fields_begin_lines("Edge", &self.automaton, edges)
             && self.fields_begin_lines("Slot", &self.slot, 0)
+            && self.fields_begin_lines("Run", &self.run, 0)
             && self.fields_begin_lines("Cache", &self.cache, 0)
             && self.fields_begin_lines("Record", &self.cache, total(&self.text, "Cache", sizes))
     }
@@ -119,6 +122,6 @@ impl Format {
         let numbers = table(&self.text, "Refusals")
             .into_iter()
             .map(|row| row[0].clone());
-        numbers.eq((1..=13).map(|number: u32| number.to_string()))
+        numbers.eq((1..=14).map(|number: u32| number.to_string()))
     }
 }

@@ -34,6 +34,7 @@ mod met;
 #[path = "../cache/oracle.rs"]
 mod oracle;
 mod pages;
+mod runs;
 #[path = "../search/oracle.rs"]
 mod search;
 #[path = "../search/spoilt.rs"]

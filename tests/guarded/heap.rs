@@ -1,6 +1,7 @@
 //! The calls that valgrind watches. Each slice is a block of the heap with nothing behind it, and
 //! what the library must not depend on is left uninitialised: the form's buffer, its length, the
-//! store, filed, the answer and the free bytes of a cache.
+//! store, the buffer for a run and what is behind one, filed, the answer and the free bytes of a
+//! cache.
 
 use crate::calls::{self, Call, Lent, Places};
 use crate::checks::Checks;
@@ -41,6 +42,18 @@ fn known(call: Call, cache: &[u8]) -> usize {
     }
 }
 
+/// The numbers of a run's buffer that a call may depend on: none to write it, else the count, and as many
+/// as that tells.
+fn known_of_run(call: Call, run: &[i64]) -> usize {
+    match run.first() {
+        Some(count) if call == Call::Judge => {
+            let told = usize::try_from(*count).unwrap_or(0);
+            told.clamp(1, run.len())
+        }
+        _ => 0,
+    }
+}
+
 /// Makes a call on the heap and compares it with the same call on initialised memory.
 pub fn compare(checks: &mut Checks, what: &str, call: Call, before: &Lent) {
     let mut after = before.clone();
@@ -50,6 +63,8 @@ pub fn compare(checks: &mut Checks, what: &str, call: Call, before: &Lent) {
     let mut length = Block::new(&[before.length], 0);
     let mut cache = Block::new(&before.cache, known(call, &before.cache));
     let mut store = Block::new(&before.store, 0);
+    let mut run = Block::new(&before.run, known_of_run(call, &before.run));
+    let mut passes = Block::new(&[before.passes], 0);
     let mut filed = Block::new(&[before.filed], 0);
     let mut answer = Block::new(&before.answer, 0);
     let places = Places {
@@ -58,6 +73,8 @@ pub fn compare(checks: &mut Checks, what: &str, call: Call, before: &Lent) {
         length: length.start(),
         cache: cache.start(),
         store: store.start(),
+        run: run.start(),
+        passes: passes.start(),
         filed: filed.start(),
         answer: answer.start(),
     };
@@ -69,10 +86,12 @@ pub fn compare(checks: &mut Checks, what: &str, call: Call, before: &Lent) {
         length.agrees(&[before.length], &[after.length]),
         cache.agrees(&before.cache, &after.cache),
         store.agrees(&before.store, &after.store),
+        run.agrees(&before.run, &after.run),
+        passes.agrees(&[before.passes], &[after.passes]),
         filed.agrees(&[before.filed], &[after.filed]),
         answer.agrees(&before.answer, &after.answer),
     ];
-    checks.check(parts == [true; 8], || {
+    checks.check(parts == [true; 10], || {
         format!("{what}, {call:?} on the heap: {got}, as before: {parts:?}")
     });
 }

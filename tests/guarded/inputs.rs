@@ -7,6 +7,7 @@ use crate::draft::recount;
 use crate::drawn::{self, Dice, Lean, Size};
 use crate::lengths::{self, used};
 use crate::library;
+use crate::runs;
 use crate::spoilt::spoilt;
 
 /// A store in which the searches of nearly all drawn automata end.
@@ -162,6 +163,7 @@ impl Inputs {
         let store = store(dice, &automaton);
         let (answer, room) = (dice.below(11), room(dice, &automaton));
         let lent = Lent::new(dice, &cache, &automaton, store);
-        lent.answering(dice, answer).forming(dice, room)
+        let lent = lent.answering(dice, answer).forming(dice, room);
+        lent.running(&runs::drawn(dice, &automaton))
     }
 }

@@ -19,6 +19,9 @@ fn read(places: &Places, lent: &mut Lent) {
         lent.cache.copy_from_slice(copy);
         let copy = slice::from_raw_parts(places.store, lent.store.len());
         lent.store.copy_from_slice(copy);
+        let copy = slice::from_raw_parts(places.run, lent.run.len());
+        lent.run.copy_from_slice(copy);
+        lent.passes = *places.passes;
         lent.filed = *places.filed;
         let copy = slice::from_raw_parts(places.answer, lent.answer.len());
         lent.answer.copy_from_slice(copy);
@@ -31,6 +34,8 @@ pub struct Memory {
     length: Pages,
     cache: Pages,
     store: Pages,
+    run: Pages,
+    passes: Pages,
     filed: Pages,
     answer: Pages,
 }
@@ -43,6 +48,8 @@ impl Memory {
             length: Pages::new(8),
             cache: Pages::new(MOST_BYTES),
             store: Pages::new(MOST_BYTES),
+            run: Pages::new(MOST_BYTES),
+            passes: Pages::new(8),
             filed: Pages::new(8),
             answer: Pages::new(MOST_BYTES),
         }
@@ -55,6 +62,8 @@ impl Memory {
             &mut self.length,
             &mut self.cache,
             &mut self.store,
+            &mut self.run,
+            &mut self.passes,
             &mut self.filed,
             &mut self.answer,
         ]
@@ -68,12 +77,17 @@ impl Memory {
             length: self.length.place(&[lent.length], guard),
             cache: self.cache.place(&lent.cache, guard),
             store: self.store.place(&lent.store, guard),
+            run: self.run.place(&lent.run, guard),
+            passes: self.passes.place(&[lent.passes], guard),
             filed: self.filed.place(&[lent.filed], guard),
             answer: self.answer.place(&lent.answer, guard),
         };
         self.automaton.seal();
         if let Call::Sound | Call::LookUp = call {
             self.cache.seal();
+        }
+        if call == Call::Judge {
+            self.run.seal();
         }
         let reply = places.call(call, lent);
         read(&places, lent);

@@ -9,10 +9,12 @@ use std::collections::BTreeMap;
 const LEAST: usize = 40;
 
 /// The replies to be met. Not 9: 65,535 zones have to be kept before it (tests/cache has it).
-const POSSIBLE: [(Call, &[u32]); 7] = [
+const POSSIBLE: [(Call, &[u32]); 9] = [
     (Call::Refusal, &[0, 1, 2, 3, 4, 5, 6, 7, 8]),
     (Call::Canonical, &[0, 1, 2, 3, 4, 5, 6, 7, 8, 13]),
     (Call::Search, &[0, 1, 2, 3, 4, 5, 6, 7, 8, 10]),
+    (Call::WriteRun, &[0, 1, 2, 3, 4, 5, 6, 7, 8, 10, 14]),
+    (Call::Judge, &[0, 1, 2, 3, 4, 5, 6, 7, 8]),
     (Call::MakeEmpty, &[0, 12]),
     (Call::Sound, &[0, 11]),
     (Call::LookUp, &[0, 1, 2, 3, 4, 5, 6, 7, 8, 11, 13]),
@@ -20,8 +22,9 @@ const POSSIBLE: [(Call, &[u32]); 7] = [
 ];
 
 /// What else is to be met: a slice of length 0, an automaton that is filed or comes to be, one that
-/// is not its own form, in a cache too, and a buffer with no byte more than the form.
-const OTHERS: [&str; 10] = [
+/// is not its own form, in a cache too, a buffer with no byte more than the form, a run that is
+/// written, passes or does not, also one whose count is past its buffer.
+const OTHERS: [&str; 18] = [
     "Refusal, no automaton",
     "Search, no store",
     "Sound, no cache",
@@ -32,6 +35,14 @@ const OTHERS: [&str; 10] = [
     "Canonical, another order or a repeat",
     "Canonical, no byte more",
     "Sound, another order",
+    "WriteRun, no run",
+    "WriteRun, a run",
+    "WriteRun, no number more",
+    "Judge, no run",
+    "Judge, passes",
+    "Judge, passes and is followed",
+    "Judge, a count past the buffer",
+    "Judge, does not pass",
 ];
 
 /// Whether the first record's automaton is not its own form.
@@ -60,8 +71,25 @@ fn others(call: Call, before: &Lent, after: &Lent) -> &'static [&'static str] {
         Call::LookUp if after.filed == 1 => &OTHERS[3..4],
         Call::Consult if after.cache != before.cache && none => &OTHERS[4..6],
         Call::Consult if after.cache != before.cache => &OTHERS[4..5],
+        Call::WriteRun if before.run.is_empty() => &OTHERS[10..11],
+        Call::WriteRun if after.run == before.run => &[],
+        Call::WriteRun if counts(after, |count, all| count == all) => &OTHERS[11..13],
+        Call::WriteRun => &OTHERS[11..12],
+        Call::Judge if before.run.is_empty() => &OTHERS[13..14],
+        Call::Judge if after.passes == 1 && counts(before, |count, all| count < all) => {
+            &OTHERS[14..16]
+        }
+        Call::Judge if after.passes == 1 => &OTHERS[14..15],
+        Call::Judge if after.passes > 1 => &[],
+        Call::Judge if counts(before, |count, all| count > all) => &OTHERS[16..18],
+        Call::Judge => &OTHERS[17..18],
         _ => &[],
     }
+}
+
+/// How the count that a buffer begins with goes with the numbers that are lent.
+fn counts(lent: &Lent, is_so: fn(i64, i64) -> bool) -> bool {
+    is_so(lent.run[0], lent.run.len() as i64)
 }
 
 #[derive(Default)]

@@ -1,4 +1,4 @@
-//! A turn: all seven functions, called on what a seed draws.
+//! A turn: all nine functions, called on what a seed draws.
 
 use crate::calls::{self, Call, Lent};
 use crate::checks::Checks;
@@ -15,10 +15,12 @@ use std::sync::atomic::{AtomicU64, Ordering};
 /// More than any turn takes: a call that goes round for ever is a fault too.
 const MOST_SECONDS: u32 = 30;
 
-const CALLS: [Call; 7] = [
+const CALLS: [Call; 9] = [
     Call::Refusal,
     Call::Canonical,
     Call::Search,
+    Call::WriteRun,
+    Call::Judge,
     Call::MakeEmpty,
     Call::Sound,
     Call::LookUp,
