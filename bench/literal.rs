@@ -1,5 +1,9 @@
 // Document 01's search in plain Rust, step for step, with document 02's slots, on an automaton that
 // is free of 1 to 8.
+
+// Each program takes some of it.
+#![allow(dead_code)]
+
 use crate::lengths::{slot, BEFORE_PAIRS};
 use crate::plain::{less, lowered, Fraction, Pair, Work, Zone, NO_LIMIT};
 
@@ -74,6 +78,24 @@ impl<'a> Search<'a> {
         s
     }
 
+    // The zone at the end of a branch: its successors alone, of which none is empty, kept or compared
+    // with another.
+    pub fn along(automaton: &'a [u8], branch: &[usize]) -> Zone {
+        let s = Search::of(automaton, 0);
+        let (zone, fraction) = ([Pair { m: 0, p: 0 }; 81], NO_LIMIT);
+        let mut w = Work { zone, fraction };
+        let mut empty = s.is_empty_in(&mut w, automaton[7] as usize);
+        for edge in branch {
+            let at = s.edge(*edge);
+            s.meet(&mut w, at + 3);
+            empty |= w.reduce(s.clocks + 1);
+            w.zone = s.reset(&w.zone, automaton[at + 2]);
+            empty |= s.is_empty_in(&mut w, automaton[at + 1] as usize);
+        }
+        assert!(!empty, "a branch of the search");
+        w.zone
+    }
+
     // The verdict, or a refusal.
     pub fn answer(&self) -> Result<Verdict, u32> {
         let zones = self.kept.len() as u64;
@@ -106,7 +128,7 @@ impl<'a> Search<'a> {
         let Kept { location, zone, .. } = self.kept[taken];
         let edges = u16::from_be_bytes([self.automaton[9], self.automaton[10]]) as usize;
         for i in 0..edges {
-            let at = 11 + 8 * self.clocks * self.automaton[6] as usize + i * (3 + 8 * self.clocks);
+            let at = self.edge(i);
             if self.automaton[at] as usize == location {
                 self.follow(at, zone, [taken as i32, i as i32]);
             }
@@ -114,6 +136,11 @@ impl<'a> Search<'a> {
                 return;
             }
         }
+    }
+
+    // Where an edge stands.
+    fn edge(&self, i: usize) -> usize {
+        11 + 8 * self.clocks * self.automaton[6] as usize + i * (3 + 8 * self.clocks)
     }
 
     // Along the edge that stands at a place of the automaton.
@@ -136,19 +163,24 @@ impl<'a> Search<'a> {
             zone,
             fraction: self.fraction,
         };
-        let at = 11 + 8 * self.clocks * location;
-        self.meet(&mut w, at);
-        let mut empty = w.reduce(self.clocks + 1);
-        if !empty {
-            for x in 1..=self.clocks {
-                w.zone[x * 9] = loosened(self.number(at + 8 * x - 4) as i64);
-            }
-            empty = w.reduce(self.clocks + 1);
-        }
+        let empty = self.is_empty_in(&mut w, location);
         self.fraction = w.fraction;
         if !empty {
             self.judge(location, &w.zone, origin);
         }
+    }
+
+    // Whether the zone is empty once it has entered a location.
+    fn is_empty_in(&self, w: &mut Work, location: usize) -> bool {
+        let at = 11 + 8 * self.clocks * location;
+        self.meet(w, at);
+        if w.reduce(self.clocks + 1) {
+            return true;
+        }
+        for x in 1..=self.clocks {
+            w.zone[x * 9] = loosened(self.number(at + 8 * x - 4) as i64);
+        }
+        w.reduce(self.clocks + 1)
     }
 
     fn judge(&mut self, location: usize, zone: &Zone, origin: Origin) {
