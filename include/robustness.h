@@ -1,10 +1,12 @@
-/* The search for the robustness of timed automata, and the cache of its verdicts (crate exports, `rt staticlib exports`).
+/* The search for the robustness of timed automata, the run by which it reaches, and the cache of its verdicts (crate exports,
+ * `rt staticlib exports`).
  *
  * An automaton is a string of bytes, document 01's card; a cache is one, document 01's shelf (docs/FORMAT.md). Any bytes may be
  * passed, and none need checking before. Each pointer comes with a length:
  *   automaton_len, cache_len   bytes
  *   form_len                   bytes, for the automaton's canonical form: automaton_len are always enough, and ROBUSTNESS_LONGEST
  *   store_len                  numbers of 32 bits, of which a slot takes ROBUSTNESS_SLOT(clocks) for each zone kept
+ *   run_len                    numbers of 64 bits, for a run: ROBUSTNESS_RUN of its jumps
  *   answer_len                 numbers of 64 bits, of which an answer has ROBUSTNESS_ANSWER; it may be smaller or larger, and 0 too
  * A pointer must be valid for its length, what may be written must overlap nothing else that is passed, and a pointer must not be
  * null, even where its length is 0.
@@ -13,9 +15,14 @@
  * that differs decides, and each stands once. Automata that differ only in order and repeats of edges have the same form, and its
  * runs are theirs. A cache files forms, and its verdict is the form's; a search takes an automaton as drawn.
  *
- * Each function gives back 0, or the number of a refusal. A refusal changes neither answer nor filed nor length nor the cache. Of the
- * store only 9 and 10 leave a changed one, with the zones kept so far. With 1 to 8 and 13 the form's buffer is as it was; with 0 and
- * any other refusal the form stands in it, and the bytes past the form are as they were. */
+ * A run is waits and jumps by turns, with a wait at both ends: its own count of numbers first, 2k + 2 for k jumps, then the time
+ * units of a wait, the number of an edge, counted from 0, a wait, and so on. It is in whole time units, and no limit is loosened.
+ * `4, 5, 0, 0` is: four numbers; wait 5, take edge 0, wait 0.
+ *
+ * Each function gives back 0, or the number of a refusal. A refusal changes neither answer nor filed nor length nor passes nor the run
+ * nor the cache. Of the store only 9, 10 and 14 leave a changed one: with 9 and 10 it has the zones kept so far, with 14 all that the
+ * search kept. With 1 to 8 and 13 the form's buffer is as it was; with 0 and any other refusal the form stands in it, and the bytes past
+ * the form are as they were. */
 #ifndef ROBUSTNESS_H
 #define ROBUSTNESS_H
 
@@ -42,7 +49,8 @@ enum robustness_reply {
     ROBUSTNESS_BAD_CACHE = 11,    /* the cache is not sound */
     ROBUSTNESS_CACHE_FULL = 12,   /* the cache has no room: lend it with more bytes behind those that are used, at least
                                      ROBUSTNESS_RECORD of the form's length. Or its used length would need more than four bytes */
-    ROBUSTNESS_FORM_SHORT = 13    /* form_len is less than the form has bytes, repeats dropped: lend a larger buffer */
+    ROBUSTNESS_FORM_SHORT = 13,   /* form_len is less than the form has bytes, repeats dropped: lend a larger buffer */
+    ROBUSTNESS_RUN_SHORT = 14     /* the target is reached, and run_len is less than the run has numbers: lend a larger buffer */
 };
 
 /* The numbers of an answer, by their place. As many are written as are lent; any behind the eighth are left alone. */
@@ -61,8 +69,12 @@ enum robustness_place {
 /* The kinds of a verdict: the forbidden location is reached with no error at all, or the automaton holds below an error. */
 enum robustness_kind { ROBUSTNESS_REACHED = 0, ROBUSTNESS_HOLDS = 1 };
 
-/* The numbers of a slot of the store, for an automaton of 1 to 8 clocks: 1 + 2(n + 1)^2. */
-#define ROBUSTNESS_SLOT(clocks) (1 + 2 * ((size_t)(clocks) + 1) * ((size_t)(clocks) + 1))
+/* The numbers of a slot of the store, for an automaton of 1 to 8 clocks: 3 + 2(n + 1)^2. They are the zone's location, the slot that it
+ * came from and the edge taken, both counted from 0 and both -1 for the first zone, and then its pairs, row by row. */
+#define ROBUSTNESS_SLOT(clocks) (3 + 2 * ((size_t)(clocks) + 1) * ((size_t)(clocks) + 1))
+/* The numbers of a run with so many jumps. A run that is written leaves a kept zone by each jump, and none twice, so that those for
+ * the zones kept, or for all slots of the store, are always enough. */
+#define ROBUSTNESS_RUN(jumps) (2 + 2 * (size_t)(jumps))
 /* The bytes of a cache: its header, which alone is an empty cache, and a record for each form, of a length that is at most
  * automaton_len. The first four say, the highest byte first, how many are used. */
 #define ROBUSTNESS_HEADER ((size_t)5)
@@ -81,6 +93,19 @@ uint32_t robustness_canonical(const uint8_t *automaton, size_t automaton_len, ui
  * order, so that another order may give another fraction; both are true. Refuses with 1 to 10. */
 uint32_t robustness_search(const uint8_t *automaton, size_t automaton_len, int32_t *store, size_t store_len,
                            uint64_t *answer, size_t answer_len);
+
+/* The search's answer and store, exactly as robustness_search has them, and where the answer is reached the run by which it is: its jumps
+ * are those that led the search to the target, its waits are this function's choice, and its last state is at the target.
+ * robustness_judge passes it. It stands at the beginning of the buffer, and the numbers behind it are as they were; where the automaton
+ * holds, all of them are. The search is made afresh, in the store that is lent here. Refuses with 1 to 10, and after a reached verdict
+ * with 14. */
+uint32_t robustness_write_run(const uint8_t *automaton, size_t automaton_len, int32_t *store, size_t store_len, int64_t *run,
+                              size_t run_len, uint64_t *answer, size_t answer_len);
+
+/* Whether the buffer begins with a run of the automaton that ends at the target: *passes becomes 1, or 0. Any numbers may be passed, and
+ * what stands behind the run does not matter. Refuses with 1 to 8. */
+uint32_t robustness_judge(const uint8_t *automaton, size_t automaton_len, const int64_t *run, size_t run_len,
+                          uint64_t *passes);
 
 /* Makes the cache empty. Refuses with 12 where fewer than ROBUSTNESS_HEADER bytes are lent. */
 uint32_t robustness_make_empty(uint8_t *cache, size_t cache_len);
