@@ -10,12 +10,12 @@ use zones::pair::Pair;
 use zones::reduction::Reduced;
 use zones::zone::Work;
 ghost use mathlib.Core.Path.{_≡_};
-ghost use Prim.Native.Nat.{suc, _*_, _<_};
+ghost use Prim.Native.Nat.{suc, _*_, _≤_, _<_};
 ghost use Rattle.runs.specs.Limits.{scale};
 ghost use Rattle.zones.specs.Ranges.{Sized, counts};
 ghost use Rattle.zones.specs.Settled.{Settled};
 ghost use Rattle.zones.specs.Successors.{meetOf};
-ghost use Rattle.zones.specs.Zones.{setOf, resetOf};
+ghost use Rattle.zones.specs.Zones.{setOf, home, resetOf};
 ghost use Rattle.automata.specs.Accepted.{Accepted};
 ghost use Rattle.automata.specs.Automata.{clocks, edges, locations, invariantOf};
 ghost use Rattle.search.specs.Exploring.{SoundZone};
@@ -43,6 +43,32 @@ fn guarded(automaton: &[u8], i: usize, z: [Pair; 81]) -> Reduced
     narrow(automaton, at, counts.clocks, w, false)
 }
 
+// The index whose row and column a has after a reset.
+fn home(marked: [bool; 9], a: usize) -> usize
+    requires { ⌜ a < 9 ⌝ }
+    ensures { λ r. ⌜ r ≡ home (setOf marked) a ⌝ }
+{
+    if marked[a] { 0 } else { a }
+}
+
+// The zone after a reset, place by place. The search's own reset works in place, and is left to the search: with a second caller the
+// compiler copies the search's squares once more a step.
+fn cleared(w: Work, size: usize, marked: [bool; 9]) -> Work
+    requires { ⌜ size ≤ 9 ⌝ }
+    ensures { λ r. ⌜ r ≡ resetOf size (setOf marked) w ⌝ }
+{
+    let old = w.zone;
+    let fraction = w.fraction;
+    let mut zone = old;
+    let last = size * 9;
+    let mut k = 0;
+    while k < last {
+        zone[k] = old[home(marked, k / 9) * 9 + home(marked, k % 9)];
+        k += 1;
+    }
+    Work { zone, fraction }
+}
+
 // A settled zone is reset, and meets the invariant of l.
 fn arrived(automaton: &[u8], l: usize, w: Work, resets: [bool; 9]) -> Reduced
     requires { ⌜ Accepted (now automaton) × (l < locations (now automaton)) ⌝ }
@@ -53,8 +79,7 @@ fn arrived(automaton: &[u8], l: usize, w: Work, resets: [bool; 9]) -> Reduced
     let counts = counts_of(automaton);
     let c = counts.clocks;
     let at = counts.invariant_at(l);
-    let cleared = w.reset(c + 1, resets);
-    narrow(automaton, at, c, cleared, true)
+    narrow(automaton, at, c, cleared(w, c + 1, resets), true)
 }
 
 // The zone crosses edge i.

@@ -18,7 +18,7 @@ few : (c : tie.After-counts-of) → c .counts-of .result .clocks ≤ 8
 few c = few-clocks _ (c .counts-of .ensures) (c .before .before .pre .0 .0)
 
 -- ---- with the clocks reset
-module _ (c : tie.After-reset) where
+module _ (c : tie.After-cleared) where
   abbrev start : tie.Start
   start = c .before .before .before .before
 
@@ -34,11 +34,11 @@ module _ (c : tie.After-reset) where
   abbrev size : ℕ
   size = suc (clocks (start .args .automaton .now))
 
-  cleared : c .reset .result ≡ resetOf size (setOf (start .args .resets)) (start .args .w)
-  cleared = reset-is _ n≤ _ (one-more size≡) (10 * counts) (omega arith) (omega arith) _ (c .reset .ensures)
+  reset≡ : c .cleared .result ≡ resetOf size (setOf (start .args .resets)) (start .args .w)
+  reset≡ = reset-is _ n≤ _ (one-more size≡) (10 * counts) (omega arith) (omega arith) _ (c .cleared .ensures)
 
-  ready : Sized (10 * counts) size (c .reset .result) × Settled size (c .reset .result)
-  ready = reset-enters _ n≤ _ (one-more size≡) (10 * counts) (omega arith) (omega arith) _ (c .reset .ensures) (start .pre .1)
+  ready : Sized (10 * counts) size (c .cleared .result) × Settled size (c .cleared .result)
+  ready = reset-enters _ n≤ _ (one-more size≡) (10 * counts) (omega arith) (omega arith) _ (c .cleared .ensures) (start .pre .1)
 
 narrow-requires : tie.Need-narrow-requires
 unfolding invariantOf
@@ -52,7 +52,7 @@ returns : tie.Need-returns
 unfolding invariantOf
 returns c =
     let reset = c .before in
-    meets _ _ (at≡ reset) (size≡ reset) (c .narrow .ensures) ∙ ap (meetOf _ _) (cleared reset)
+    meets _ _ (at≡ reset) (size≡ reset) (c .narrow .ensures) ∙ ap (meetOf _ _) (reset≡ reset)
 
 pub arrived-spec : {M : Type 1} → statement M
 arrived-spec =
