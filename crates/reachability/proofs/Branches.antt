@@ -5,7 +5,7 @@ use mathlib.Core.Path.{_≡_, refl, sym, subst}
 use mathlib.Core.Logic.{⊎-elim}
 use lib.ListN.{length}
 use Rattle.runs.specs.Runs.{System}
-use Rattle.reachability.specs.Search.{Result, zone, fracOf, Zones, Came, first-zone, by-edge, Node, Nth, State, reached, going, ended, first-node}
+use Rattle.reachability.specs.Search.{Result, zone, fracOf, Zones, Came, first-zone, by-edge, Node, Nth, State, reached, ended, first-node}
 use Rattle.reachability.specs.Search.{child, offer, nothing, begin, search}
 use Rattle.reachability.specs.Laws.{Stays}
 use Rattle.reachability.specs.Branches.{Branch, BranchOf, Branches, Arrived, pathOf}
@@ -79,7 +79,12 @@ module _ {Z F : Type 0} (A : System) (O : Zones Z F) (B : F → Type 0) where
       met = λ x o.
           let m = offer-met A O cap q c r x o in
           subst (λ ks. Arrived A O B ks x) (sym (m .same))
-          (record { node = c (m .met); came = m .came; there = m .there; branch = b (m .met) (m .after) (m .made) (subst (λ x. B (fracOf x)) (m .made) d) });
+          (record {
+            node = c (m .met);
+            came = m .came;
+            there = m .there;
+            branch = b (m .met) (m .after) (m .made) (subst (λ x. B (fracOf x)) (m .made) d);
+          });
     }
 
     starts : Branched (begin A O cap)

@@ -70,7 +70,8 @@ module _ {Z F : Type 0} (A : System) (O : Zones Z F) where
       where
         go : (ks : List (Node Z)) → drop next (q .kept) ≡ ks → Fine c′ (take-from A O c (suc left) next q)
             → ((k : Node Z) → Nth (q .kept) next k → Fine c′ (take-from A O c left (suc next) (expand A O c next k (A .edges) 0 q))
-            → take-from A O c′ left′ (suc next) (expand A O c next k (A .edges) 0 q) ≡ take-from A O c left (suc next) (expand A O c next k (A .edges) 0 q))
+            → take-from A O c′ left′ (suc next) (expand A O c next k (A .edges) 0 q)
+            ≡ take-from A O c left (suc next) (expand A O c next k (A .edges) 0 q))
             → take-from A O c′ (suc left′) next q ≡ take-from A O c (suc left) next q
         go [] d n ih = take-none A O c′ (suc left′) next q d ∙ sym (take-none A O c (suc left) next q d)
         go (k ∷ ks) d n ih =

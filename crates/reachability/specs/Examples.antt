@@ -1,6 +1,6 @@
 -- Searches of a small machine whose zones are numbers: what each comes to, with its kept zones, their paths, and the fraction.
 use Prim.Native.Nat.{ℕ, zero, suc, _+_, _-_, _*_}
-use mathlib.Core.List.{List, [], _∷_}
+use mathlib.Core.List.{List, [], _∷_, _++_}
 use mathlib.Core.Path.{_≡_}
 use lib.ListN.{getD}
 use lib.Dec.{ltb, leb}
@@ -54,10 +54,10 @@ abbrev pub three : List (Node ℕ)
 three = node 0 1 first-zone [] ∷ node 1 5 (by-edge 0 0) (0 ∷ []) ∷ node 1 7 (by-edge 0 1) (1 ∷ []) ∷ []
 
 abbrev pub four : List (Node ℕ)
-four = node 0 1 first-zone [] ∷ node 1 5 (by-edge 0 0) (0 ∷ []) ∷ node 1 7 (by-edge 0 1) (1 ∷ []) ∷ node 2 6 (by-edge 1 4) (0 ∷ 4 ∷ []) ∷ []
+four = three ++ (node 2 6 (by-edge 1 4) (0 ∷ 4 ∷ []) ∷ [])
 
 abbrev pub five : List (Node ℕ)
-five = node 0 1 first-zone [] ∷ node 1 5 (by-edge 0 0) (0 ∷ []) ∷ node 1 7 (by-edge 0 1) (1 ∷ []) ∷ node 2 6 (by-edge 1 4) (0 ∷ 4 ∷ []) ∷ node 2 8 (by-edge 2 4) (1 ∷ 4 ∷ []) ∷ []
+five = three ++ (node 2 6 (by-edge 1 4) (0 ∷ 4 ∷ []) ∷ node 2 8 (by-edge 2 4) (1 ∷ 4 ∷ []) ∷ [])
 
 abbrev pub kept : List (Node ℕ)
 kept = node 2 60 first-zone [] ∷ []

@@ -150,7 +150,8 @@ module _ (b : List ℕ) (ok : refusalOf b ≡ 0) (s s′ : List ℤ) (t : Turn) 
       unfolding runAnswer
       room-answer room l = rw (runAnswer, numbers-here, le-ltb room (length whole) (omega (arith, long, ek))) refl
 
-      module _ (r : List ℤ) {r′ : List ℤ} (l : 2 * k + 2 ≤ length r) (w : r′ ≡ written (runOf b (stateOf b (length s)) (cameOf o)) ++ drop (2 * k + 2) r) where
+      module _ (r : List ℤ) {r′ : List ℤ} (l : 2 * k + 2 ≤ length r)
+          (w : r′ ≡ written (runOf b (stateOf b (length s)) (cameOf o)) ++ drop (2 * k + 2) r) where
         pub room-buffer : r′ ≡ runBuffer b (length s) r
         unfolding runBuffer
         room-buffer =

@@ -3,3 +3,4 @@ pub mod Crossing
 pub mod Writing
 pub mod Told
 pub mod Branch
+pub mod Examples

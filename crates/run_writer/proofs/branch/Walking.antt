@@ -169,7 +169,8 @@ module _ {b : List ℕ} {amount : ℕ} {o : Origin} (st : Standing b amount o) w
         let ks = keptOf b amount in
         let k = a .jumps .parent in
         let here : pathOf ks (cameOf o) ≡ k .path ++ (a .edge ∷ []) =
-        ap (pathOf ks) came-is ∙ path-is (systemOf b) (zonesOf b) (λ f. meaningOf b .Exact f 1 0) ks (st .place) (st .node) (st .came) (st .branch) ∙ a .jumps .path in
+        ap (pathOf ks) came-is
+        ∙ path-is (systemOf b) (zonesOf b) (λ f. meaningOf b .Exact f 1 0) ks (st .place) (st .node) (st .came) (st .branch) ∙ a .jumps .path in
         let there : pathOf ks (cameOf (originOf (k .came))) ≡ k .path =
         ap (pathOf ks) (came-back (k .came))
         ∙ path-is (systemOf b) (zonesOf b) (λ f. meaningOf b .Exact f 1 0) ks (a .parent) k (k .came) (came e (a .parent) k (a .jumps .kept)) in

@@ -9,7 +9,8 @@ use Rattle.search.proofs.answers.Answers.{refused-answer, refused-store, count-
 use Rattle.search.specs.declared.outcome.Outcome.the-variants.{Reached}
 use Rattle.search.specs.Store.{mostSlots}
 use Rattle.run_writer.specs.Told.{Tells}
-use Rattle.run_writer.proofs.Answering.{refused-none, refused-tells, none-answer, none-buffer, going-none, going-tells, ended-none, ended-tells}
+use Rattle.run_writer.proofs.Answering.{refused-none, refused-tells, none-answer, none-buffer, going-none, going-tells}
+use Rattle.run_writer.proofs.Answering.{ended-none, ended-tells}
 use Rattle.run_writer.proofs.branch.Stepping.{jumps-few}
 use Rattle.run_writer.proofs.Answering.{stored, stands, short-answer, short-buffer, room-answer, room-buffer, room-tells}
 use borrow.Author.Needs.{needs}
@@ -99,7 +100,13 @@ returns-3 c =
     let none = going-none _ (ok (passed e)) _ _ _ h g in
     let found = searched-answer _ (ok (passed e)) _ _ _ h (c .answer .ensures) in (
       found ∙ none-answer _ _ none _,
-      (searched-store _ (ok (passed e)) _ _ _ h, (none-buffer _ _ none _, subst (Tells _ _ _) (sym found) (going-tells _ (ok (passed e)) _ _ _ h g _))),
+      (
+        searched-store _ (ok (passed e)) _ _ _ h,
+        (
+          none-buffer _ _ none _,
+          subst (Tells _ _ _) (sym found) (going-tells _ (ok (passed e)) _ _ _ h g _),
+        ),
+      ),
     )
 
 returns-4 : tie.Need-returns-4
@@ -129,7 +136,13 @@ returns-5 c =
     let none = ended-none _ (ok (passed e)) _ _ _ h g in
     let found = searched-answer _ (ok (passed e)) _ _ _ h (c .answer3 .ensures) in (
       found ∙ none-answer _ _ none _,
-      (searched-store _ (ok (passed e)) _ _ _ h, (none-buffer _ _ none _, subst (Tells _ _ _) (sym found) (ended-tells _ (ok (passed e)) _ _ _ h g _))),
+      (
+        searched-store _ (ok (passed e)) _ _ _ h,
+        (
+          none-buffer _ _ none _,
+          subst (Tells _ _ _) (sym found) (ended-tells _ (ok (passed e)) _ _ _ h g _),
+        ),
+      ),
     )
 
 pub write-run-spec : {M : Type 1} → statement M

@@ -26,8 +26,8 @@ use Rattle.search.proofs.exploration.Sounding.{node-sized, follow-sound
 use Rattle.search.proofs.successor.Stepping.{followed-none, followed, guard-scale, met-sized, met-settled, resets-are}
 
 -- an offer gives the same, by whatever name its location and its zone go
-pub gives-of : (b : List ℕ) (capacity : ℕ) (s : List ℤ) (turn : Turn) (s′ : List ℤ) (t : Turn) {l l′ : ℕ} {o : Origin} {r r′ : Reduced} → l ≡ l′ → r ≡ r′ →
-    Offers b capacity s turn l o r s′ t → Offers b capacity s turn l′ o r′ s′ t
+pub gives-of : (b : List ℕ) (capacity : ℕ) (s : List ℤ) (turn : Turn) (s′ : List ℤ) (t : Turn) {l l′ : ℕ} {o : Origin} {r r′ : Reduced} →
+    l ≡ l′ → r ≡ r′ → Offers b capacity s turn l o r s′ t → Offers b capacity s turn l′ o r′ s′ t
 gives-of b capacity s turn s′ t e f g p = rw (← e, ← f) (g p)
 
 module _ (b : List ℕ) (a : Accepted b) (i : ℕ) (hi : i < edges b) (w : Work) (z : SoundZone b (w .zone)) (fits : Fits32 (w .fraction)) where

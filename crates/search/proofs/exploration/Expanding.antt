@@ -113,7 +113,8 @@ module _ {b : List ℕ} {capacity j l : ℕ} {z : List Pair} {c : Came} {p : Lis
 
         rest : opened b capacity j l z c p (edges b - (i + 1)) (i + 1) next ≡ opened b capacity j l z c p (edges b) 0 q₀
         rest =
-            sym (one-edge b capacity j l z c p i _ hi (follow-on (systemOf b) (zonesOf b) capacity j (nodeAt l c p z) i (w .state) (w .live .goes) at))
+            sym (one-edge b capacity j l z c p i _ hi
+            (follow-on (systemOf b) (zonesOf b) capacity j (nodeAt l c p z) i (w .state) (w .live .goes) at))
             ∙ w .rest
 
         pub offered-length : capacity * slotLength (suc (clocks b)) ≤ length s₀ → length s′ ≡ length s₀

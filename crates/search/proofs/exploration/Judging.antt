@@ -104,10 +104,13 @@ module _ (b : List ℕ) (a : Accepted b) where
     part = lent-part s at ∙ ap (λ (i : ℕ). drop i s) e ∙ t .same
 
     pub read-counts : (m : ℕ) → m < n * n → pos 0 ≤ℤ getD (take (length s - at) (drop at s)) (pAt m) (pos 0)
-    read-counts m h = rw part (slot-counts n (headOf (k .at) (originOf (k .came))) (head-size (k .at) (originOf (k .came))) (k .zone) (t .rest) n≤ m h)
+    read-counts m h =
+        rw part (slot-counts n (headOf (k .at) (originOf (k .came))) (head-size (k .at) (originOf (k .came))) (k .zone) (t .rest) n≤ m h)
 
     pub read-zone : SoundNode b k → zoneOf n (take (length s - at) (drop at s)) ≡ k .zone
-    read-zone h = rw part (zone-of-slot n (headOf (k .at) (originOf (k .came))) (head-size (k .at) (originOf (k .came))) (k .zone) (t .rest) n≤ (h .ranged .size) (h .framed))
+    read-zone h =
+        let o = originOf (k .came) in
+        rw part (zone-of-slot n (headOf (k .at) o) (head-size (k .at) o) (k .zone) (t .rest) n≤ (h .ranged .size) (h .framed))
 
   pub node-bounded : (k : ZoneNode) → SoundNode b k → AllBounded scale lastCounts n (k .zone)
   node-bounded k h x y hx hy = record { m = h .ranged .bounded x y hx hy .m; p = omega (arith, h .ranged .bounded x y hx hy .p) }
@@ -250,7 +253,8 @@ module _ {b : List ℕ} {l : ℕ} {o : Origin} {w : Work} {capacity : ℕ} {turn
             new-reads = slot-readable _ (headOf l o) (head-size l o) (w .zone) _ (n≤ b a);
             old-reads = slot-readable _ (headOf (k .at) (originOf (k .came))) (head-size (k .at) (originOf (k .came))) (k .zone) _ (n≤ b a);
             new-bounded = slot-bounded _ (headOf l o) (head-size l o) (w .zone) _ scale lastCounts (n≤ b a) (entered .sized .ranged .bounded);
-            old-bounded = slot-bounded _ (headOf (k .at) (originOf (k .came))) (head-size (k .at) (originOf (k .came))) (k .zone) _ scale lastCounts (n≤ b a)
+            old-bounded = slot-bounded _ (headOf (k .at) (originOf (k .came))) (head-size (k .at) (originOf (k .came))) (k .zone) _
+                scale lastCounts (n≤ b a)
                 (node-bounded b a k (i .live .sound .nodes j k (m .nth)));
             inside = rw (t .same) at (hits .found hj .inside);
             fraction = entered .sized .narrow;
@@ -305,7 +309,13 @@ module _ (b : List ℕ) (capacity : ℕ) (s : List ℤ) (turn : Turn) (l : ℕ) 
         λ s₀ q d. rw e
         (subst (λ (x : ZoneState). Shown (suc (clocks b)) s₀ x s (record { count = turn .count; fraction = r .work .fraction; outcome = Reached o }))
         (sym (computes (systemOf b) (zonesOf b) (was-target (eq-eqb l (target b) g))))
-        (record { number = d .shown .number; store = d .shown .store; fraction = refl; outcome = met-by (p .told); honest = well-told (p .came) (p .told) }));
+        (record {
+          number = d .shown .number;
+          store = d .shown .store;
+          fraction = refl;
+          outcome = met-by (p .told);
+          honest = well-told (p .came) (p .told);
+        }));
   }
 
   pub gives-judged : r .empty ≡ false → {s′ : List ℤ} {t : Turn} →

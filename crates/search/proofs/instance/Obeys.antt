@@ -144,7 +144,8 @@ module _ (b : List ℕ) (a : Accepted b) where
     }
 
     -- a state of the successor comes from one of the zone
-    pub came-from : (s e : ℕ) → 0 < s → (y z : List Pair) (f g : Fraction) → Shaped c (workOf y noLimit) → Closed (suc c) (squareOf s e (workOf y noLimit)) →
+    pub came-from : (s e : ℕ) → 0 < s → (y z : List Pair) (f g : Fraction) → Shaped c (workOf y noLimit) →
+        Closed (suc c) (squareOf s e (workOf y noLimit)) →
         following b i y f ≡ zone z g → Below s e g → (v : ℕ → ℕ) → Has s e c (workOf z noLimit) v →
         (u : ℕ → ℕ) × Has s e c (workOf y f) u × Follows s e c G R I u v
     unfolding following

@@ -67,7 +67,8 @@ returns : tie.Need-returns Inv-loop μ-loop
 returns c =
     let loop = c .before in
     let start = loop .before .before .before in
-    all-places (setOf (start .args .marked)) (start .args .w) (start .args .size) (omega (arith, c .loop-test .left, loop .loop .inv .1)) (loop .loop .inv .2)
+    all-places (setOf (start .args .marked)) (start .args .w) (start .args .size)
+    (omega (arith, c .loop-test .left, loop .loop .inv .1)) (loop .loop .inv .2)
 
 pub cleared-spec : {M : Type 1} → statement M
 cleared-spec =

@@ -105,7 +105,8 @@ returns c =
     let pre = start edge .pre .0 in
     λ x p. record {
       shows = λ s₀ q₀ h. stops (loop edge .loop .inv .3 x p s₀ q₀ h) (within edge) (pre .0) (pre .2) (taken-is edge)
-          (leaves edge (from-here after .if1 .taken)) (after .before .before .along .ensures) (after .follow .ensures) (sym (c .before .has-ended .ensures) ∙ c .if2 .taken);
+          (leaves edge (from-here after .if1 .taken)) (after .before .before .along .ensures) (after .follow .ensures)
+          (sym (c .before .has-ended .ensures) ∙ c .if2 .taken);
     }
 
 loop-again : tie.Need-loop-again Inv-loop μ-loop

@@ -45,7 +45,8 @@ loop-again c =
       ⊎-elim (λ w. w .5 ∙ counts-in _ _ (l .inv .2) (w .0 .taken)) (λ w. w .2 ∙ counts-out _ _ (l .inv .2) (w .0 .left)) (c .if1 .came),
       l .inv .3,
       ⊎-elim (λ w. w .4 ∙ w .3 .ensures
-          ∙ encode-in _ _ (l .inv .3) _ (l .at) (w .0 .taken) (few _ _ (l .inv .2) (omega arith) (omega arith) (w .0 .taken) .1) (l .inv .2) (l .inv .4))
+          ∙ encode-in _ _ (l .inv .3) _ (l .at) (w .0 .taken)
+          (few _ _ (l .inv .2) (omega arith) (omega arith) (w .0 .taken) .1) (l .inv .2) (l .inv .4))
           (λ w. w .1 ∙ encode-out _ _ (l .inv .3) _ (l .at) (w .0 .left) (l .inv .4)) (c .if1 .came),
     )
 
