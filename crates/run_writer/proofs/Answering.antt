@@ -38,6 +38,7 @@ use Rattle.run_writer.specs.Crossing.{witnessesOf}
 use Rattle.run_writer.specs.Told.{Written, Tells}
 use Rattle.run_writer.specs.Writing.{runOf, numbersOf, runNumbers, runAnswer, runBuffer}
 use Rattle.run_writer.proofs.Witnessing.{witness-laws}
+use Rattle.run_writer.proofs.branch.Stepping.{jumps-most}
 
 -- ---- how long a run is that is written
 turns-length : {xs : List Step} → Turns xs → length (numbers xs) ≡ 2 * length (jumps xs) + 1
@@ -175,6 +176,7 @@ module _ (b : List ℕ) (ok : refusalOf b ≡ 0) (s s′ : List ℤ) (t : Turn) 
         room-tells = rw (answer-is met) (record {
           came = cameOf o;
           met = met;
+          few = jumps-most stored stands;
           count = long;
           rest = drop (2 * k + 2) r;
           begins = w;

@@ -1,5 +1,5 @@
 -- What holds of the waits that were written: "with them this is such a run, ending at the target".
-use Prim.Native.Nat.{ℕ, _+_, _*_}
+use Prim.Native.Nat.{ℕ, _+_, _*_, _≤_}
 use mathlib.Core.List.{List, _++_}
 use mathlib.Core.Path.{_≡_}
 use lib.IntN.{ℤ}
@@ -21,6 +21,8 @@ pub record Written (b : List ℕ) (amount : ℕ) (run : List ℤ) : Type 0 where
   -- the zone that met the target came so
   pub came : Came
   pub met : stateOf b amount .outcome ≡ ended (reached came)
+  -- there are no more jumps than kept zones
+  pub few : length (pathOf (stateOf b amount .kept) came) ≤ length (stateOf b amount .kept)
   -- "It begins with its own count of numbers, 2k + 2 for k jumps."
   pub count : length (written (runOf b (stateOf b amount) came)) ≡ 2 * length (pathOf (stateOf b amount .kept) came) + 2
   -- the buffer begins with it

@@ -104,5 +104,8 @@ module _ {b : List ℕ} {amount : ℕ} {s : List ℤ} (e : Ended b amount s) whe
       go true h ih = omega (arith, fewer e st h refl, ih (originBefore b amount o) (next e st h refl) (omega (arith, nearer e st h refl)))
       go false h ih = omega (arith, none-left st h)
 
+  pub jumps-most : {o : Origin} → Standing b amount o → jumpsTo b amount o ≤ length (keptOf b amount)
+  jumps-most {o} st = omega (arith, jumps-left (st .place) o st (left-most st), st .most)
+
   pub jumps-few : {o : Origin} → Standing b amount o → jumpsTo b amount o ≤ mostSlots
-  jumps-few {o} st = omega (arith, jumps-left (st .place) o st (left-most st), st .most, few e)
+  jumps-few st = omega (arith, jumps-most st, few e)
