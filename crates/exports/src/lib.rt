@@ -24,7 +24,11 @@ ghost use Rattle.cache.specs.Drawn.{lookUpIn, consultAnswer, consultCache, cons
 ghost use Rattle.canonical.specs.Writing.{formAnswer, formBuffer};
 ghost use Rattle.exports.specs.Replies.{verdictNumbers, over, answerNumber, told, lookupNumber, filedTold, lookupTold, soundNumber};
 ghost use Rattle.exports.specs.Replies.{formNumber, formTold, judgementNumber, passesTold};
+ghost use mathlib.Core.Logic.{_↔_};
+ghost use Rattle.run_judge.specs.declared.judgement.Judgement.the-variants.{Yes};
 ghost use Rattle.run_judge.specs.Judging.{judgementOf};
+ghost use Rattle.run_judge.specs.Passing.{Passes};
+ghost use Rattle.run_writer.specs.Told.{Tells};
 ghost use Rattle.run_writer.specs.Writing.{runAnswer, runBuffer};
 
 // What is told of a verdict: kind, n, d, zones; then exact n, exact d, again and inside, which are 0 until later changes have them.
@@ -140,7 +144,7 @@ pub extern "C" fn robustness_search(automaton: &[u8], store: &mut [i32], answer:
     tell(search(automaton, store), answer)
 }
 
-// The same, and where the target is reached, a run that ends there.
+// The same, or 14; and where the answer is reached, a run that ends at the target.
 #[no_mangle]
 pub extern "C" fn robustness_write_run(
     automaton: &[u8],
@@ -153,6 +157,8 @@ pub extern "C" fn robustness_write_run(
     ensures { λ r. ⌜ now (run .exit) ≡ runBuffer (now (automaton .entry)) (length (now (store .entry))) (now (run .entry)) ⌝ }
     ensures { λ r. ⌜ now (answer .exit)
         ≡ told (runAnswer (now (automaton .entry)) (length (now (store .entry))) (length (now (run .entry)))) (now (answer .entry)) ⌝ }
+    ensures { λ r. ⌜ Tells (now (automaton .entry)) (length (now (store .entry))) (now (run .exit))
+        (runAnswer (now (automaton .entry)) (length (now (store .entry))) (length (now (run .entry)))) ⌝ }
 {
     tell(write_run(automaton, store, run), answer)
 }
@@ -162,6 +168,7 @@ pub extern "C" fn robustness_write_run(
 pub extern "C" fn robustness_judge(automaton: &[u8], run: &[i64], passes: &mut u64) -> u32
     ensures { λ r. ⌜ r ≡ judgementNumber (judgementOf (now (automaton .entry)) (now (run .entry))) ⌝ }
     ensures { λ r. ⌜ now (passes .exit) ≡ passesTold (judgementOf (now (automaton .entry)) (now (run .entry))) (now (passes .entry)) ⌝ }
+    ensures { λ r. ⌜ (judgementOf (now (automaton .entry)) (now (run .entry)) ≡ Yes) ↔ Passes (now (automaton .entry)) (now (run .entry)) ⌝ }
 {
     tell_judgement(judge(automaton, run), passes)
 }

@@ -5,7 +5,7 @@ use mathlib.Core.Path.{_≡_, refl, sym, ap, _∙_, subst}
 use lib.ListN.{length, drop, length-append}
 use native.Mathlib.Omega.{arith}
 use Rattle.runs.specs.Runs.{System, Step, wait, jump, jumps, Stand, first, after, last, Steps, Run}
-use Rattle.runs.specs.Written.{Turns, alone, then}
+use Rattle.runs.specs.Written.{ByTurns, alone, then}
 use Rattle.reachability.specs.Search.{zone, Zones, Came, first-zone, by-edge, Node, Nth, reached, ended, search}
 use Rattle.reachability.specs.Meaning.{Meaning}
 use Rattle.reachability.specs.Laws.{Laws}
@@ -27,7 +27,7 @@ module _ {Z F : Type 0} (A : System) (O : Zones Z F) (M : Meaning A Z F) (s e : 
 
   -- what follows a wait that ends at l with v: jumps and waits by turns, made from there, along p to the target
   record Follows (l : ℕ) (v : W .S) (p : List ℕ) (xs : List Step) : Type 0 where
-    turns : (t : ℕ) → Turns (wait t ∷ xs)
+    turns : (t : ℕ) → ByTurns (wait t ∷ xs)
     steps : Steps A s e (stand l v) xs
     takes : jumps xs ≡ p
     there : last A (stand l v) xs .at ≡ A .target

@@ -4,7 +4,7 @@ use mathlib.Core.List.{List, [], _∷_}
 use mathlib.Core.Path.{_≡_}
 use lib.ListN.{length, drop}
 use Rattle.runs.specs.Runs.{System, Step, wait, jump, jumps, first, last, Run}
-use Rattle.runs.specs.Written.{Turns}
+use Rattle.runs.specs.Written.{ByTurns}
 use Rattle.reachability.specs.Search.{zone, Zones, Came, first-zone, by-edge, Node}
 use Rattle.reachability.specs.Meaning.{Meaning}
 use Rattle.reachability.specs.Branches.{pathOf}
@@ -64,7 +64,7 @@ module _ {Z F : Type 0} (A : System) (O : Zones Z F) (M : Meaning A Z F) (W : Wi
 
 -- ---- what holds of the steps: a run of the form of document 02 along the path, and its last state is at the target
 pub record RunAlong (A : System) (s e : ℕ) (p : List ℕ) (xs : List Step) : Type 0 where
-  pub turns : Turns xs
+  pub turns : ByTurns xs
   pub run : Run A s e xs
   pub takes : jumps xs ≡ p
   pub there : last A (first A) xs .at ≡ A .target

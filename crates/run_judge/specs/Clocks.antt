@@ -33,7 +33,7 @@ unfoldable pub resetBy : (ℕ → Bool) → ℕ → List ℕ → List ℕ
 resetBy R zero c = c
 resetBy R (suc k) c = cond (R k) (set (resetBy R k c) k 0) (resetBy R k c)
 
--- marks by clock from 1, counted from 0
+-- whether clock x + 1 is marked; marks stand by clock from 1
 abbrev pub markedIn : List Bool → ℕ → Bool
 markedIn marks x = getD marks (suc x) false
 

@@ -42,6 +42,6 @@ abbrev pub answer : Bool → Judgement
 answer true = Yes
 answer false = No
 
--- "refuses by 1 to 8, and says yes exactly when the buffer begins with a run": this is `judged` of proofs/passing/Passing
+-- "refuses by 1 to 8", else yes or no. That yes is said exactly of runs is the second clause of `judge`, by `Passes`
 unfoldable pub judgementOf : List ℕ → List ℤ → Judgement
 judgementOf b r = cond (eqb (refusalOf b) 0) (answer (passesTo b r (countOf (getD r 0 (pos 0)) (length r)))) (Refused (refusalOf b))

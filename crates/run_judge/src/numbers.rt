@@ -31,7 +31,7 @@ pub(crate) fn number_at(run: &[i64], at: usize) -> u64
     number(run[at])
 }
 
-// The count that a run begins with, or 0 where there are not so many numbers.
+// The count that a run begins with, or 0 where it is negative or there are fewer numbers.
 fn count(z: i64, length: usize) -> usize
     ensures { λ r. ⌜ r ≡ countOf z length ⌝ }
 {

@@ -19,7 +19,7 @@ use Rattle.reachability.proofs.Witnesses.{run-back}
 use Rattle.run_judge.specs.Passing.{Passes}
 use Rattle.run_judge.proofs.passing.Passing.{passes-judged}
 use Rattle.runs.specs.Runs.{Step, wait, jump, jumps}
-use Rattle.runs.specs.Written.{Turns, alone, then, numbers, written}
+use Rattle.runs.specs.Written.{ByTurns, alone, then, numbers, written}
 use Rattle.search.specs.declared.outcome.Outcome.the-variants.{Going, Reached, Refused}
 use Rattle.search.specs.declared.outcome.Turn.{Turn}
 use Rattle.search.specs.declared.verdict.Answer.{Answer}
@@ -33,19 +33,19 @@ use Rattle.search.specs.Store.{originOf, mostSlots, capacityOf}
 use Rattle.search.proofs.answers.Answers.{answer-accepted, answer-refused}
 use Rattle.search.proofs.instance.Obeys.{laws}
 use Rattle.slots.specs.declared.slot.Origin.{Origin}
-use Rattle.run_writer.specs.Branch.{keptOf, Ended, Standing, jumpsTo}
+use Rattle.run_writer.specs.Branch.{keptOf, Ended, Standing, jumpsBefore}
 use Rattle.run_writer.specs.Crossing.{witnessesOf}
 use Rattle.run_writer.specs.Told.{Written, Tells}
-use Rattle.run_writer.specs.Writing.{runOf, numbersOf, runNumbers, runAnswer, runBuffer}
+use Rattle.run_writer.specs.Writing.{runOf, outcomeNumbers, runNumbers, runAnswer, runBuffer}
 use Rattle.run_writer.proofs.Witnessing.{witness-laws}
 use Rattle.run_writer.proofs.branch.Stepping.{jumps-most}
 
 -- ---- how long a run is that is written
-turns-length : {xs : List Step} → Turns xs → length (numbers xs) ≡ 2 * length (jumps xs) + 1
+turns-length : {xs : List Step} → ByTurns xs → length (numbers xs) ≡ 2 * length (jumps xs) + 1
 turns-length (alone t) = omega arith
 turns-length (then t i h) = omega (arith, turns-length h)
 
-pub written-length : {xs : List Step} → Turns xs → length (written xs) ≡ 2 * length (jumps xs) + 2
+pub written-length : {xs : List Step} → ByTurns xs → length (written xs) ≡ 2 * length (jumps xs) + 2
 written-length h = omega (arith, turns-length h)
 
 -- ---- where there is nothing to write
@@ -72,9 +72,9 @@ module _ (b : List ℕ) (ok : refusalOf b ≡ 0) (s s′ : List ℤ) (t : Turn) 
   abbrev amount : ℕ
   amount = length s
 
-  numbers-are : {x : Outcome} → stateOf b (length s) .outcome ≡ x → runNumbers b (length s) ≡ numbersOf b (stateOf b (length s)) x
+  numbers-are : {x : Outcome} → stateOf b (length s) .outcome ≡ x → runNumbers b (length s) ≡ outcomeNumbers b (stateOf b (length s)) x
   unfolding runNumbers
-  numbers-are e = rw (runNumbers, eq-eqb (refusalOf b) 0 ok) (ap (numbersOf b (stateOf b amount)) e)
+  numbers-are e = rw (runNumbers, eq-eqb (refusalOf b) 0 ok) (ap (outcomeNumbers b (stateOf b amount)) e)
 
   answer-is : {x : Outcome} → stateOf b (length s) .outcome ≡ x
       → searchAnswer b (length s) ≡ answerOf x (stateOf b (length s) .frac) (length (stateOf b (length s) .kept))
@@ -83,7 +83,7 @@ module _ (b : List ℕ) (ok : refusalOf b ≡ 0) (s s′ : List ℤ) (t : Turn) 
 
   -- the search went to its end, or was refused
   pub going-none : t .outcome ≡ Going → runNumbers b (length s) ≡ []
-  unfolding outcomeOf numbersOf
+  unfolding outcomeOf outcomeNumbers
   going-none g = numbers-are (sym (h .outcome) ∙ ap outcomeOf g)
 
   pub going-tells : t .outcome ≡ Going → (run : List ℤ) → Tells b (length s) run (searchAnswer b (length s))
@@ -91,7 +91,7 @@ module _ (b : List ℕ) (ok : refusalOf b ≡ 0) (s s′ : List ℤ) (t : Turn) 
   going-tells g run = rw (answer-is (sym (h .outcome) ∙ ap outcomeOf g)) tt
 
   pub ended-none : {k : ℕ} → t .outcome ≡ Refused k → runNumbers b (length s) ≡ []
-  unfolding outcomeOf numbersOf
+  unfolding outcomeOf outcomeNumbers
   ended-none g = numbers-are (sym (h .outcome) ∙ ap outcomeOf g)
 
   pub ended-tells : {k : ℕ} → t .outcome ≡ Refused k → (run : List ℤ) → Tells b (length s) run (searchAnswer b (length s))
@@ -130,13 +130,13 @@ module _ (b : List ℕ) (ok : refusalOf b ≡ 0) (s s′ : List ℤ) (t : Turn) 
     whole = written (runOf b (stateOf b (length s)) (cameOf o))
 
     numbers-here : runNumbers b (length s) ≡ written (runOf b (stateOf b (length s)) (cameOf o))
-    unfolding numbersOf
+    unfolding outcomeNumbers
     numbers-here = numbers-are met
 
-    long : length (written (runOf b (stateOf b (length s)) (cameOf o))) ≡ 2 * jumpsTo b (length s) o + 2
+    long : length (written (runOf b (stateOf b (length s)) (cameOf o))) ≡ 2 * jumpsBefore b (length s) o + 2
     long = written-length (along .turns) ∙ ap (λ (p : List ℕ). 2 * length p + 2) (along .takes)
 
-    module _ {k : ℕ} (ek : k ≡ jumpsTo b (length s) o) where
+    module _ {k : ℕ} (ek : k ≡ jumpsBefore b (length s) o) where
       -- there is no room for it
       pub short-answer : (room : ℕ) → room < 2 * k + 2 → answers.Refused 14 ≡ runAnswer b (length s) room
       unfolding runAnswer

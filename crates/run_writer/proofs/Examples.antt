@@ -10,7 +10,7 @@ use Rattle.reachability.specs.Witnesses.{backTo, lastState}
 use Rattle.search.specs.Answers.{answerOf, searchAnswer, stateAnswer}
 use Rattle.search.specs.Instance.{entering, following, overcounted, resultOf}
 use Rattle.search.specs.Store.{capacityOf}
-use Rattle.witness.specs.Witnesses.{stateOf, waitTo, leastTo, backOf, landingOf}
+use Rattle.witness.specs.Witnesses.{placesOf, waitTo, leastTo, backOf, landingOf}
 use Rattle.zones.specs.Containment.{countTo, larger}
 use Rattle.zones.specs.Fractions.{loweredBy}
 use Rattle.zones.specs.Pairs.{sumOf, isLess, thresholdOf, smallerOf}
@@ -19,13 +19,13 @@ use Rattle.zones.specs.Successors.{andThen, meetOf, enterOf, followOf}
 use Rattle.zones.specs.Zones.{pairAt, firstWork, lowerAt, meetUpper, meetClock, meetLimits, raiseLimits, home, resetPlaces, resetOf}
 use Rattle.run_writer.specs.Crossing.{backAlong, landingAlong}
 use Rattle.run_writer.specs.Examples.{AllRight}
-use Rattle.run_writer.specs.Writing.{numbersOf, runNumbers, runAnswer, runBuffer}
+use Rattle.run_writer.specs.Writing.{outcomeNumbers, runNumbers, runAnswer, runBuffer}
 
 pub all-right : AllRight
 unfolding edgeIn firsts guardOf inByte invariantIn invariantOf limitsAt resetSet resetsOf outOfRangeAt refusalOf some be16At be32At pathOf
     find judge offer follow expand take-from search backTo lastState answerOf searchAnswer stateAnswer entering following overcounted resultOf
-    capacityOf stateOf waitTo leastTo backOf landingOf countTo larger loweredBy sumOf isLess thresholdOf smallerOf
+    capacityOf placesOf waitTo leastTo backOf landingOf countTo larger loweredBy sumOf isLess thresholdOf smallerOf
     relaxed rowSteps roundSteps emptyIn afterMiddle reduceSteps andThen meetOf enterOf followOf
     pairAt firstWork lowerAt meetUpper meetClock meetLimits raiseLimits home resetPlaces resetOf
-    backAlong landingAlong numbersOf runNumbers runAnswer runBuffer
+    backAlong landingAlong outcomeNumbers runNumbers runAnswer runBuffer
 all-right = record { told = refl; run = refl; refused = refl; untouched = refl; full = refl; none = refl; here = refl }

@@ -28,7 +28,7 @@ use Rattle.search.specs.Instance.{workOf, following, zonesOf, meaningOf, Inside
 use Rattle.search.proofs.instance.Obeys.{came-from, Jumped, jumped, laws}
 use Rattle.witness.specs.declared.Back.{Back}
 use Rattle.witness.specs.Laws.{SteppedBack, Reached}
-use Rattle.witness.specs.Witnesses.{clocksOf, stateOf, lessBound, waitTo, earlierOf, stateBefore, backOf}
+use Rattle.witness.specs.Witnesses.{clocksOf, placesOf, lessBound, waitTo, earlierOf, stateBefore, backOf}
 use Rattle.witness.proofs.Steps.{live-law, step-back-law, landing-law}
 use Rattle.run_writer.specs.Crossing.{Crosses, arrivedBy, guardedBy, backAlong, landingAlong, witnessesOf}
 
@@ -59,7 +59,7 @@ cleared-wait v a zero = refl
 cleared-wait v a (suc k) = λ i. max (cleared-wait v a k i) (lessBound (cleared-clock v k i) (pairAt a (suc k) 0 .m))
 
 cleared-earlier : (v : List ℕ) (t k : ℕ) → earlierOf (cleared v) t k ≡ earlierOf v t k
-unfolding stateOf
+unfolding placesOf
 cleared-earlier v t zero = refl
 cleared-earlier v t (suc k) = λ i. set (cleared-earlier v t k i) (suc k) (cleared-clock v k i - t)
 

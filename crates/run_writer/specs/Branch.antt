@@ -45,5 +45,5 @@ unfoldable pub zoneBefore : List ℕ → ℕ → Origin → List Pair
 zoneBefore b amount o = elim (drop (up (o .parent)) (keptOf b amount)) [ [] ↦ [] | k ∷ more ↦ k .zone ]
 
 -- how many jumps lead there
-abbrev pub jumpsTo : List ℕ → ℕ → Origin → ℕ
-jumpsTo b amount o = length (pathOf (keptOf b amount) (cameOf o))
+abbrev pub jumpsBefore : List ℕ → ℕ → Origin → ℕ
+jumpsBefore b amount o = length (pathOf (keptOf b amount) (cameOf o))

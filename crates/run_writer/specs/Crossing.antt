@@ -10,7 +10,7 @@ use Rattle.runs.specs.Timed.{listed}
 use Rattle.search.specs.Exploring.{SoundZone}
 use Rattle.search.specs.Instance.{workOf}
 use Rattle.witness.specs.declared.Back.{Back}
-use Rattle.witness.specs.Laws.{guardMet, arrived, Live}
+use Rattle.witness.specs.Laws.{guardMet, arrived, BothLive}
 use Rattle.witness.specs.Witnesses.{clocksOf, backOf, landingOf}
 use Rattle.zones.specs.declared.pair.Pair.{Pair}
 use Rattle.zones.specs.declared.reduction.Reduced.{Reduced}
@@ -33,7 +33,7 @@ crossingOf b i z =
 pub record Crosses (b : List ℕ) (i : ℕ) (z : List Pair) : Type 0 where
   pub edge : i < edges b
   pub sound : SoundZone b z
-  pub live : Live (clocks b) (guardOf b i) (resetsOf b i) (invariantOf b (to b i)) (workOf z noLimit)
+  pub live : BothLive (clocks b) (guardOf b i) (resetsOf b i) (invariantOf b (to b i)) (workOf z noLimit)
 
 -- the step back from a state v of the successor, and a state in which the edge arrives
 unfoldable pub backAlong : List ℕ → ℕ → List Pair → List ℕ → Back

@@ -21,13 +21,13 @@ abbrev pub runOf : List ℕ → ZoneState → Came → List Step
 runOf b q c = runTo (witnessesOf b) (q .kept) c
 
 -- the numbers to be written: the run to the zone that met the target, or none
-unfoldable pub numbersOf : List ℕ → ZoneState → Outcome → List ℤ
-numbersOf b q going = []
-numbersOf b q (ended (reached c)) = written (runOf b q c)
-numbersOf b q (ended (refused k)) = []
+unfoldable pub outcomeNumbers : List ℕ → ZoneState → Outcome → List ℤ
+outcomeNumbers b q going = []
+outcomeNumbers b q (ended (reached c)) = written (runOf b q c)
+outcomeNumbers b q (ended (refused k)) = []
 
 unfoldable pub runNumbers : List ℕ → ℕ → List ℤ
-runNumbers b amount = cond (eqb (refusalOf b) 0) (numbersOf b (stateOf b amount) (stateOf b amount .outcome)) []
+runNumbers b amount = cond (eqb (refusalOf b) 0) (outcomeNumbers b (stateOf b amount) (stateOf b amount .outcome)) []
 
 -- "Turned away: 14, run buffer too short, after a reached verdict, buffer untouched." The store is of `amount` numbers, the buffer of `room`
 unfoldable pub runAnswer : List ℕ → ℕ → ℕ → Answer

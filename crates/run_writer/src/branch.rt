@@ -20,7 +20,7 @@ ghost use Rattle.search.specs.Answers.{stateOf};
 ghost use Rattle.search.specs.Outcomes.{cameOf};
 ghost use Rattle.reachability.specs.Witnesses.{lastState};
 ghost use Rattle.run_writer.specs.Crossing.{witnessesOf};
-ghost use Rattle.run_writer.specs.Branch.{keptOf, Ended, Standing, originBefore, zoneBefore, jumpsTo};
+ghost use Rattle.run_writer.specs.Branch.{keptOf, Ended, Standing, originBefore, zoneBefore, jumpsBefore};
 ghost use Rattle.run_writer.specs.Writing.{runOf};
 
 // The origin of the slot that an origin names. `amount` numbers were lent to the search.
@@ -45,7 +45,7 @@ fn zone_before(automaton: &[u8], store: &[i32], amount: usize, origin: Origin) -
 // How many jumps lead to a zone of this origin.
 pub(crate) fn jumps_to(automaton: &[u8], store: &[i32], amount: usize, origin: Origin) -> usize
     requires { ⌜ Ended (now automaton) amount (now store) × Standing (now automaton) amount origin ⌝ }
-    ensures { λ r. ⌜ r ≡ jumpsTo (now (automaton .entry)) amount origin ⌝ }
+    ensures { λ r. ⌜ r ≡ jumpsBefore (now (automaton .entry)) amount origin ⌝ }
 {
     let mut from = origin;
     let mut k = 0;
@@ -87,7 +87,7 @@ pub(crate) fn write_back(
     k: usize,
 )
     requires { ⌜ Ended (now automaton) amount (now store) × Standing (now automaton) amount origin ⌝ }
-    requires { ⌜ (k ≡ jumpsTo (now automaton) amount origin) × (2 * k + 2 ≤ length (now run)) ⌝ }
+    requires { ⌜ (k ≡ jumpsBefore (now automaton) amount origin) × (2 * k + 2 ≤ length (now run)) ⌝ }
     ensures { λ _. ⌜ now (run .exit) ≡ written (runOf (now (automaton .entry)) (stateOf (now (automaton .entry)) amount) (cameOf origin))
         ++ drop (2 * k + 2) (now (run .entry)) ⌝ }
 {

@@ -22,7 +22,7 @@ ghost use Rattle.search.specs.Exploring.{SoundZone};
 ghost use Rattle.witness.specs.Sizes.{AllUpTo};
 ghost use Rattle.run_writer.specs.Crossing.{guardedBy, crossingOf, Crosses, backAlong, landingAlong};
 
-// The squares of a zone that meets the guard, and of what arrives after the reset.
+// The squares of a zone that meets the guard and of what arrives after the reset, and the clocks that are reset.
 pub(crate) struct Crossing {
     guarded: [Pair; 81],
     arrived: [Pair; 81],

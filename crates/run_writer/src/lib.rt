@@ -16,8 +16,8 @@ ghost use Rattle.search.specs.Answers.{searchStore};
 ghost use Rattle.run_writer.specs.Writing.{runAnswer, runBuffer};
 ghost use Rattle.run_writer.specs.Told.{Tells};
 
-// The bare search's answer and store, or 14 where the target is reached and the buffer for the run is too short. Where it is reached, the
-// buffer begins with a run along the search's branch that ends at the target, and the judge passes it.
+// The bare search's answer and store, or 14 where the target is reached and the buffer for the run is too short. Where the answer is
+// reached, the buffer begins with a run along the search's branch that ends at the target, and the judge passes it.
 pub fn write_run(automaton: &[u8], store: &mut [i32], run: &mut [i64]) -> Answer
     ensures { λ r. ⌜ r ≡ runAnswer (now (automaton .entry)) (length (now (store .entry))) (length (now (run .entry))) ⌝ }
     ensures { λ r. ⌜ now (store .exit) ≡ searchStore (now (automaton .entry)) (now (store .entry)) ⌝ }

@@ -12,9 +12,9 @@ numbers (wait t ∷ xs) = pos t ∷ numbers xs
 numbers (jump i ∷ xs) = pos i ∷ numbers xs
 
 -- "a wait is followed by a jump and a jump by a wait, waits at both ends"
-pub data Turns : List Step → Type 0 where
-  alone : (t : ℕ) → Turns (wait t ∷ [])
-  then : (t i : ℕ) {xs : List Step} → Turns xs → Turns (wait t ∷ jump i ∷ xs)
+pub data ByTurns : List Step → Type 0 where
+  alone : (t : ℕ) → ByTurns (wait t ∷ [])
+  then : (t i : ℕ) {xs : List Step} → ByTurns xs → ByTurns (wait t ∷ jump i ∷ xs)
 
 -- "It begins with its own count of numbers, 2k + 2 for k jumps."
 abbrev pub written : List Step → List ℤ

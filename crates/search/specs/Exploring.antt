@@ -92,7 +92,7 @@ successorOf b i w = followOf (clocks b) (guardOf b i) (resetsOf b i) (invariantO
 abbrev pub nodeAt : ℕ → Came → List ℕ → List Pair → ZoneNode
 nodeAt l c p z = record { at = l; zone = z; came = c; path = p }
 
--- how a zone is led to whose slot tells the origin o
+-- a way to a zone whose slot tells the origin o
 pub record Led (o : Origin) : Type 0 where
   pub came : Came
   pub path : List ℕ

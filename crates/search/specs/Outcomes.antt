@@ -9,7 +9,7 @@ use Rattle.search.specs.Store.{originOf}
 use Rattle.search.specs.declared.outcome.Outcome.{Outcome}
 use Rattle.search.specs.declared.outcome.Outcome.the-variants.{Going, Reached, Refused}
 
--- where the zone that met the target came from, of an origin that is none or a slot and an edge
+-- where a zone came from, by its origin
 unfoldable pub cameOf : Origin → definition.Came
 cameOf o = elim (o .parent) [ pos j ↦ definition.by-edge j (up (o .edge)) | negsuc n ↦ definition.first-zone ]
 

@@ -9,7 +9,7 @@ ghost use lib.Signed.{_≤ℤ_};
 ghost use Rattle.zones.specs.Integers.{up};
 ghost use Rattle.zones.specs.Ranges.{AllBounded, Bounded, lastCounts};
 ghost use Rattle.runs.specs.Limits.{scale};
-ghost use Rattle.slots.specs.Slots.{slotLength, spare, mAt, pAt, headOf, slotOf, noOrigin, originAlong, isAlong, slotOrigin, slotPair, zoneOf};
+ghost use Rattle.slots.specs.Slots.{fields, slotLength, spare, mAt, pAt, headOf, slotOf, noOrigin, originAlong, isAlong, slotOrigin, slotPair, zoneOf};
 
 // The numbers before the pairs: the location, and the origin.
 const FIELDS: usize = 3;
@@ -127,7 +127,7 @@ fn put_pair(slot: &mut [i32; LONGEST], t: usize, q: Pair)
 
 // Where the zone of a slot came from.
 pub fn origin_of(slot: &[i32]) -> Origin
-    requires { ⌜ 3 ≤ length (now slot) ⌝ }
+    requires { ⌜ fields ≤ length (now slot) ⌝ }
     ensures { λ r. ⌜ r ≡ slotOrigin (now (slot .entry)) ⌝ }
 {
     Origin {

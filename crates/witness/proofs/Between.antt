@@ -17,7 +17,7 @@ use Rattle.zones.proofs.pairs.Integers.{int}
 use Rattle.zones.proofs.places.Places.{ResetBy, reset-by}
 use Rattle.zones.proofs.sets.Moving.{meet-includes, meet-exact, reset-includes, reset-exact}
 use Rattle.zones.proofs.sets.Squares.{Resets}
-use Rattle.witness.specs.Laws.{guardMet, arrived, Live}
+use Rattle.witness.specs.Laws.{guardMet, arrived, BothLive}
 use Rattle.witness.proofs.Waiting.{msOf}
 
 -- at s = 1, e = 0 a pair's value is its m
@@ -29,7 +29,7 @@ values w i a b = value-one (entry w a b) i
 
 -- the state after the jump is `after`
 pub record Between (c : ℕ) (G : Limits) (R : ℕ → Bool) (I : Limits) (w : Work) (after : ℕ → ℕ) : Type 0 where
-  pub live : Live c G R I w
+  pub live : BothLive c G R I w
   pub closed-g : Closed (suc c) (msOf (guardMet c G w .work .zone))
   pub closed-a : Closed (suc c) (msOf (arrived c G R I w .work .zone))
   pub resets : Resets (suc c) R (msOf (guardMet c G w .work .zone)) (msOf (resetOf (suc c) R (guardMet c G w .work) .zone))

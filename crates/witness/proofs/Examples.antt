@@ -7,9 +7,9 @@ use Rattle.zones.specs.Reductions.{relaxed, rowSteps, roundSteps, emptyIn, afte
 use Rattle.zones.specs.Successors.{andThen, meetOf, enterOf, startOf}
 use Rattle.zones.specs.Zones.{pairAt, firstWork, lowerAt, meetUpper, meetClock, meetLimits, raiseLimits, home, resetPlaces, resetOf}
 use Rattle.witness.specs.Examples.{AllRight}
-use Rattle.witness.specs.Witnesses.{stateOf, waitTo, leastTo, backOf, landingOf}
+use Rattle.witness.specs.Witnesses.{placesOf, waitTo, leastTo, backOf, landingOf}
 
 pub all-right : AllRight
 unfolding loweredBy sumOf isLess thresholdOf smallerOf relaxed rowSteps roundSteps emptyIn afterMiddle reduceSteps andThen meetOf enterOf startOf
-    pairAt firstWork lowerAt meetUpper meetClock meetLimits raiseLimits home resetPlaces resetOf stateOf waitTo leastTo backOf landingOf
+    pairAt firstWork lowerAt meetUpper meetClock meetLimits raiseLimits home resetPlaces resetOf placesOf waitTo leastTo backOf landingOf
 all-right = record { one = refl; two = refl; lands = refl }

@@ -17,8 +17,8 @@ use Rattle.zones.specs.Zones.{pairAt, home, resetOf}
 use Rattle.zones.proofs.pairs.Integers.{le-read, one-side}
 use Rattle.zones.proofs.places.Places.{home-below}
 use Rattle.zones.proofs.sets.Squares.{in-same, point}
-use Rattle.witness.specs.Laws.{guardMet, arrived, Live, SteppedBack, Reached}
-use Rattle.witness.specs.Witnesses.{clocksOf, stateOf, waitTo, earlierOf, leastTo, stateBefore, backOf, landingOf}
+use Rattle.witness.specs.Laws.{guardMet, arrived, BothLive, SteppedBack, Reached}
+use Rattle.witness.specs.Witnesses.{clocksOf, placesOf, waitTo, earlierOf, leastTo, stateBefore, backOf, landingOf}
 use Rattle.witness.proofs.Between.{Between, between}
 use Rattle.witness.proofs.Resetting.{reset-in, reset-put}
 use Rattle.witness.proofs.States.{state-at, state-none}
@@ -26,7 +26,7 @@ use Rattle.witness.proofs.Turns.{landing-of, back-of}
 use Rattle.witness.proofs.Waiting.{msOf, wait-in, wait-waits}
 
 -- a state's indices, by a function that is 0 at 0
-state-same : (f : ℕ → ℕ) (c : ℕ) → suc c ≤ 9 → f 0 ≡ 0 → (x : ℕ) → x < suc c → clocksOf (stateOf f c) x ≡ f x
+state-same : (f : ℕ → ℕ) (c : ℕ) → suc c ≤ 9 → f 0 ≡ 0 → (x : ℕ) → x < suc c → clocksOf (placesOf f c) x ≡ f x
 state-same f c n≤ z zero hx = state-none f c 0 (λ p. absurd (not-suc-le-zero p)) ∙ sym z
 state-same f c n≤ z (suc x) hx = state-at f c (omega arith) (suc x) hx (omega arith)
 
@@ -84,7 +84,7 @@ module _ (c : ℕ) (n≤ : suc c ≤ 9) (G : Limits) (R : ℕ → Bool) (R0 : R 
 
     -- ---- each clock at its least
     abbrev least : List ℕ
-    least = stateOf (λ x. down (pairAt a 0 x .m)) c
+    least = placesOf (λ x. down (pairAt a 0 x .m)) c
 
     least-is : (x : ℕ) → x < suc c → clocksOf least x ≡ down (msOf a 0 x) - up (msOf a 0 x)
     least-is x hx =
@@ -114,7 +114,7 @@ module _ (c : ℕ) (n≤ : suc c ≤ 9) (G : Limits) (R : ℕ → Bool) (R0 : R 
 -- ---- for every zone from which some state takes the step
 module _ (c : ℕ) (n≤ : suc c ≤ 9) (w : Work) (shaped : Shaped c w) (closed : Closed (suc c) (squareOf 1 0 w)) (proper : 0 < w .fraction .n)
     (G : Limits) (R : ℕ → Bool) (R0 : R 0 ≡ false) (I : Limits) where
-  pub live-law : (old v : ℕ → ℕ) → Has 1 0 c w old → Follows 1 0 c G R I old v → Live c G R I w
+  pub live-law : (old v : ℕ → ℕ) → Has 1 0 c w old → Follows 1 0 c G R I old v → BothLive c G R I w
   live-law old v h f = between c n≤ w shaped closed proper G R R0 I old v h f .live
 
   pub step-back-law : (s : List ℕ) (old : ℕ → ℕ) → Has 1 0 c w old → Follows 1 0 c G R I old (clocksOf s) →

@@ -12,7 +12,7 @@ use Rattle.zones.specs.Integers.{down}
 use Rattle.zones.specs.Pairs.{zeroPair}
 use Rattle.zones.specs.Zones.{pairAt}
 use Rattle.witness.specs.declared.Back.{Back}
-use Rattle.witness.specs.Witnesses.{clocksOf, lessBound, plusBound, stateOf, waitTo, earlierOf, leastTo, stateBefore, backOf, landingOf}
+use Rattle.witness.specs.Witnesses.{clocksOf, lessBound, plusBound, placesOf, waitTo, earlierOf, leastTo, stateBefore, backOf, landingOf}
 use Rattle.witness.proofs.Parts.{in-column}
 
 pub wait-next : (v : List ℕ) (a : List Pair) (k : ℕ) {t s r : ℕ} → t ≡ waitTo v a k →
@@ -22,8 +22,8 @@ wait-next v a k {t} {s} e f g =
     let h : s ≡ lessBound (clocksOf v (suc k)) (pairAt a (suc k) 0 .m) = rw (← in-column a (suc k)) (rw add-one at f) in
     rw add-one (g ∙ (λ i. max (e i) (h i)))
 
-pub state-next : (f : ℕ → ℕ) (k : ℕ) {l : List ℕ} {y : ℕ} → l ≡ stateOf f k → y ≡ f (k + 1) → set l (k + 1) y ≡ stateOf f (k + 1)
-unfolding stateOf
+pub state-next : (f : ℕ → ℕ) (k : ℕ) {l : List ℕ} {y : ℕ} → l ≡ placesOf f k → y ≡ f (k + 1) → set l (k + 1) y ≡ placesOf f (k + 1)
+unfolding placesOf
 state-next f k e g = rw add-one (λ i. set (e i) (suc k) ((rw add-one at g) i))
 
 module _ (u : List ℕ) (g : List Pair) (R : ℕ → Bool) (x k : ℕ) {t : ℕ} (e : t ≡ leastTo u g R x k) where
@@ -42,7 +42,7 @@ module _ (u : List ℕ) (g : List Pair) (R : ℕ → Bool) (x k : ℕ) {t : ℕ}
 one-less : (c : ℕ) → suc c - 1 ≡ c
 one-less c = omega arith
 
-pub landing-of : (a : List Pair) (c : ℕ) → landingOf a (suc c) ≡ stateOf (λ x. down (pairAt a 0 x .m)) c
+pub landing-of : (a : List Pair) (c : ℕ) → landingOf a (suc c) ≡ placesOf (λ x. down (pairAt a 0 x .m)) c
 unfolding landingOf
 landing-of a c = rw (one-less c)
 

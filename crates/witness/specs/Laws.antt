@@ -21,7 +21,7 @@ abbrev pub arrived : ℕ → Limits → (ℕ → Bool) → Limits → Work → R
 arrived c G R I w = meetOf c I (resetOf (suc c) R (guardMet c G w .work))
 
 -- neither of the two is empty
-pub record Live (c : ℕ) (G : Limits) (R : ℕ → Bool) (I : Limits) (w : Work) : Type 0 where
+pub record BothLive (c : ℕ) (G : Limits) (R : ℕ → Bool) (I : Limits) (w : Work) : Type 0 where
   pub guarded : guardMet c G w .empty ≡ false
   pub entered : arrived c G R I w .empty ≡ false
 

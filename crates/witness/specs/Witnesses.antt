@@ -24,9 +24,9 @@ abbrev pub plusBound : ℕ → ℤ → ℕ
 plusBound x z = (x + up z) - down z
 
 -- the state with each of the first k clocks x at f x
-unfoldable pub stateOf : (ℕ → ℕ) → ℕ → List ℕ
-stateOf f zero = replicate 9 0
-stateOf f (suc x) = set (stateOf f x) (suc x) (f (suc x))
+unfoldable pub placesOf : (ℕ → ℕ) → ℕ → List ℕ
+placesOf f zero = replicate 9 0
+placesOf f (suc x) = set (placesOf f x) (suc x) (f (suc x))
 
 -- the wait t = max(0, max over the first k clocks x of v x − a(x, 0)): the shortest that leaves no clock above its bound in a
 unfoldable pub waitTo : List ℕ → List Pair → ℕ → ℕ
@@ -35,7 +35,7 @@ waitTo v a (suc x) = max (waitTo v a x) (lessBound (clocksOf v (suc x)) (pairAt 
 
 -- the state u = v − t on arrival
 abbrev pub earlierOf : List ℕ → ℕ → ℕ → List ℕ
-earlierOf v t c = stateOf (λ x. clocksOf v x - t) c
+earlierOf v t c = placesOf (λ x. clocksOf v x - t) c
 
 -- clock x before the reset of R: the least of u b + g(x, b) over b = 0 and the first k clocks b that are not reset
 unfoldable pub leastTo : List ℕ → List Pair → (ℕ → Bool) → ℕ → ℕ → ℕ
@@ -43,7 +43,7 @@ leastTo u g R x zero = plusBound 0 (pairAt g x 0 .m)
 leastTo u g R x (suc b) = cond (R (suc b)) (leastTo u g R x b) (min (leastTo u g R x b) (plusBound (clocksOf u (suc b)) (pairAt g x (suc b) .m)))
 
 abbrev pub stateBefore : List ℕ → List Pair → (ℕ → Bool) → ℕ → List ℕ
-stateBefore u g R c = stateOf (λ x. leastTo u g R x c) c
+stateBefore u g R c = placesOf (λ x. leastTo u g R x c) c
 
 -- the whole step back from v
 unfoldable pub backOf : List ℕ → List Pair → List Pair → (ℕ → Bool) → ℕ → Back
@@ -53,4 +53,4 @@ backOf v a g R size =
 
 -- a state to begin with: v x = −a(0, x), each clock at its least
 unfoldable pub landingOf : List Pair → ℕ → List ℕ
-landingOf a size = stateOf (λ x. down (pairAt a 0 x .m)) (size - 1)
+landingOf a size = placesOf (λ x. down (pairAt a 0 x .m)) (size - 1)

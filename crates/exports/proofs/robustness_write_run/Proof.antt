@@ -7,7 +7,7 @@ returns : tie.Need-returns
 returns c =
     let did = c .before .before .before .before .before .before .write-run .ensures in
     let told = rw (did .0) at (c .before .before .tell .ensures) in
-    (told .0, (did .1 .0, (did .1 .1 .0, told .1)))
+    (told .0, (did .1 .0, (did .1 .1 .0, (told .1, rw (did .0) at (did .1 .1 .1)))))
 
 pub robustness-write-run-spec : {M : Type 1} → statement M
 robustness-write-run-spec =

@@ -13,7 +13,7 @@ use lib.ListN.{length, getD, take, drop, replicate, length-append, take-append-d
 use lib.Seq.{length-take-le, take-at}
 use Rattle.runs.specs.Runs.{Stand, Step, wait, jump, jumps, first, last, Can, Steps, Run}
 use Rattle.runs.specs.Timed.{Valuation, later, zeroed}
-use Rattle.runs.specs.Written.{numbers, Turns, alone, then}
+use Rattle.runs.specs.Written.{numbers, ByTurns, alone, then}
 use Rattle.runs.proofs.Contradictions.{true-false}
 use Rattle.automata.specs.Accepted.{Accepted}
 use Rattle.automata.specs.Automata.{clocks, locations, start, target, to, resetsOf}
@@ -42,7 +42,7 @@ numbers-length (wait t ∷ xs) = ap suc (numbers-length xs)
 numbers-length (jump i ∷ xs) = ap suc (numbers-length xs)
 
 -- "2k + 2 for k jumps": the count is even, and the waits stand at both ends
-turns-count : {xs : List Step} → Turns xs → length xs + 1 ≡ 2 * length (jumps xs) + 2
+turns-count : {xs : List Step} → ByTurns xs → length xs + 1 ≡ 2 * length (jumps xs) + 2
 turns-count (alone t) = refl
 turns-count (then t i k) = let h = turns-count k in omega arith
 
@@ -52,7 +52,7 @@ module _ (b : List ℕ) (a : Accepted b) where
   record Told (zs : List ℤ) (q : Stand Valuation) : Type 0 where
     steps : List Step
     is : numbers steps ≡ zs
-    turns : Turns steps
+    turns : ByTurns steps
     made : Steps (systemOf b) 1 0 q steps
     there : last (systemOf b) q steps .at ≡ target b
 
@@ -98,7 +98,7 @@ module _ (b : List ℕ) (a : Accepted b) where
       (subst (λ (n : ℕ). Told zs (record { at = n; clocks = zeroed (resetsOf b i) 1 (later t v) })) (j .1 .location) r)
 
   -- and back: steps by turns to the target are judged so
-  untold : (l : ℕ) (c : List ℕ) (v : Valuation) {xs : List Step} → Turns xs → Agrees (clocks b) c v → l < locations b →
+  untold : (l : ℕ) (c : List ℕ) (v : Valuation) {xs : List Step} → ByTurns xs → Agrees (clocks b) c v → l < locations b →
       Steps (systemOf b) 1 0 (record { at = l; clocks = v }) xs → last (systemOf b) (record { at = l; clocks = v }) xs .at ≡ target b →
       waitsFrom b (numbers xs) l c ≡ true
   unfolding jumpsFrom
@@ -170,7 +170,7 @@ module _ (b : List ℕ) (free : refusalOf b ≡ 0) where
   said-passes (z ∷ xs) e = count-yes z xs (answer-yes _ e)
 
   -- and back: steps by turns, with their count before them
-  passes-back : (xs : List Step) (rest : List ℤ) (z : ℤ) → Turns xs → Run (systemOf b) 1 0 xs →
+  passes-back : (xs : List Step) (rest : List ℤ) (z : ℤ) → ByTurns xs → Run (systemOf b) 1 0 xs →
       last (systemOf b) (first (systemOf b)) xs .at ≡ target b → passesTo b (z ∷ (numbers xs ++ rest)) (suc (length xs)) ≡ true
   unfolding passesTo
   passes-back xs rest z t u e =

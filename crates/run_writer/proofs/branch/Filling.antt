@@ -32,7 +32,7 @@ use Rattle.witness.specs.Sizes.{AllUpTo}
 use Rattle.witness.specs.Witnesses.{clocksOf}
 use Rattle.zones.specs.declared.pair.Pair.{Pair}
 use Rattle.zones.specs.Integers.{up}
-use Rattle.run_writer.specs.Branch.{keptOf, Ended, Standing, originBefore, zoneBefore, jumpsTo}
+use Rattle.run_writer.specs.Branch.{keptOf, Ended, Standing, originBefore, zoneBefore, jumpsBefore}
 use Rattle.run_writer.specs.Crossing.{witnessesOf, Crosses, backAlong, landingAlong}
 use Rattle.run_writer.specs.Writing.{runOf}
 use Rattle.run_writer.proofs.Witnessing.{crosses}
@@ -140,7 +140,7 @@ pub record Filled (b : List ℕ) (amount : ℕ) (r₀ run : List ℤ) (k : ℕ) 
   pub count : length (jumps steps) + left ≡ k
   pub buffer : run ≡ take (2 * left + 2) r₀ ++ (numbers steps ++ drop (2 * k + 2) r₀)
 
-pub fill-none : {b : List ℕ} {amount : ℕ} {o : Origin} {k : ℕ} {v : List ℕ} (r : List ℤ) → k ≡ jumpsTo b amount o
+pub fill-none : {b : List ℕ} {amount : ℕ} {o : Origin} {k : ℕ} {v : List ℕ} (r : List ℤ) → k ≡ jumpsBefore b amount o
     → v ≡ lastState (witnessesOf b) (keptOf b amount) (cameOf o) → Filled b amount r r k o o v k
 fill-none {b} {amount} {o} {k} r e f = record {
   steps = [];

@@ -18,7 +18,7 @@ use Rattle.slots.specs.declared.slot.Origin.{Origin}
 use Rattle.slots.specs.Slots.{slotLength, pAt, isAlong, slotOrigin, zoneOf}
 use Rattle.zones.specs.declared.pair.Pair.{Pair}
 use Rattle.zones.specs.Integers.{up}
-use Rattle.run_writer.specs.Branch.{keptOf, Ended, Standing, originBefore, zoneBefore, jumpsTo}
+use Rattle.run_writer.specs.Branch.{keptOf, Ended, Standing, originBefore, zoneBefore, jumpsBefore}
 use Rattle.run_writer.proofs.branch.Walking.{leftOf, sound, slot-of, slot-inside, origin-at, standing, left-at, Along, along, left-is}
 use Rattle.run_writer.proofs.branch.Walking.{few, none-left, left-most, parent-is, one-more}
 
@@ -45,8 +45,8 @@ module _ {b : List ℕ} {amount : ℕ} {s : List ℤ} (e : Ended b amount s) {o 
     pub nearer : leftOf o′ < leftOf o
     nearer = omega (arith, left-is st a, ap leftOf (eo ∙ origin-is), left-at e (a .parent) source (a .jumps .kept))
 
-    pub fewer : jumpsTo b amount o ≡ suc (jumpsTo b amount o′)
-    fewer = one-more st a e ∙ ap (λ x. suc (jumpsTo b amount x)) (sym (eo ∙ origin-is))
+    pub fewer : jumpsBefore b amount o ≡ suc (jumpsBefore b amount o′)
+    fewer = one-more st a e ∙ ap (λ x. suc (jumpsBefore b amount x)) (sym (eo ∙ origin-is))
 
   -- ---- its zone
   source-sound : SoundNode b source
@@ -92,20 +92,20 @@ module _ {b : List ℕ} {amount : ℕ} {s : List ℤ} (e : Ended b amount s) {o 
 
 -- ---- so there are no more jumps than slots
 module _ {b : List ℕ} {amount : ℕ} {s : List ℤ} (e : Ended b amount s) where
-  jumps-left : (m : ℕ) (o : Origin) → Standing b amount o → leftOf o ≤ m → jumpsTo b amount o ≤ m
+  jumps-left : (m : ℕ) (o : Origin) → Standing b amount o → leftOf o ≤ m → jumpsBefore b amount o ≤ m
   jumps-left zero o st l = go (isAlong o) refl
     where
-      go : (t : Bool) → isAlong o ≡ t → jumpsTo b amount o ≤ 0
+      go : (t : Bool) → isAlong o ≡ t → jumpsBefore b amount o ≤ 0
       go true h = absurd (omega (arith, left-is st (along st h)))
       go false h = omega (arith, none-left st h)
   jumps-left (suc m) o st l = go (isAlong o) refl (λ o′ st′ l′. jumps-left m o′ st′ l′)
     where
-      go : (t : Bool) → isAlong o ≡ t → ((o′ : Origin) → Standing b amount o′ → leftOf o′ ≤ m → jumpsTo b amount o′ ≤ m) → jumpsTo b amount o ≤ suc m
+      go : (t : Bool) → isAlong o ≡ t → ((o′ : Origin) → Standing b amount o′ → leftOf o′ ≤ m → jumpsBefore b amount o′ ≤ m) → jumpsBefore b amount o ≤ suc m
       go true h ih = omega (arith, fewer e st h refl, ih (originBefore b amount o) (next e st h refl) (omega (arith, nearer e st h refl)))
       go false h ih = omega (arith, none-left st h)
 
-  pub jumps-most : {o : Origin} → Standing b amount o → jumpsTo b amount o ≤ length (keptOf b amount)
+  pub jumps-most : {o : Origin} → Standing b amount o → jumpsBefore b amount o ≤ length (keptOf b amount)
   jumps-most {o} st = omega (arith, jumps-left (st .place) o st (left-most st), st .most)
 
-  pub jumps-few : {o : Origin} → Standing b amount o → jumpsTo b amount o ≤ mostSlots
+  pub jumps-few : {o : Origin} → Standing b amount o → jumpsBefore b amount o ≤ mostSlots
   jumps-few st = omega (arith, jumps-most st, few e)

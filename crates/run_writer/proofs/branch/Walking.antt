@@ -30,7 +30,7 @@ use Rattle.slots.specs.Slots.{slotLength, noOrigin, originAlong, isAlong, slotO
 use Rattle.slots.proofs.slot.Codec.{slot-origin}
 use Rattle.zones.specs.Integers.{up}
 use Rattle.zones.proofs.pairs.Integers.{le-make}
-use Rattle.run_writer.specs.Branch.{keptOf, Ended, Standing, jumpsTo}
+use Rattle.run_writer.specs.Branch.{keptOf, Ended, Standing, jumpsBefore}
 
 -- the slots that are still to come, at most: each zone came from an older one
 abbrev pub leftOf : Origin → ℕ
@@ -132,12 +132,12 @@ module _ {b : List ℕ} {amount : ℕ} {o : Origin} (st : Standing b amount o) w
       go first-zone g = came-is ∙ g
       go (by-edge j i) g = true-false (ap isAlong (sym (ap originOf g) ∙ st .told) ∙ h)
 
-  pub none-left : isAlong o ≡ false → jumpsTo b amount o ≡ 0
+  pub none-left : isAlong o ≡ false → jumpsBefore b amount o ≡ 0
   unfolding pathOf
   none-left h = ap (λ c. length (pathOf (keptOf b amount) c)) (first h)
 
   -- where jumps are left, there is a slot
-  pub goes-on : {left : ℕ} → 0 < left → left ≡ jumpsTo b amount o → isAlong o ≡ true
+  pub goes-on : {left : ℕ} → 0 < left → left ≡ jumpsBefore b amount o → isAlong o ≡ true
   goes-on {left} h g = go (isAlong o) refl
     where
       go : (t : Bool) → isAlong o ≡ t → isAlong o ≡ true
@@ -164,7 +164,7 @@ module _ {b : List ℕ} {amount : ℕ} {o : Origin} (st : Standing b amount o) w
     asks-edge = subst (λ (x : Origin). pos 0 ≤ℤ x .edge) (sym (a .told)) (le-make (pos 0) (pos (a .edge)) (omega arith))
 
     -- one jump more than to the zone of the slot that it names
-    pub one-more : {s : List ℤ} → Ended b amount s → jumpsTo b amount o ≡ suc (jumpsTo b amount (originOf (a .jumps .parent .came)))
+    pub one-more : {s : List ℤ} → Ended b amount s → jumpsBefore b amount o ≡ suc (jumpsBefore b amount (originOf (a .jumps .parent .came)))
     one-more e =
         let ks = keptOf b amount in
         let k = a .jumps .parent in

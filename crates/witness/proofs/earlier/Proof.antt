@@ -3,19 +3,19 @@ use Prim.Native.Nat.{_-_, _≤_}
 use mathlib.Core.Path.{_≡_, refl}
 use borrow.Author.Needs.{needs}
 use native.Mathlib.Omega.{arith}
-use Rattle.witness.specs.Witnesses.{clocksOf, stateOf}
+use Rattle.witness.specs.Witnesses.{clocksOf, placesOf}
 use Rattle.witness.proofs.Turns.{state-next}
 use Rattle.witness.proofs.earlier.Statement.{statement}
 use Rattle.witness.proofs.earlier.Tie as tie
 
 abbrev Inv-loop : tie.InvT-loop
-Inv-loop wait size v u₀ x₀ u x = (x ≤ size - 1) × (u ≡ stateOf (λ y. clocksOf v y - wait) x)
+Inv-loop wait size v u₀ x₀ u x = (x ≤ size - 1) × (u ≡ placesOf (λ y. clocksOf v y - wait) x)
 
 abbrev μ-loop : tie.MeasureT-loop
 μ-loop wait size v u₀ x₀ u x = size - x
 
 loop-holds : tie.Need-loop-holds Inv-loop μ-loop
-unfolding stateOf
+unfolding placesOf
 loop-holds c = (omega arith, refl)
 
 loop-again : tie.Need-loop-again Inv-loop μ-loop

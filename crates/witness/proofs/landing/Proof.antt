@@ -6,20 +6,20 @@ use Rattle.runs.specs.Limits.{scale}
 use Rattle.zones.specs.declared.pair.Pair.{Pair}
 use Rattle.zones.specs.Integers.{down}
 use Rattle.zones.specs.Zones.{pairAt}
-use Rattle.witness.specs.Witnesses.{stateOf, landingOf}
+use Rattle.witness.specs.Witnesses.{placesOf, landingOf}
 use Rattle.witness.proofs.Parts.{in-row, row-spans}
 use Rattle.witness.proofs.Turns.{state-next}
 use Rattle.witness.proofs.landing.Statement.{statement}
 use Rattle.witness.proofs.landing.Tie as tie
 
 abbrev Inv-loop : tie.InvT-loop
-Inv-loop size a v₀ x₀ v x = (x ≤ size - 1) × (v ≡ stateOf (λ y. down (pairAt a 0 y .m)) x)
+Inv-loop size a v₀ x₀ v x = (x ≤ size - 1) × (v ≡ placesOf (λ y. down (pairAt a 0 y .m)) x)
 
 abbrev μ-loop : tie.MeasureT-loop
 μ-loop size a v₀ x₀ v x = size - x
 
 loop-holds : tie.Need-loop-holds Inv-loop μ-loop
-unfolding stateOf
+unfolding placesOf
 loop-holds c = (omega arith, refl)
 
 negative-part-requires : tie.Need-negative-part-requires Inv-loop μ-loop

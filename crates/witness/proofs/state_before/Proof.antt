@@ -3,19 +3,19 @@ use Prim.Native.Nat.{_-_, _≤_}
 use mathlib.Core.Path.{_≡_, refl}
 use native.Mathlib.Omega.{arith}
 use Rattle.zones.specs.Zones.{setOf}
-use Rattle.witness.specs.Witnesses.{stateOf, leastTo}
+use Rattle.witness.specs.Witnesses.{placesOf, leastTo}
 use Rattle.witness.proofs.Turns.{state-next}
 use Rattle.witness.proofs.state_before.Statement.{statement}
 use Rattle.witness.proofs.state_before.Tie as tie
 
 abbrev Inv-loop : tie.InvT-loop
-Inv-loop u g resets size old₀ x₀ old x = (x ≤ size - 1) × (old ≡ stateOf (λ y. leastTo u g (setOf resets) y (size - 1)) x)
+Inv-loop u g resets size old₀ x₀ old x = (x ≤ size - 1) × (old ≡ placesOf (λ y. leastTo u g (setOf resets) y (size - 1)) x)
 
 abbrev μ-loop : tie.MeasureT-loop
 μ-loop u g resets size old₀ x₀ old x = size - x
 
 loop-holds : tie.Need-loop-holds Inv-loop μ-loop
-unfolding stateOf
+unfolding placesOf
 loop-holds c = (omega arith, refl)
 
 clock-before-requires : tie.Need-clock-before-requires Inv-loop μ-loop

@@ -5,7 +5,7 @@ use mathlib.Core.Bool.{true}
 use native.Mathlib.Omega.{arith}
 use Rattle.search.specs.Store.{mostSlots}
 use Rattle.slots.specs.Slots.{isAlong}
-use Rattle.run_writer.specs.Branch.{Ended, Standing, jumpsTo}
+use Rattle.run_writer.specs.Branch.{Ended, Standing, jumpsBefore}
 use Rattle.run_writer.proofs.branch.Stepping.{next, nearer, fewer}
 use Rattle.run_writer.proofs.branch.Walking.{leftOf, few, none-left, left-most}
 use Rattle.run_writer.proofs.branch.jumps_to.Statement.{statement}
@@ -13,7 +13,7 @@ use Rattle.run_writer.proofs.branch.jumps_to.Tie as tie
 
 abbrev Inv-loop : tie.InvT-loop
 Inv-loop automaton store amount from₀ k₀ from k =
-    Standing automaton amount from × (k + jumpsTo automaton amount from ≡ jumpsTo automaton amount from₀) × (k + leftOf from ≤ suc mostSlots)
+    Standing automaton amount from × (k + jumpsBefore automaton amount from ≡ jumpsBefore automaton amount from₀) × (k + leftOf from ≤ suc mostSlots)
 
 abbrev μ-loop : tie.MeasureT-loop
 μ-loop automaton store amount from₀ k₀ from k = leftOf from

@@ -10,7 +10,7 @@ use Rattle.runs.specs.Limits.{scale}
 use Rattle.slots.specs.declared.slot.Origin.{Origin}
 use Rattle.slots.specs.Slots.{isAlong}
 use Rattle.witness.specs.Sizes.{AllUpTo}
-use Rattle.run_writer.specs.Branch.{Ended, Standing, jumpsTo}
+use Rattle.run_writer.specs.Branch.{Ended, Standing, jumpsBefore}
 use Rattle.run_writer.proofs.branch.Filling.{Filled, fill-none, fill-turn, fill-all, crosses-back, back-small, last-small}
 use Rattle.run_writer.proofs.branch.Stepping.{next, fewer}
 use Rattle.run_writer.proofs.branch.Walking.{along, goes-on, asks-edge}
@@ -22,7 +22,7 @@ use Rattle.run_writer.proofs.branch.write_back.Tie as tie
 
 abbrev Inv-loop : tie.InvT-loop
 Inv-loop automaton store amount run₀ k v₀ from₀ left₀ run v from left =
-    (left ≤ k) × (length run ≡ length run₀) × Standing automaton amount from × (left ≡ jumpsTo automaton amount from) × AllUpTo scale v ×
+    (left ≤ k) × (length run ≡ length run₀) × Standing automaton amount from × (left ≡ jumpsBefore automaton amount from) × AllUpTo scale v ×
     Filled automaton amount run₀ run k from₀ from v left
 
 abbrev μ-loop : tie.MeasureT-loop
