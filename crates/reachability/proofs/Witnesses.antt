@@ -1,15 +1,15 @@
 -- The run that is found from its end back is a run along the branch, of the form of document 02, that ends at the target.
-use Prim.Native.Nat.{ℕ, zero, suc, _<_}
+use Prim.Native.Nat.{ℕ, zero, suc}
 use mathlib.Core.List.{List, [], _∷_, _++_, append-assoc, append-nil}
 use mathlib.Core.Path.{_≡_, refl, sym, ap, _∙_, subst}
-use lib.ListN.{length, drop, length-append}
+use lib.ListN.{length, length-append}
 use native.Mathlib.Omega.{arith}
-use Rattle.runs.specs.Runs.{System, Step, wait, jump, jumps, Stand, first, after, last, Steps, Run}
+use Rattle.runs.specs.Runs.{System, Step, wait, jump, jumps, Stand, first, after, last, Steps}
 use Rattle.runs.specs.Written.{ByTurns, alone, then}
-use Rattle.reachability.specs.Search.{zone, Zones, Came, first-zone, by-edge, Node, Nth, reached, ended, search}
+use Rattle.reachability.specs.Search.{zone, Zones, Came, first-zone, by-edge, Node, reached, ended, search}
 use Rattle.reachability.specs.Meaning.{Meaning}
 use Rattle.reachability.specs.Laws.{Laws}
-use Rattle.reachability.specs.Branches.{Branch, BranchOf, Branches, Arrived, Starts, Jumps, pathOf}
+use Rattle.reachability.specs.Branches.{Branch, Branches, Arrived, Starts, Jumps, pathOf}
 use Rattle.reachability.specs.Witnesses.{Witnesses, backTo, lastState, runTo, WitnessLaws, RunAlong}
 use Rattle.reachability.proofs.Lists.{All, nth-tail}
 use Rattle.reachability.proofs.Robust.{exact-there}

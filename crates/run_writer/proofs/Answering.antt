@@ -1,41 +1,38 @@
 -- What the call answers and leaves, by how the search ended: at the target, with room for the run or without, or otherwise.
 use Prim.Native.Nat.{ℕ, suc, _+_, _*_, _≤_, _<_}
-use mathlib.Core.List.{List, [], _∷_, _++_}
+use mathlib.Core.List.{List, [], _++_}
 use mathlib.Core.Path.{_≡_, refl, sym, ap, _∙_, subst}
 use borrow.Author.Tests.{lt-ltb, le-ltb, eq-eqb, ne-eqb}
-use lib.Dec.{ltb}
 use lib.IntN.{ℤ}
 use lib.ListN.{length, drop}
 use native.Mathlib.Omega.{arith}
-use Rattle.automata.specs.Automata.{clocks, target}
+use Rattle.automata.specs.Automata.{clocks}
 use Rattle.automata.specs.Refusals.{refusalOf}
 use Rattle.automata.specs.Semantics.{systemOf}
 use Rattle.automata.proofs.accepting.Accepting.{accepted}
 use Rattle.reachability.specs.Branches.{Branch, pathOf}
-use Rattle.reachability.specs.Search.{Came, Outcome, going, ended, reached, refused}
+use Rattle.reachability.specs.Search.{Outcome, ended, reached}
 use Rattle.reachability.specs.Witnesses.{RunAlong}
 use Rattle.reachability.proofs.Branches.{arrived}
 use Rattle.reachability.proofs.Witnesses.{run-back}
 use Rattle.run_judge.specs.Passing.{Passes}
 use Rattle.run_judge.proofs.passing.Passing.{passes-judged}
-use Rattle.runs.specs.Runs.{Step, wait, jump, jumps}
+use Rattle.runs.specs.Runs.{Step, jumps}
 use Rattle.runs.specs.Written.{ByTurns, alone, then, numbers, written}
 use Rattle.search.specs.declared.outcome.Outcome.the-variants.{Going, Reached, Refused}
 use Rattle.search.specs.declared.outcome.Turn.{Turn}
-use Rattle.search.specs.declared.verdict.Answer.{Answer}
 use Rattle.search.specs.declared.verdict.Answer.the-variants as answers
-use Rattle.search.specs.declared.verdict.Verdict.the-variants as verdicts
 use Rattle.search.specs.Answers.{answerOf, stateAnswer, stateOf, searchAnswer}
 use Rattle.search.specs.Exploring.{Shown}
 use Rattle.search.specs.Instance.{zonesOf, meaningOf}
 use Rattle.search.specs.Outcomes.{cameOf, outcomeOf, Honest}
-use Rattle.search.specs.Store.{originOf, mostSlots, capacityOf}
-use Rattle.search.proofs.answers.Answers.{answer-accepted, answer-refused}
+use Rattle.search.specs.Store.{capacityOf}
+use Rattle.search.proofs.answers.Answers.{answer-accepted}
 use Rattle.search.proofs.instance.Obeys.{laws}
 use Rattle.slots.specs.declared.slot.Origin.{Origin}
 use Rattle.run_writer.specs.Branch.{keptOf, Ended, Standing, jumpsBefore}
 use Rattle.run_writer.specs.Crossing.{witnessesOf}
-use Rattle.run_writer.specs.Told.{Written, Tells}
+use Rattle.run_writer.specs.Told.{Tells}
 use Rattle.run_writer.specs.Writing.{runOf, outcomeNumbers, runNumbers, runAnswer, runBuffer}
 use Rattle.run_writer.proofs.Witnessing.{witness-laws}
 use Rattle.run_writer.proofs.branch.Stepping.{jumps-most}

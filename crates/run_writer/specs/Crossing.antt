@@ -1,6 +1,5 @@
 -- The zones of an automaton's bytes on their way along an edge, in whole time units with no loosening, and the step back along it.
 use Prim.Native.Nat.{ℕ, suc, _<_}
-use mathlib.Core.Bool.{Bool}
 use mathlib.Core.List.{List}
 use lib.ListN.{replicate}
 use Rattle.automata.specs.Automata.{clocks, edges, to, guardOf, invariantOf, resetsOf, resetSet, resetByte}

@@ -1,5 +1,4 @@
 -- A verdict, with document 01's numbers and values for each of its cases, and which numbers are those of a verdict.
-use Prim.Native.Nat.{ℕ}
 use mathlib.Core.Bool.{Bool, cond, _&&_}
 use lib.Dec.{leb, eqb}
 use Rattle.zones.specs.declared.fraction.Fraction.{Fraction}

@@ -2,7 +2,7 @@
 use Prim.Native.Nat.{ℕ, zero, suc, _+_, _-_, _*_, _≤_, _<_}
 use mathlib.Core.Bool.{Bool, true, false}
 use mathlib.Core.List.{List, [], _∷_, _++_, append-assoc}
-use mathlib.Core.Path.{_≡_, refl, sym, ap, _∙_, subst}
+use mathlib.Core.Path.{_≡_, refl, sym, ap, _∙_}
 use lib.IntN.{ℤ, pos}
 use lib.ListN.{length, getD, drop, take, set, replicate, take-append-drop, length-append, length-replicate, getD-replicate, List·getD-eq-default}
 use lib.Seq.{take-suc, set-at, length-take-le, append-snoc}
@@ -10,9 +10,7 @@ use native.Mathlib.Decide.{decLt}
 use native.Mathlib.Omega.{arith}
 use Rattle.automata.specs.Automata.{clocks}
 use Rattle.automata.specs.Semantics.{systemOf}
-use Rattle.reachability.specs.Branches.{pathOf}
-use Rattle.reachability.specs.Search.{by-edge}
-use Rattle.reachability.specs.Witnesses.{backTo, lastState, runTo}
+use Rattle.reachability.specs.Witnesses.{backTo, lastState}
 use Rattle.reachability.proofs.Lists.{All, nth-tail}
 use Rattle.reachability.proofs.Robust.{exact-there}
 use Rattle.reachability.proofs.Same.{Tight, all-tight}
@@ -36,8 +34,8 @@ use Rattle.run_writer.specs.Branch.{keptOf, Ended, Standing, originBefor
 use Rattle.run_writer.specs.Crossing.{witnessesOf, Crosses, backAlong, landingAlong}
 use Rattle.run_writer.specs.Writing.{runOf}
 use Rattle.run_writer.proofs.Witnessing.{crosses}
-use Rattle.run_writer.proofs.branch.Stepping.{source, zone-is, sound-zone, next, fewer, origin-is}
-use Rattle.run_writer.proofs.branch.Walking.{Along, along, first, edge-is, none-left}
+use Rattle.run_writer.proofs.branch.Stepping.{source, zone-is, sound-zone, origin-is}
+use Rattle.run_writer.proofs.branch.Walking.{Along, along, first, edge-is}
 use Rattle.run_writer.proofs.crossing.Along.{landing-state, back-state, back-most}
 
 module _ {b : List ℕ} {amount : ℕ} {s : List ℤ} (e : Ended b amount s) {o : Origin} (st : Standing b amount o) where

@@ -1,7 +1,7 @@
 -- One turn of the walk: the slot that an origin names is in the store, and its own origin is one jump nearer to the start.
 use Prim.Native.Nat.{ℕ, zero, suc, _+_, _-_, _*_, _≤_, _<_}
 use mathlib.Core.Bool.{Bool, true, false}
-use mathlib.Core.List.{List, [], _∷_}
+use mathlib.Core.List.{List, _∷_}
 use mathlib.Core.Path.{_≡_, refl, sym, ap, _∙_, subst}
 use lib.IntN.{ℤ, pos}
 use lib.ListN.{length, getD, drop, take}

@@ -8,16 +8,15 @@ use lib.ListN.{length, drop, take, length-append}
 use lib.Signed.{_≤ℤ_}
 use native.Mathlib.Nat.{le-trans, mul-le-mul-right}
 use native.Mathlib.Omega.{arith}
-use Rattle.automata.specs.Accepted.{Accepted}
 use Rattle.automata.specs.Automata.{clocks}
 use Rattle.automata.specs.Semantics.{systemOf}
-use Rattle.reachability.specs.Branches.{Branch, Branches, Starts, Jumps, pathOf}
+use Rattle.reachability.specs.Branches.{Branch, Branches, Jumps, pathOf}
 use Rattle.reachability.specs.Search.{Came, first-zone, by-edge, Nth}
 use Rattle.reachability.proofs.Branches.{path-is, branches}
 use Rattle.reachability.proofs.Lists.{nth-lt}
 use Rattle.runs.proofs.Contradictions.{true-false}
 use Rattle.search.specs.Answers.{stateOf}
-use Rattle.search.specs.Exploring.{SoundNode, SoundState}
+use Rattle.search.specs.Exploring.{SoundState}
 use Rattle.search.specs.Instance.{ZoneNode, zonesOf, meaningOf}
 use Rattle.search.specs.Outcomes.{cameOf}
 use Rattle.search.specs.Store.{originOf, mostSlots, capacityOf}
@@ -26,7 +25,7 @@ use Rattle.search.proofs.exploration.Judging.{n≤, came-back}
 use Rattle.search.proofs.exploration.Stores.{SlotAt, slot-at, store-length, capacity-room, capacity-small, slot-fits, lent-part}
 use Rattle.search.proofs.instance.Obeys.{laws}
 use Rattle.slots.specs.declared.slot.Origin.{Origin}
-use Rattle.slots.specs.Slots.{slotLength, noOrigin, originAlong, isAlong, slotOrigin}
+use Rattle.slots.specs.Slots.{slotLength, originAlong, isAlong, slotOrigin}
 use Rattle.slots.proofs.slot.Codec.{slot-origin}
 use Rattle.zones.specs.Integers.{up}
 use Rattle.zones.proofs.pairs.Integers.{le-make}

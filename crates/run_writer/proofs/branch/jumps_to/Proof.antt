@@ -5,7 +5,7 @@ use mathlib.Core.Bool.{true}
 use native.Mathlib.Omega.{arith}
 use Rattle.search.specs.Store.{mostSlots}
 use Rattle.slots.specs.Slots.{isAlong}
-use Rattle.run_writer.specs.Branch.{Ended, Standing, jumpsBefore}
+use Rattle.run_writer.specs.Branch.{Standing, jumpsBefore}
 use Rattle.run_writer.proofs.branch.Stepping.{next, nearer, fewer}
 use Rattle.run_writer.proofs.branch.Walking.{leftOf, few, none-left, left-most}
 use Rattle.run_writer.proofs.branch.jumps_to.Statement.{statement}

@@ -1,5 +1,4 @@
 -- Both numbers are those of 64 bits, signed.
-use mathlib.Core.Path.{_≡_}
 use lib.ListN.{length-set}
 use native.Mathlib.Omega.{arith}
 use mir.Syntax.{w64}

@@ -1,13 +1,12 @@
 -- Each turn of the loop writes a jump and the wait after it, before what was written; last come the count and the first wait.
 use Prim.Native.Nat.{ℕ, _+_, _*_, _≤_, _<_}
-use mathlib.Core.Bool.{Bool, true, false}
-use mathlib.Core.Path.{_≡_, refl, sym, ap, _∙_, subst}
+use mathlib.Core.Bool.{true}
+use mathlib.Core.Path.{_≡_, refl, ap, _∙_}
 use mathlib.Core.List.{List}
 use lib.IntN.{ℤ}
 use lib.ListN.{length, set, length-set}
 use native.Mathlib.Omega.{arith}
 use Rattle.runs.specs.Limits.{scale}
-use Rattle.slots.specs.declared.slot.Origin.{Origin}
 use Rattle.slots.specs.Slots.{isAlong}
 use Rattle.witness.specs.Sizes.{AllUpTo}
 use Rattle.run_writer.specs.Branch.{Ended, Standing, jumpsBefore}

@@ -1,8 +1,8 @@
 -- Place by place, each has its home's entry.
-use Prim.Native.Nat.{ℕ, suc, _+_, _-_, _*_, _/_, _%_, _≤_, _<_}
+use Prim.Native.Nat.{ℕ, _+_, _-_, _*_, _/_, _%_, _≤_, _<_}
 use mathlib.Core.Bool.{Bool}
 use mathlib.Core.List.{List}
-use mathlib.Core.Path.{_≡_, refl, sym, ap, _∙_}
+use mathlib.Core.Path.{_≡_, refl, ap, _∙_}
 use lib.ListN.{getD, set}
 use native.Mathlib.Numerals.{add-one}
 use native.Mathlib.Omega.{arith}
@@ -11,7 +11,6 @@ use Rattle.zones.specs.declared.zone.Work.{Work}
 use Rattle.zones.specs.Pairs.{zeroPair}
 use Rattle.zones.specs.Zones.{pairAt, setOf, home, resetPlaces, resetOf}
 use Rattle.zones.proofs.places.Places.{home-below}
-use borrow.Author.Needs.{needs}
 use Rattle.run_writer.proofs.crossing.cleared.Statement.{statement}
 use Rattle.run_writer.proofs.crossing.cleared.Tie as tie
 

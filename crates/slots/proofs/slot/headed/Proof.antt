@@ -2,7 +2,6 @@
 use borrow.Author.Needs.{needs}
 use mir.Syntax.{w32}
 use mir.Val.{SFits}
-use native.Mathlib.Omega.{arith}
 use Rattle.slots.proofs.slot.Loops.{headed-all}
 use Rattle.slots.proofs.slot.headed.Statement.{statement}
 use Rattle.slots.proofs.slot.headed.Tie as tie
