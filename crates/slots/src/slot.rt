@@ -9,7 +9,8 @@ ghost use lib.Signed.{_≤ℤ_};
 ghost use Rattle.zones.specs.Integers.{up};
 ghost use Rattle.zones.specs.Ranges.{AllBounded, Bounded, lastCounts};
 ghost use Rattle.runs.specs.Limits.{scale};
-ghost use Rattle.slots.specs.Slots.{fields, slotLength, spare, mAt, pAt, headOf, slotOf, noOrigin, originAlong, isAlong, slotOrigin, slotPair, zoneOf};
+ghost use Rattle.slots.specs.Slots.{fields, slotLength, spare, mAt, pAt, noOrigin, originAlong, isAlong, headOf, slotOf};
+ghost use Rattle.slots.specs.Slots.{slotOrigin, slotPair, zoneOf};
 
 // The numbers before the pairs: the location, and the origin.
 const FIELDS: usize = 3;

@@ -100,7 +100,8 @@ module _ {b : List ℕ} {amount : ℕ} {s : List ℤ} (e : Ended b amount s) whe
       go false h = omega (arith, none-left st h)
   jumps-left (suc m) o st l = go (isAlong o) refl (λ o′ st′ l′. jumps-left m o′ st′ l′)
     where
-      go : (t : Bool) → isAlong o ≡ t → ((o′ : Origin) → Standing b amount o′ → leftOf o′ ≤ m → jumpsBefore b amount o′ ≤ m) → jumpsBefore b amount o ≤ suc m
+      go : (t : Bool) → isAlong o ≡ t → ((o′ : Origin) → Standing b amount o′ → leftOf o′ ≤ m → jumpsBefore b amount o′ ≤ m)
+          → jumpsBefore b amount o ≤ suc m
       go true h ih = omega (arith, fewer e st h refl, ih (originBefore b amount o) (next e st h refl) (omega (arith, nearer e st h refl)))
       go false h ih = omega (arith, none-left st h)
 
