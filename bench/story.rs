@@ -69,6 +69,12 @@ fn written(name: &str, (draft, jumps): Far) {
     assert_eq!(branch.len(), jumps, "{name}: the jumps");
     let reply = library::write_run(&automaton, &mut store, &mut run);
     assert!(matches!(reply, Ok([0, ..])), "{name}: {reply:?}");
+    assert_eq!(run[0], run.len() as i64, "{name}: its own count");
+    let edges = branch.iter().map(|edge| *edge as i64);
+    assert!(
+        run[2..].iter().step_by(2).copied().eq(edges),
+        "{name}: the branch's edges"
+    );
     assert!(Judge::of(&automaton).passes(&run), "{name}: the run");
     assert_eq!(library::judge(&automaton, &run), Ok(true), "{name}");
     let [search, both, successors] = best_within(TURNS, LEAST_TIME, |side| {

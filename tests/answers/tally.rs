@@ -11,6 +11,8 @@ use std::process::ExitCode;
 const LEAST: usize = 100;
 /// Numbers past the lent ones, to see that they stand.
 const PAST: usize = 8;
+/// What a buffer for a run has before.
+const RUN: [i64; 9] = [2, 0, -7, 5, i64::MAX, i64::MIN, 0, 1, 77];
 pub const LARGE: &str = "n from 900,000 on";
 
 pub type Answer = Result<Verdict, u32>;
@@ -82,8 +84,8 @@ impl Tally {
         }
     }
 
-    /// The same, by both functions that tell refusals, where the test knows the number: 1 to 8, or 0
-    /// for none.
+    /// The same, by all functions that tell refusals of an automaton alone, where the test knows the
+    /// number: 1 to 8, or 0 for none.
     pub fn refuse(&mut self, dice: &mut Dice, what: &str, automaton: &[u8], number: u32) {
         let left = self.search(dice, what, automaton, 20);
         let refusal = unsafe { robustness_refusal(automaton.as_ptr(), automaton.len()) };
@@ -94,6 +96,24 @@ impl Tally {
                 left.answer
             )
         });
+        if number > 0 {
+            self.refuse_runs(what, automaton, number, &left.before);
+        }
+    }
+
+    /// The same by the writer and the judge of runs, which leave the store and the buffer.
+    fn refuse_runs(&mut self, what: &str, automaton: &[u8], number: u32, before: &[i32]) {
+        for length in [0, 2, 9] {
+            let mut store = before.to_vec();
+            let mut run = RUN[..length].to_vec();
+            let written = library::write_run(automaton, &mut store, &mut run);
+            let judged = library::judge(automaton, &run);
+            let stands = store == before && run == RUN[..length];
+            let refused = written == Err(number) && judged == Err(number);
+            self.check(refused && stands, || {
+                format!("{what}: {written:?} and {judged:?}, not {number}\n  automaton {automaton:02x?}")
+            });
+        }
     }
 
     /// Asks that all of the labels were met.

@@ -1,6 +1,6 @@
 /* story REACHED HOLDS: calls the writer and the judge of runs for an automaton whose target is one jump away, with a first wait of 5 and a
  * last one of 0 to 4, and for one that holds. Prints a line for each call: the reply; the answer; whether a run passes; the buffer's
- * numbers, of which the last wait is told as 'late' or 'fine'. What is as it was before is a dash. */
+ * numbers, of which the last wait is told as 'fine', 'late' or, below 0, 'wrong'. What is as it was before is a dash. */
 #include <inttypes.h>
 #include <stdio.h>
 #include "robustness.h"
@@ -50,7 +50,7 @@ static void tell_run(void)
         if (run[i] == NUMBER)
             printf(" -");
         else if (i == 3)
-            printf(" %s", 0 <= run[i] && run[i] <= 4 ? "fine" : "late");
+            printf(" %s", run[i] < 0 ? "wrong" : run[i] <= 4 ? "fine" : "late");
         else
             printf(" %" PRId64, run[i]);
     }

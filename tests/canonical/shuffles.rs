@@ -14,7 +14,7 @@ pub const MANY_DIFFER: &str = "another fraction in another order of many edges";
 const AUTOMATA: usize = 700;
 /// Of one automaton.
 const SHUFFLES: usize = 6;
-/// Document 01's largest automaton keeps 63 zones of 165 numbers.
+/// Document 01's automaton of the greatest length keeps 63 zones of 165 numbers.
 const STORE: usize = 12_000;
 /// Of one automaton with up to as many edges as there can be.
 const MANY: usize = 400;

@@ -13,12 +13,13 @@ mod runs;
 
 use checks::Checks;
 use document::{dump, Dump};
-use library::{canonical, consult, look_up, make_empty, search, sound, Verdict};
+use library::{canonical, consult, judge, look_up, make_empty, search, sound, write_run, Verdict};
 use std::process::ExitCode;
 
-// What bytes and stores have before, to see that they stand.
+// What bytes, stores and buffers for runs have before, to see that they stand.
 const BYTE: u8 = 0xA5;
 const NUMBER: i32 = -7;
+const RUN: i64 = -7;
 
 // Document 01's card A holds up to 1/1, with one zone.
 const HOLDS: Verdict = [1, 1, 1, 1];
@@ -115,13 +116,15 @@ impl Format {
             automaton.resize(length, 0);
             automaton[at] = byte;
             let (mut cache, mut store) = (self.cache.bytes(), self.slot.numbers());
-            let mut form = self.room();
+            let (mut form, mut run) = (self.room(), [RUN; 4]);
             search(&automaton, &mut store) == Err(number)
+                && write_run(&automaton, &mut store, &mut run) == Err(number)
+                && judge(&automaton, &run) == Err(number)
                 && canonical(&automaton, &mut form) == Err(number)
                 && look_up(&cache, &automaton, &mut form) == Err(number)
                 && consult(&mut cache, &automaton, &mut form, &mut store) == Err(number)
                 && (cache, store) == (self.cache.bytes(), self.slot.numbers())
-                && form == self.room()
+                && (form, run) == (self.room(), [RUN; 4])
         })
     }
 
@@ -130,7 +133,11 @@ impl Format {
         let (automaton, mut store) = (self.automaton.bytes(), self.slot.numbers());
         store.pop();
         store.fill(NUMBER);
-        search(&automaton, &mut store) == Err(10) && store.iter().all(|x| *x == NUMBER)
+        let mut run = [RUN; 4];
+        search(&automaton, &mut store) == Err(10)
+            && write_run(&automaton, &mut store, &mut run) == Err(10)
+            && store.iter().all(|x| *x == NUMBER)
+            && run == [RUN; 4]
     }
 
     // 11: another version.

@@ -1,11 +1,10 @@
 // The run in docs/FORMAT.md, by the library: it is one of document 01's card B, which is the dump's
 // automaton with another guard.
 use crate::library::{judge, search, write_run, Verdict};
-use crate::{Format, NUMBER};
+use crate::{Format, NUMBER, RUN as BEFORE};
 
 // Document 01's card B is reached, with one zone.
 const REACHED: Verdict = [0, 0, 0, 1];
-const BEFORE: i64 = -7;
 
 impl Format {
     // The edge asks for 5 and not for 7.

@@ -1,7 +1,7 @@
 //! The calls that valgrind watches. Each slice is a block of the heap with nothing behind it, and
 //! what the library must not depend on is left uninitialised: the form's buffer, its length, the
-//! store, the buffer for a run and what is behind one, filed, the answer and the free bytes of a
-//! cache.
+//! store, the buffer for a run and what is behind one, passes, filed, the answer and the free bytes of
+//! a cache.
 
 use crate::calls::{self, Call, Lent, Places};
 use crate::checks::Checks;

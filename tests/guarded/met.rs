@@ -8,7 +8,7 @@ use std::collections::BTreeMap;
 
 const LEAST: usize = 40;
 
-/// The replies to be met. Not 9: 65,535 zones have to be kept before it (tests/cache has it).
+/// The replies to be met. Not 9: 65,535 zones have to be kept before it (tests/cache and tests/story have it).
 const POSSIBLE: [(Call, &[u32]); 9] = [
     (Call::Refusal, &[0, 1, 2, 3, 4, 5, 6, 7, 8]),
     (Call::Canonical, &[0, 1, 2, 3, 4, 5, 6, 7, 8, 13]),

@@ -28,7 +28,8 @@ const CALLS: [Call; 9] = [
 ];
 
 /// What is being done, for the parent to tell if it was the last: the seed, and the numbers of the
-/// call and of the guard. Past the last guard is plain memory, past the last call no turn yet.
+/// call and of the guard. Past the last guard is plain memory, past the last call no call yet: what is lent
+/// is being drawn, or with a seed of 0 no turn has begun.
 pub struct Doing(&'static [AtomicU64; 3]);
 
 impl Doing {
@@ -49,10 +50,10 @@ impl Doing {
         let [seed, call, guard] = [0, 1, 2].map(|i| self.0[i].load(Ordering::Relaxed) as usize);
         let place = GUARDS.get(guard).map(|guard| format!("guard {guard:?}"));
         let place = place.unwrap_or_else(|| "plain memory".into());
-        let call = CALLS.get(call);
-        call.map_or("before the first turn".into(), |call| {
-            format!("seed {seed}, {call:?}, {place}")
-        })
+        match CALLS.get(call) {
+            Some(call) => format!("seed {seed}, {call:?}, {place}"),
+            None => format!("seed {seed}, before its first call"),
+        }
     }
 }
 
@@ -77,6 +78,7 @@ impl Turns {
 
     pub fn guarded(&mut self, memory: &mut Memory, doing: &Doing, seed: u64) {
         child::allow_seconds(MOST_SECONDS);
+        doing.now(seed, CALLS.len(), GUARDS.len());
         let before = self.draw(seed);
         for (i, &call) in CALLS.iter().enumerate() {
             doing.now(seed, i, GUARDS.len());

@@ -14,6 +14,8 @@ struct Own<'a> {
     loosening: Loosening,
     /// For each slot its states, by the place of their valuation.
     sets: Vec<Vec<bool>>,
+    /// For each slot its location.
+    locations: Vec<i32>,
 }
 
 impl Own<'_> {
@@ -42,7 +44,7 @@ impl Own<'_> {
         allowed.map(|v| reset(edge, &v)).collect()
     }
 
-    /// The states of the next slot, unless what it tells is no edge from an earlier slot to it.
+    /// The states of the next slot, unless what it tells is no edge from an earlier slot's location to its own.
     fn next(&self, [location, from, edge]: [i32; 3]) -> Option<Vec<bool>> {
         let place = usize::try_from(location).ok()?;
         if (from, edge) == (-1, -1) {
@@ -50,9 +52,10 @@ impl Own<'_> {
             return first.then(|| self.waited(place, &[[0; MOST_CLOCKS]]));
         }
         let (from, edge) = (usize::try_from(from).ok()?, usize::try_from(edge).ok()?);
-        let leads = i32::from(self.automaton.edges.get(edge)?.to) == location;
-        let earlier = from < self.sets.len();
-        (leads && earlier).then(|| self.waited(place, &self.arrivals(from, edge)))
+        let ends = self.automaton.edges.get(edge)?;
+        let leaves = *self.locations.get(from)? == i32::from(ends.from);
+        let leads = i32::from(ends.to) == location;
+        (leaves && leads).then(|| self.waited(place, &self.arrivals(from, edge)))
     }
 }
 
@@ -65,13 +68,16 @@ pub fn differences(automaton: &Draft, kept: &Kept, loosening: Loosening) -> Opti
         grid,
         loosening,
         sets: Vec::new(),
+        locations: Vec::new(),
     };
     let mut differ = 0;
     for slot in 0..kept.zones().min(MOST_ZONES) {
-        let set = own.next(kept.told(slot))?;
+        let told = kept.told(slot);
+        let set = own.next(told)?;
         let within = |place: usize| kept.has(slot, &own.grid.valuation(place), loosening);
         differ += (0..set.len()).filter(|&p| set[p] != within(p)).count();
         own.sets.push(set);
+        own.locations.push(told[0]);
     }
     Some(differ)
 }

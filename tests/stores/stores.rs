@@ -19,6 +19,23 @@ const SLOT: usize = lengths::slot_of(2);
 /// What A leaves in its only slot: its location, −1 and −1 as for any first zone, its pairs.
 const KEPT: &[i32] = &[0, -1, -1, 0, 0, 0, 0, 5, 1, 0, 0];
 
+/// How K's slots begin, each zone from the one before by its edge, and the pairs of the first four, row by
+/// row: docs/RULES.md works them out.
+const WHEEL: [[i32; SLOT]; 4] = [
+    [
+        0, -1, -1, 0, 0, 0, 0, 0, 0, 1, 1, 0, 0, 0, 0, 1, 1, 0, 0, 0, 0,
+    ],
+    [
+        1, 0, 0, 0, 0, 0, 0, -1, 1, 0, 2, 0, 0, -1, 1, 1, 1, 1, 1, 0, 0,
+    ],
+    [
+        0, 1, 1, 0, 0, 0, 0, 0, 0, 1, 1, 0, 0, 0, 2, 1, 1, 0, 0, 0, 0,
+    ],
+    [
+        1, 2, 0, 0, 0, 0, 0, -1, 3, 0, 4, 0, 0, -1, 3, 1, 1, 1, 1, 0, 0,
+    ],
+];
+
 /// The automaton's name; the store's numbers; the answer; the first numbers of the store, where 01 prints them,
 /// past which it is untouched.
 type Case = (
@@ -49,11 +66,37 @@ fn judge(checks: &mut Checks, examples: &str, (name, numbers, expected, begins):
     });
 }
 
+/// From location 0 edge 0 leads to 1, and from there edge 1 back.
+fn head(slot: i32) -> [i32; 3] {
+    match slot {
+        0 => [0, -1, -1],
+        _ => [slot % 2, slot - 1, (slot + 1) % 2],
+    }
+}
+
+/// 12 slots are kept before 10; the numbers behind them, too few for another, stand.
+fn wheel(checks: &mut Checks, examples: &str) {
+    let automaton = std::fs::read(format!("{examples}/K.card")).expect("an example");
+    for spare in [0, 1, SLOT - 1] {
+        let mut store = vec![UNTOUCHED; 12 * SLOT + spare];
+        let answer = search(&automaton, &mut store);
+        let (slots, behind) = store.split_at(12 * SLOT);
+        let mut heads = slots.chunks(SLOT).zip(0..);
+        let told = heads.all(|(numbers, slot)| numbers[..3] == head(slot));
+        let stands = behind.iter().all(|number| *number == UNTOUCHED);
+        let first = slots.starts_with(&WHEEL.concat());
+        checks.check(answer == Err(10) && told && stands && first, || {
+            format!("K, {spare} to spare: {answer:?}, or another store {slots:?}")
+        });
+    }
+}
+
 fn main() -> ExitCode {
     let examples = std::env::args().nth(1).expect("the folder of the examples");
     let mut checks = Checks::default();
     for case in CASES {
         judge(&mut checks, &examples, case);
     }
+    wheel(&mut checks, &examples);
     checks.sum_up()
 }

@@ -3,11 +3,16 @@
 use crate::drawn::Dice;
 use crate::library;
 use crate::mazes;
-use crate::search;
-use crate::tally::{Judged, Tally};
+use crate::search::{self, Outcome};
+use crate::tally::{Judged, Tally, DOES_NOT, PASSES};
 use crate::waits;
 
 const MAZES: usize = 250;
+/// So many of them must be reached: each has a run, so that the others end in 9 or 10.
+const REACHED: usize = 200;
+const CHANGED: &str = "one number changed";
+const CUT: &str = "cut";
+const MOVED: &str = "moved";
 const STORE: usize = 16_384;
 const OTHERS: [i64; 9] = [
     -1,
@@ -21,6 +26,26 @@ const OTHERS: [i64; 9] = [
     i64::MIN,
 ];
 
+fn label(part: &str, outcome: &str) -> String {
+    format!("{part}, {outcome}")
+}
+
+/// What is to be met. No beginning of a run passes: a maze's target is entered last.
+pub fn labels() -> [String; 5] {
+    [
+        label(CHANGED, PASSES),
+        label(CHANGED, DOES_NOT),
+        label(CUT, DOES_NOT),
+        label(MOVED, PASSES),
+        label(MOVED, DOES_NOT),
+    ]
+}
+
+fn judge(tally: &mut Tally, part: &str, what: &str, automaton: &Judged, buffer: &[i64]) {
+    let passes = tally.judge(&format!("{what}, {part}"), automaton, buffer);
+    tally.meet(label(part, if passes { PASSES } else { DOES_NOT }));
+}
+
 /// One number changed, at each place.
 fn singly(tally: &mut Tally, what: &str, automaton: &Judged, run: &[i64]) {
     let edges = automaton.judge.edges.len() as i64;
@@ -28,10 +53,11 @@ fn singly(tally: &mut Tally, what: &str, automaton: &Judged, run: &[i64]) {
         let there = run[place];
         let near = [there + 1, there - 1, -there, there + 2, there - 2];
         let far = [there + edges, edges - 1, edges, there + (1 << 32)];
-        for other in [&near[..], &far, &OTHERS].concat() {
+        let others = [&near[..], &far, &OTHERS].concat();
+        for other in others.into_iter().filter(|other| *other != there) {
             let mut changed = run.to_vec();
             changed[place] = other;
-            tally.judge(what, automaton, &changed);
+            judge(tally, CHANGED, what, automaton, &changed);
         }
     }
 }
@@ -43,7 +69,7 @@ fn cut(tally: &mut Tally, dice: &mut Dice, what: &str, automaton: &Judged, run: 
         tally.must(what, automaton, &cut, false);
         if let Some(count) = cut.first_mut() {
             *count = length as i64;
-            tally.judge(what, automaton, &cut);
+            judge(tally, CUT, what, automaton, &cut);
         }
     }
     let mut longer = run.to_vec();
@@ -57,8 +83,15 @@ fn cut(tally: &mut Tally, dice: &mut Dice, what: &str, automaton: &Judged, run: 
         ] {
             let mut counted = longer.clone();
             counted[0] = count;
-            tally.judge(what, automaton, &counted);
+            judge(tally, CUT, what, automaton, &counted);
         }
+    }
+}
+
+/// What was moved may be where it was.
+fn judge_if_new(tally: &mut Tally, what: &str, automaton: &Judged, run: &[i64], moved: &[i64]) {
+    if moved != run {
+        judge(tally, MOVED, what, automaton, moved);
     }
 }
 
@@ -70,23 +103,27 @@ fn moved(tally: &mut Tally, dice: &mut Dice, what: &str, automaton: &Judged, run
         let time = dice.pick(&[1, 1, 2, 5]);
         changed[1 + 2 * dice.below(waits)] += time;
         changed[1 + 2 * dice.below(waits)] -= time;
-        tally.judge(what, automaton, &changed);
+        judge_if_new(tally, what, automaton, run, &changed);
         if waits > 1 {
             let mut changed = run.to_vec();
             changed.swap(2 + 2 * dice.below(waits - 1), 2 + 2 * dice.below(waits - 1));
-            tally.judge(what, automaton, &changed);
+            judge_if_new(tally, what, automaton, run, &changed);
         }
     }
 }
 
 /// The maze's own run, the library's, and those of the search's branch with the earliest and the latest
-/// jumps: all of them pass.
+/// jumps: all of them pass. A maze has a run at no error, so that it never holds.
 fn runs(tally: &mut Tally, what: &str, automaton: &Judged, own: Vec<i64>) -> Vec<Vec<i64>> {
     let mut store = vec![0; STORE];
-    let branch = search::search_with_branch(&automaton.bytes, &mut store).1;
-    let branch = match branch {
-        Some(branch) => branch,
-        None => return vec![own],
+    let (outcome, branch) = search::search_with_branch(&automaton.bytes, &mut store);
+    let branch = match (outcome, branch) {
+        (Outcome::Reached { .. }, Some(branch)) => branch,
+        (outcome, _) => {
+            let refused = matches!(outcome, Outcome::Refused(9 | 10));
+            tally.check(refused, || format!("{what}: a run, and yet {outcome:?}"));
+            return vec![own];
+        }
     };
     let mut written = vec![0; 2 * branch.len() + 2];
     let reply = library::write_run(&automaton.bytes, &mut store, &mut written);
@@ -103,15 +140,21 @@ fn runs(tally: &mut Tally, what: &str, automaton: &Judged, own: Vec<i64>) -> Vec
 
 pub fn random(tally: &mut Tally, round: u64) {
     let mut dice = Dice::new(1_000 * round + 2);
+    let mut reached = 0;
     for turn in 0..MAZES {
         let what = format!("maze {turn} of round {round}");
         let maze = mazes::drawn(&mut dice, 10);
         let automaton = Judged::new(&maze.draft.bytes());
-        for run in runs(tally, &what, &automaton, maze.run) {
+        let runs = runs(tally, &what, &automaton, maze.run);
+        reached += usize::from(runs.len() > 1);
+        for run in runs {
             tally.must(&what, &automaton, &run, true);
             singly(tally, &what, &automaton, &run);
             cut(tally, &mut dice, &what, &automaton, &run);
             moved(tally, &mut dice, &what, &automaton, &run);
         }
     }
+    tally.check(reached >= REACHED, || {
+        format!("only {reached} mazes of round {round} are reached")
+    });
 }

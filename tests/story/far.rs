@@ -52,6 +52,8 @@ pub fn piled_up(tally: &mut Tally) {
     let (bytes, mut dice) = (wheel(62, 1).bytes(), Dice::new(9));
     let before = Lent::new(&mut dice, &[], &bytes, 65_535 * slot(&bytes));
     let searched = searched(tally, "9", &before);
+    let reply = searched.reply;
+    tally.check(reply == 9, || format!("{reply}, not 9"));
     for length in [0, 2, 100] {
         let before = before.clone().running(&vec![-7; length]);
         let written = write(tally, "9", &before, &searched);

@@ -3,8 +3,9 @@
 
 use crate::automata;
 use crate::calls::{self, Call, Lent};
-use crate::draft::{Draft, Edge, Limit, NO_UPPER};
+use crate::draft::{Draft, Edge, Limit};
 use crate::drawn::{self, Dice, Lean, Size};
+use crate::rings::FREE;
 use crate::search;
 use crate::spoilt::spoilt;
 use crate::table::{named, with_byte};
@@ -12,7 +13,6 @@ use crate::tally::{Judged, Tally};
 
 const MAX: i64 = i64::MAX;
 const MIN: i64 = i64::MIN;
-const FREE: Limit = (0, NO_UPPER);
 const SPOILT: usize = 3_000;
 
 type Buffers = &'static [&'static [i64]];
@@ -92,7 +92,8 @@ const WHEEL: Buffers = &[
     &[6, 1, 0, 0, 1, 0],
     &[6, 2, 0, 2, 2, 0],
 ];
-/// The first ends at 0, and the next two take an edge of the other location.
+/// The first ends at 0, the next two take an edge of the other location, and the last waits too long at
+/// the target.
 const TO_AND_FRO: Buffers = &[
     &[6, 0, 0, 0, 1, 0],
     &[6, 0, 0, 0, 0, 0],
@@ -100,7 +101,7 @@ const TO_AND_FRO: Buffers = &[
     &[8, 0, 0, 9, 1, 5, 0, 5],
 ];
 
-fn edge(from: u8, to: u8, reset: u8, guard: &[Limit]) -> Edge {
+pub fn edge(from: u8, to: u8, reset: u8, guard: &[Limit]) -> Edge {
     Edge {
         from,
         to,
@@ -109,10 +110,11 @@ fn edge(from: u8, to: u8, reset: u8, guard: &[Limit]) -> Edge {
     }
 }
 
-fn draft(invariants: &[&[Limit]], edges: Vec<Edge>) -> Vec<u8> {
+/// The target is the last location.
+pub fn draft(invariants: &[&[Limit]], edges: Vec<Edge>) -> Vec<u8> {
     let draft = Draft {
         start: 0,
-        target: 1,
+        target: invariants.len() as u8 - 1,
         invariants: invariants.iter().map(|limits| limits.to_vec()).collect(),
         edges,
     };
@@ -224,7 +226,7 @@ fn lengths() -> Vec<Case> {
     ]
 }
 
-/// Document 01's largest automaton has the edges 0 to 62 onward to the target, and 63 to 255 from the start
+/// Document 01's automaton of the greatest length has the edges 0 to 62 onward to the target, and 63 to 255 from the start
 /// to itself: one of these, and then all of those.
 fn largest(tally: &mut Tally) {
     let automaton = Judged::new(&named("largest"));
@@ -273,6 +275,7 @@ fn is_refused(tally: &mut Tally, dice: &mut Dice, number: u32, automaton: &[u8])
 pub fn refused(tally: &mut Tally) {
     let mut dice = Dice::new(5);
     for (number, automaton) in automata::refused() {
+        tally.meet(format!("Judge {number}"));
         is_refused(tally, &mut dice, number, &automaton);
     }
     for _ in 0..SPOILT {

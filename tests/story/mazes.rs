@@ -72,7 +72,7 @@ fn invariant(dice: &mut Dice, (least, most): Limit) -> Limit {
     let (below, above) = (dice.pick(&SLACK), dice.pick(&SLACK));
     match dice.chance(80) {
         true => (0, most + above),
-        false => (least.saturating_sub(below).min(1_000_000), most + above),
+        false => (least.saturating_sub(below), most + above),
     }
 }
 

@@ -21,6 +21,7 @@ mod draft;
 #[allow(dead_code)]
 #[path = "../search/drawn.rs"]
 mod drawn;
+mod exact;
 mod far;
 #[path = "../forms.rs"]
 mod forms;
@@ -54,17 +55,24 @@ use tally::{Tally, DOES_NOT, PASSES};
 /// What must be met, lest the checks say little; not 9, which takes too long to be met often.
 fn labels() -> Vec<String> {
     let jumps = ["0", "1", "2", "3", "4 to 9", "10 or more"];
-    let replies = [0, 1, 2, 3, 4, 5, 6, 7, 8, 10, 14];
-    let mut labels = vec![PASSES.to_string(), DOES_NOT.to_string()];
+    let replies = [1, 2, 3, 4, 5, 6, 7, 8, 10, 14];
+    let mut labels = [PASSES, DOES_NOT, written::RUN, written::HOLDS]
+        .map(String::from)
+        .to_vec();
+    labels.extend(written::NARROW.map(written::narrow_label));
+    labels.extend(changed::labels());
     labels.extend(jumps.map(|jumps| format!("{jumps} jumps")));
     labels.extend(replies.map(|reply| format!("WriteRun {reply}")));
+    labels.extend((1..=8).map(|number| format!("Judge {number}")));
     labels.extend((1..=8).map(|clocks| format!("{clocks} clocks")));
     labels
 }
 
 fn main() -> ExitCode {
     let mut tally = Tally::default();
-    let parts: [fn(&mut Tally); 7] = [
+    let parts: [fn(&mut Tally); 9] = [
+        exact::runs,
+        exact::answers,
         hand::cards,
         hand::refused,
         buffers::every,

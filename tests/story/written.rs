@@ -9,7 +9,7 @@ use crate::drawn::{self, Dice, Lean, Size};
 use crate::forms;
 use crate::lengths::slot;
 use crate::mazes;
-use crate::search;
+use crate::search::{self, Outcome};
 use crate::spoilt::spoilt;
 use crate::table::{self, named};
 use crate::tally::{Judged, Tally};
@@ -21,10 +21,14 @@ const STORE: usize = 16_384;
 /// Up to so many jumps buffers of every length are lent, else those around the run's.
 const ALL: usize = 8;
 const UNREACHED: [usize; 4] = [0, 1, 2, 30];
+pub const RUN: &str = "WriteRun 0, a run";
+pub const HOLDS: &str = "WriteRun 0, holds";
+/// The kinds of automata for which a store with a number too few must be met.
+pub const NARROW: [&str; 4] = ["plain", "guarded", "wheel", "maze"];
 
 /// What the search replies and leaves, by the library, and the branch of the second search.
 pub struct Searched {
-    reply: u32,
+    pub reply: u32,
     lent: Lent,
     pub branch: Option<Vec<usize>>,
 }
@@ -106,7 +110,11 @@ pub fn write(tally: &mut Tally, what: &str, before: &Lent, searched: &Searched) 
     if run.is_some() {
         left.run = after.run.clone();
     }
-    tally.meet(format!("WriteRun {reply}"));
+    match (reply, run) {
+        (0, Some(_)) => tally.meet(RUN),
+        (0, None) => tally.meet(HOLDS),
+        _ => tally.meet(format!("WriteRun {reply}")),
+    }
     let right = got == Some(reply) && after == left && written == run.is_some();
     tally.check(right, || {
         let (bytes, run, lent) = (&before.automaton, &after.run, before.run.len());
@@ -131,14 +139,15 @@ fn lengths(branch: &Option<Vec<usize>>) -> Vec<usize> {
     }
 }
 
-/// Buffers of many lengths; then once more, with the zones and the run that stand there by now.
+/// Buffers of many lengths; then once more, with the zones and the run that stand there by now. Gives
+/// back the search's reply.
 pub fn every_length(
     tally: &mut Tally,
     dice: &mut Dice,
     what: &str,
     automaton: &[u8],
     store: usize,
-) {
+) -> u32 {
     let before = Lent::new(dice, &[], automaton, store);
     let searched = searched(tally, what, &before);
     let mut last = None;
@@ -148,6 +157,10 @@ pub fn every_length(
         last = write(tally, &what, &before, &searched).or(last);
     }
     if let Some(branch) = &searched.branch {
+        let zones = searched.lent.verdict()[3];
+        tally.check(branch.len() as u64 <= zones, || {
+            format!("{what}: {} jumps and {zones} zones", branch.len())
+        });
         tally.meet(format!("{} clocks", automaton[5]));
         let jumps = match branch.len() {
             jumps @ 0..=3 => jumps.to_string(),
@@ -159,17 +172,40 @@ pub fn every_length(
     if let Some(last) = last {
         write(tally, &format!("{what}, again"), &last, &searched);
     }
+    searched.reply
+}
+
+pub fn narrow_label(kind: &str) -> String {
+    format!("a number too few, {kind}")
 }
 
 /// Stores with just enough slots, and with a number too few: 10 comes before 14, and the buffer stands.
-fn narrow(tally: &mut Tally, dice: &mut Dice, what: &str, automaton: &[u8]) {
+fn narrow(tally: &mut Tally, dice: &mut Dice, what: &str, kind: &str, automaton: &[u8]) {
     let mut store = vec![0; STORE];
-    if let search::Outcome::Reached { zones } = search::search(automaton, &mut store) {
+    let outcome = search::search(automaton, &mut store);
+    if let Outcome::Reached { zones } | Outcome::Holds { zones, .. } | Outcome::HoldsAny { zones } =
+        outcome
+    {
         let exact = zones * slot(automaton);
-        every_length(tally, dice, what, automaton, exact);
+        let reply = every_length(tally, dice, what, automaton, exact);
+        tally.check(reply == 0, || format!("{what}: {reply} of {zones} slots"));
         if exact > 0 {
-            every_length(tally, dice, what, automaton, exact - 1);
+            let reply = every_length(tally, dice, what, automaton, exact - 1);
+            tally.check(reply == 10, || format!("{what}: {reply}, not 10"));
+            tally.meet(narrow_label(kind));
         }
+    }
+}
+
+/// What `sound` draws at this turn.
+fn kind(turn: usize) -> &'static str {
+    match turn % 10 {
+        0..=1 => "plain",
+        2 => "calm",
+        3 => "guarded",
+        4 => "wheel",
+        5 => "borders",
+        _ => "maze",
     }
 }
 
@@ -196,8 +232,8 @@ pub fn random(tally: &mut Tally, round: u64) {
             automaton = automata::shuffled(&mut dice, &automaton);
         }
         every_length(tally, &mut dice, &what, &automaton, STORE);
-        if turn % 5 == 0 {
-            narrow(tally, &mut dice, &what, &automaton);
+        if turn % 3 == 0 {
+            narrow(tally, &mut dice, &what, kind(turn), &automaton);
         }
     }
     for turn in 0..SPOILT {
