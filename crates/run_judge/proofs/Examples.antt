@@ -7,12 +7,12 @@ use Rattle.automata.specs.Refusals.{some, outOfRangeAt, refusalOf}
 use Rattle.run_judge.specs.Clocks.{holds, withinAt, waited, resetBy}
 use Rattle.run_judge.specs.Examples.{Shown}
 use Rattle.run_judge.specs.Judging.{waitsFrom, jumpsFrom, passesTo, judgementOf}
-use Rattle.run_judge.specs.Moves.{waitMove, taken, jumpMove}
+use Rattle.run_judge.specs.Moves.{waitMove, edgeMove, jumpMove}
 use Rattle.run_judge.specs.Numbers.{capped, countOf}
 
 pub shown : Shown
 unfolding be16At be32At invariantIn edgeIn inByte firsts resetSet some outOfRangeAt refusalOf
-    holds withinAt waited resetBy waitMove taken jumpMove capped countOf waitsFrom jumpsFrom passesTo judgementOf
+    holds withinAt waited resetBy waitMove edgeMove jumpMove capped countOf waitsFrom jumpsFrom passesTo judgementOf
 shown = record {
   there = refl;
   followed = refl;

@@ -38,10 +38,10 @@ abbrev pub markedIn : List Bool → ℕ → Bool
 markedIn marks x = getD marks (suc x) false
 
 -- ---- states from which the sums of a step fit
-pub record Clocks (c : List ℕ) : Type 0 where
+pub record LowClocks (c : List ℕ) : Type 0 where
   pub size : length c ≡ 8
   pub low : (x : ℕ) → x < 8 → getD c x 0 ≤ scale
 
-pub record Ready (b : List ℕ) (l : ℕ) (c : List ℕ) : Type 0 where
+pub record CanStep (b : List ℕ) (l : ℕ) (c : List ℕ) : Type 0 where
   pub location : l < locations b
-  pub clocks : Clocks c
+  pub clocks : LowClocks c

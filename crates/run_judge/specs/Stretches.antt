@@ -5,7 +5,7 @@ use mathlib.Core.Bool.{Bool, true, cond}
 use mathlib.Core.List.{List}
 use lib.IntN.{ℤ}
 use Rattle.run_judge.specs.declared.stretches.Stretch.{Stretch}
-use Rattle.run_judge.specs.Clocks.{Ready}
+use Rattle.run_judge.specs.Clocks.{CanStep}
 use Rattle.run_judge.specs.Judging.{waitsTo, passesTo}
 
 -- what the rest of the judging comes to
@@ -17,10 +17,10 @@ pub record Handed (b : List ℕ) (r : List ℤ) (end at : ℕ) (t : Bool) (q : S
   pub same : finish b r end q ≡ t
   pub further : q .going ≡ true → at < q .at
   pub inside : q .going ≡ true → q .at ≤ end
-  pub ready : q .going ≡ true → Ready b (q .location) (q .clocks)
+  pub ready : q .going ≡ true → CanStep b (q .location) (q .clocks)
 
 -- between stretches: the rest comes to the whole's verdict
 pub record Rest (b : List ℕ) (r : List ℤ) (end : ℕ) (q : Stretch) : Type 0 where
   pub same : finish b r end q ≡ passesTo b r end
   pub inside : q .going ≡ true → q .at ≤ end
-  pub ready : q .going ≡ true → Ready b (q .location) (q .clocks)
+  pub ready : q .going ≡ true → CanStep b (q .location) (q .clocks)

@@ -8,7 +8,7 @@ ghost use lib.ListN.{length};
 ghost use Rattle.runs.specs.Limits.{scale};
 ghost use Rattle.automata.specs.Accepted.{Accepted};
 ghost use Rattle.automata.specs.Automata.{locations, edges};
-ghost use Rattle.run_judge.specs.Clocks.{holds, withinAt, meetsInvariant, meetsGuard, waited, resetBy, markedIn, Clocks};
+ghost use Rattle.run_judge.specs.Clocks.{holds, withinAt, meetsInvariant, meetsGuard, waited, resetBy, markedIn, LowClocks};
 
 // Whether a clock is within lo and hi.
 fn holds_limit(lo: u32, hi: u32, y: u64) -> bool
@@ -59,7 +59,7 @@ pub(crate) fn meets_guard(automaton: &[u8], i: usize, clocks: [u64; 8]) -> bool
 
 // A wait adds its time units to the first n clocks.
 pub(crate) fn later(old: [u64; 8], t: u64, n: usize) -> [u64; 8]
-    requires { ⌜ (n ≤ 8) × (t ≤ scale) × Clocks old ⌝ }
+    requires { ⌜ (n ≤ 8) × (t ≤ scale) × LowClocks old ⌝ }
     ensures { λ r. ⌜ r ≡ waited t n old ⌝ }
 {
     let mut clocks = old;

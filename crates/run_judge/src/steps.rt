@@ -10,8 +10,8 @@ ghost use mathlib.Core.Path.{_≡_};
 ghost use Prim.Native.Nat.{_<_};
 ghost use Rattle.automata.specs.Accepted.{Accepted};
 ghost use Rattle.automata.specs.Automata.{edges, locations};
-ghost use Rattle.run_judge.specs.Clocks.{Ready};
-ghost use Rattle.run_judge.specs.Moves.{stopped, waitMove, taken, jumpMove};
+ghost use Rattle.run_judge.specs.Clocks.{CanStep};
+ghost use Rattle.run_judge.specs.Moves.{notMade, waitMove, edgeMove, jumpMove};
 
 // The largest lo and hi.
 const SCALE: u64 = 1000000;
@@ -25,7 +25,7 @@ pub(crate) struct Moved {
 
 // A step that may not be made: the state as it was.
 fn stop(location: usize, clocks: [u64; 8]) -> Moved
-    ensures { λ r. ⌜ r ≡ stopped location clocks ⌝ }
+    ensures { λ r. ⌜ r ≡ notMade location clocks ⌝ }
 {
     Moved {
         made: false,
@@ -36,7 +36,7 @@ fn stop(location: usize, clocks: [u64; 8]) -> Moved
 
 // A wait. One above every limit is not made.
 pub(crate) fn wait_move(automaton: &[u8], location: usize, clocks: [u64; 8], t: u64) -> Moved
-    requires { ⌜ Accepted (now automaton) × Ready (now automaton) location clocks ⌝ }
+    requires { ⌜ Accepted (now automaton) × CanStep (now automaton) location clocks ⌝ }
     ensures { λ r. ⌜ r ≡ waitMove (now (automaton .entry)) location clocks t ⌝ }
 {
     if SCALE < t {
@@ -53,7 +53,7 @@ pub(crate) fn wait_move(automaton: &[u8], location: usize, clocks: [u64; 8], t: 
 // Edge i, which was fetched: the guard must hold before the reset, the invariant at arrival after it.
 fn take(automaton: &[u8], i: usize, edge: Edge, clocks: [u64; 8]) -> Moved
     requires { ⌜ Accepted (now automaton) × (i < edges (now automaton)) × (edge .to < locations (now automaton)) ⌝ }
-    ensures { λ r. ⌜ r ≡ taken (now (automaton .entry)) i edge clocks ⌝ }
+    ensures { λ r. ⌜ r ≡ edgeMove (now (automaton .entry)) i edge clocks ⌝ }
 {
     let to = edge.to;
     let resets = edge.resets;
@@ -69,7 +69,7 @@ fn take(automaton: &[u8], i: usize, edge: Edge, clocks: [u64; 8]) -> Moved
 
 // A jump by edge i.
 pub(crate) fn jump_move(automaton: &[u8], location: usize, clocks: [u64; 8], i: usize) -> Moved
-    requires { ⌜ Accepted (now automaton) × Ready (now automaton) location clocks ⌝ }
+    requires { ⌜ Accepted (now automaton) × CanStep (now automaton) location clocks ⌝ }
     ensures { λ r. ⌜ r ≡ jumpMove (now (automaton .entry)) location clocks i ⌝ }
 {
     if counts_of(automaton).edges <= i {

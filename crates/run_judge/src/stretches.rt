@@ -10,7 +10,7 @@ ghost use mathlib.Core.Path.{_≡_};
 ghost use Prim.Native.Nat.{_≤_};
 ghost use lib.ListN.{length};
 ghost use Rattle.automata.specs.Accepted.{Accepted};
-ghost use Rattle.run_judge.specs.Clocks.{Ready};
+ghost use Rattle.run_judge.specs.Clocks.{CanStep};
 ghost use Rattle.run_judge.specs.Judging.{waitsTo, jumpsTo, passesTo};
 ghost use Rattle.run_judge.specs.Stretches.{Handed};
 
@@ -36,7 +36,7 @@ fn wait_step(
     clocks: [u64; 8],
     at: usize,
 ) -> Stretch
-    requires { ⌜ Accepted (now automaton) × Ready (now automaton) location clocks × (at ≤ end) × (end ≤ length (now run)) ⌝ }
+    requires { ⌜ Accepted (now automaton) × CanStep (now automaton) location clocks × (at ≤ end) × (end ≤ length (now run)) ⌝ }
     ensures { λ r. ⌜ Handed (now (automaton .entry)) (now (run .entry)) end at
         (waitsTo (now (automaton .entry)) (now (run .entry)) end at location clocks) r ⌝ }
 {
@@ -74,7 +74,7 @@ fn jump_step(
     clocks: [u64; 8],
     at: usize,
 ) -> Stretch
-    requires { ⌜ Accepted (now automaton) × Ready (now automaton) location clocks × (at ≤ end) × (end ≤ length (now run)) ⌝ }
+    requires { ⌜ Accepted (now automaton) × CanStep (now automaton) location clocks × (at ≤ end) × (end ≤ length (now run)) ⌝ }
     ensures { λ r. ⌜ Handed (now (automaton .entry)) (now (run .entry)) end at
         (jumpsTo (now (automaton .entry)) (now (run .entry)) end at location clocks) r ⌝ }
 {

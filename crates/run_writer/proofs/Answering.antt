@@ -16,9 +16,8 @@ use Rattle.reachability.specs.Witnesses.{RunAlong}
 use Rattle.reachability.proofs.Branches.{arrived}
 use Rattle.reachability.proofs.Witnesses.{run-back}
 use Rattle.run_judge.specs.Passing.{Passes}
-use Rattle.run_judge.proofs.passing.Passing.{passes-judged}
-use Rattle.runs.specs.Runs.{Step, jumps}
-use Rattle.runs.specs.Written.{ByTurns, alone, then, numbers, written}
+use Rattle.run_judge.proofs.passing.Passing.{written-length, passes-judged}
+use Rattle.runs.specs.Written.{written}
 use Rattle.search.specs.declared.outcome.Outcome.the-variants.{Going, Reached, Refused}
 use Rattle.search.specs.declared.outcome.Turn.{Turn}
 use Rattle.search.specs.declared.verdict.Answer.the-variants as answers
@@ -36,14 +35,6 @@ use Rattle.run_writer.specs.Told.{Tells}
 use Rattle.run_writer.specs.Writing.{runOf, outcomeNumbers, runNumbers, runAnswer, runBuffer}
 use Rattle.run_writer.proofs.Witnessing.{witness-laws}
 use Rattle.run_writer.proofs.branch.Stepping.{jumps-most}
-
--- ---- how long a run is that is written
-turns-length : {xs : List Step} → ByTurns xs → length (numbers xs) ≡ 2 * length (jumps xs) + 1
-turns-length (alone t) = omega arith
-turns-length (then t i h) = omega (arith, turns-length h)
-
-pub written-length : {xs : List Step} → ByTurns xs → length (written xs) ≡ 2 * length (jumps xs) + 2
-written-length h = omega (arith, turns-length h)
 
 -- ---- where there is nothing to write
 module _ (b : List ℕ) (amount : ℕ) (none : runNumbers b amount ≡ []) where

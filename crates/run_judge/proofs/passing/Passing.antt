@@ -13,7 +13,7 @@ use lib.ListN.{length, getD, take, drop, replicate, length-append, take-append-d
 use lib.Seq.{length-take-le, take-at}
 use Rattle.runs.specs.Runs.{Stand, Step, wait, jump, jumps, first, last, Can, Steps, Run}
 use Rattle.runs.specs.Timed.{Valuation, later, zeroed}
-use Rattle.runs.specs.Written.{numbers, ByTurns, alone, then}
+use Rattle.runs.specs.Written.{numbers, ByTurns, alone, then, written}
 use Rattle.runs.proofs.Contradictions.{true-false}
 use Rattle.automata.specs.Accepted.{Accepted}
 use Rattle.automata.specs.Automata.{clocks, locations, start, target, to, resetsOf}
@@ -45,6 +45,10 @@ numbers-length (jump i ∷ xs) = ap suc (numbers-length xs)
 turns-count : {xs : List Step} → ByTurns xs → length xs + 1 ≡ 2 * length (jumps xs) + 2
 turns-count (alone t) = refl
 turns-count (then t i k) = let h = turns-count k in omega arith
+
+-- so many numbers are written
+pub written-length : {xs : List Step} → ByTurns xs → length (written xs) ≡ 2 * length (jumps xs) + 2
+written-length {xs} h = omega (arith, turns-count h, numbers-length xs)
 
 -- ---- the steps
 module _ (b : List ℕ) (a : Accepted b) where

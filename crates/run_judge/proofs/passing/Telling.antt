@@ -20,7 +20,7 @@ use Rattle.automata.specs.Semantics.{systemOf}
 use Rattle.automata.proofs.fields.Resets.{resets-at}
 use Rattle.run_judge.specs.declared.steps.Moved.{Moved}
 use Rattle.run_judge.specs.Clocks.{meetsInvariant, meetsGuard, waited, resetBy, markedIn}
-use Rattle.run_judge.specs.Moves.{stopped, waitMove, taken, jumpMove}
+use Rattle.run_judge.specs.Moves.{notMade, waitMove, edgeMove, jumpMove}
 use Rattle.run_judge.specs.Numbers.{capped}
 use Rattle.run_judge.proofs.numbers.Numbers.{capped-same}
 use Rattle.run_judge.proofs.steps.Readying.{both, present, on-scale}
@@ -75,7 +75,7 @@ module _ (b : List ℕ) (a : Accepted b) where
       where
         go : (u : Bool) → ltb scale t ≡ u →
             let d = waited t (clocks b) c in
-            let m : Moved = cond u (stopped l c) (record { made = meetsInvariant b l d; location = l; clocks = d }) in
+            let m : Moved = cond u (notMade l c) (record { made = meetsInvariant b l d; location = l; clocks = d }) in
             m .made ≡ true → (t ≤ scale) × Made l v m (wait t)
         go true f e = true-false (sym e)
         go false f e =
@@ -83,11 +83,11 @@ module _ (b : List ℕ) (a : Accepted b) where
             (ltb-false scale t f, record { can = invariant-means _ _ w l e; location = refl; agrees = w })
 
     pub jump-tells : (i : ℕ) → jumpMove b l c i .made ≡ true → (i < edges b) × Made l v (jumpMove b l c i) (jump i)
-    unfolding jumpMove taken
+    unfolding jumpMove edgeMove
     jump-tells i = go (leb (edges b) i) refl (eqb (from b i) l) refl
       where
         go : (t : Bool) → leb (edges b) i ≡ t → (u : Bool) → eqb (from b i) l ≡ u →
-            let m : Moved = cond t (stopped l c) (cond u (taken b i (edgeOf b i) c) (stopped l c)) in
+            let m : Moved = cond t (notMade l c) (cond u (edgeMove b i (edgeOf b i) c) (notMade l c)) in
             m .made ≡ true → (i < edges b) × Made l v m (jump i)
         go true p u q e = true-false (sym e)
         go false p true q e =
@@ -124,7 +124,7 @@ module _ (b : List ℕ) (a : Accepted b) where
 
     pub jump-made : (i : ℕ) → Can (systemOf b) 1 0 (stand l v) (jump i) →
         (capped (pos i) ≡ i) × (jumpMove b l c i ≡ record { made = true; location = to b i; clocks = resetOf i c })
-    unfolding jumpMove taken
+    unfolding jumpMove edgeMove
     jump-made i k = (
       capped-same i (omega (arith, k .0, a .complete .edges≤)),
       rw (lt-leb (edges b) i (k .0)) (rw (eq-eqb (from b i) l (k .1)) (rw (means-guard c v y i (k .2))

@@ -14,8 +14,8 @@ use Rattle.automata.specs.Accepted.{Accepted}
 use Rattle.automata.specs.Automata.{clocks, locations, edges, from, to, invariantAt, hiAt, noUpper, limitsAt, invariantOf}
 use Rattle.automata.specs.Opened.{edgeOf}
 use Rattle.run_judge.specs.declared.steps.Moved.{Moved}
-use Rattle.run_judge.specs.Clocks.{meetsInvariant, meetsGuard, waited, resetBy, markedIn, Ready}
-use Rattle.run_judge.specs.Moves.{stopped, waitMove, taken, jumpMove}
+use Rattle.run_judge.specs.Clocks.{meetsInvariant, meetsGuard, waited, resetBy, markedIn, CanStep}
+use Rattle.run_judge.specs.Moves.{notMade, waitMove, edgeMove, jumpMove}
 use Rattle.run_judge.proofs.clocks.Showing.{within-shows, waited-length, waited-past, reset-length, reset-past}
 
 -- both of two tests
@@ -44,15 +44,15 @@ module _ (b : List ℕ) (a : Accepted b) where
           omega (arith, within-shows b (invariantAt b l) c (clocks b) w x h .most (present l x hl h), on-scale l x hl h)
       go false e = p x (ltb-false x (clocks b) e) hx
 
-  module _ (l : ℕ) (c : List ℕ) (y : Ready b l c) (i : ℕ) where
-    pub wait-ready : waitMove b l c i .made ≡ true → Ready b (waitMove b l c i .location) (waitMove b l c i .clocks)
+  module _ (l : ℕ) (c : List ℕ) (y : CanStep b l c) (i : ℕ) where
+    pub wait-ready : waitMove b l c i .made ≡ true → CanStep b (waitMove b l c i .location) (waitMove b l c i .clocks)
     unfolding waitMove
     wait-ready = go (ltb scale i)
       where
         d : List ℕ
         d = waited i (clocks b) c
 
-        to-ready : meetsInvariant b l d ≡ true → Ready b l d
+        to-ready : meetsInvariant b l d ≡ true → CanStep b l d
         to-ready w = record {
           location = y .location;
           clocks = record {
@@ -61,13 +61,13 @@ module _ (b : List ℕ) (a : Accepted b) where
           };
         }
 
-        go : (t : Bool) → let m : Moved = cond t (stopped l c) (record { made = meetsInvariant b l d; location = l; clocks = d }) in
-            m .made ≡ true → Ready b (m .location) (m .clocks)
+        go : (t : Bool) → let m : Moved = cond t (notMade l c) (record { made = meetsInvariant b l d; location = l; clocks = d }) in
+            m .made ≡ true → CanStep b (m .location) (m .clocks)
         go true e = true-false (sym e)
         go false e = to-ready e
 
-    taken-ready : i < edges b → taken b i (edgeOf b i) c .made ≡ true → Ready b (to b i) (taken b i (edgeOf b i) c .clocks)
-    unfolding taken
+    taken-ready : i < edges b → edgeMove b i (edgeOf b i) c .made ≡ true → CanStep b (to b i) (edgeMove b i (edgeOf b i) c .clocks)
+    unfolding edgeMove
     taken-ready h w =
         let R = markedIn (edgeOf b i .resets) in
         let d = resetBy R (clocks b) c in
@@ -80,13 +80,13 @@ module _ (b : List ℕ) (a : Accepted b) where
           };
         }
 
-    pub jump-ready : jumpMove b l c i .made ≡ true → Ready b (jumpMove b l c i .location) (jumpMove b l c i .clocks)
-    unfolding jumpMove taken
+    pub jump-ready : jumpMove b l c i .made ≡ true → CanStep b (jumpMove b l c i .location) (jumpMove b l c i .clocks)
+    unfolding jumpMove edgeMove
     jump-ready = go (leb (edges b) i) refl (eqb (from b i) l)
       where
         go : (t : Bool) → leb (edges b) i ≡ t → (u : Bool) →
-            let m : Moved = cond t (stopped l c) (cond u (taken b i (edgeOf b i) c) (stopped l c)) in
-            m .made ≡ true → Ready b (m .location) (m .clocks)
+            let m : Moved = cond t (notMade l c) (cond u (edgeMove b i (edgeOf b i) c) (notMade l c)) in
+            m .made ≡ true → CanStep b (m .location) (m .clocks)
         go true p u e = true-false (sym e)
         go false p true e = taken-ready (leb-false (edges b) i p) e
         go false p false e = true-false (sym e)

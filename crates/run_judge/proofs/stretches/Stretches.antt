@@ -15,7 +15,7 @@ use Rattle.automata.specs.Accepted.{Accepted}
 use Rattle.automata.specs.Automata.{target}
 use Rattle.run_judge.specs.declared.steps.Moved.{Moved}
 use Rattle.run_judge.specs.declared.stretches.Stretch.{Stretch}
-use Rattle.run_judge.specs.Clocks.{Ready}
+use Rattle.run_judge.specs.Clocks.{CanStep}
 use Rattle.run_judge.specs.Judging.{waitsFrom, jumpsFrom, waitsTo, jumpsTo}
 use Rattle.run_judge.specs.Moves.{waitMove, jumpMove}
 use Rattle.run_judge.specs.Numbers.{capped}
@@ -57,7 +57,7 @@ module _ (b : List ℕ) (r : List ℤ) (end at l : ℕ) (c : List ℕ) where
   jump-over t e f = over b r end at _ at l c (eqb l t) (rw f (sym (jumps-end b r end at l c e)))
 
   -- ---- one that is not at the end of the numbers
-  module _ (a : Accepted b) (y : Ready b l c) (h : at < end) (k : end ≤ length r) (m : Moved) where
+  module _ (a : Accepted b) (y : CanStep b l c) (h : at < end) (k : end ≤ length r) (m : Moved) where
     pub wait-no : m ≡ waitMove b l c (capped (getD r at (pos 0))) → m .made ≡ false →
         Handed b r end at (waitsTo b r end at l c) (record { going = false; passed = false; location = l; clocks = c; at = at })
     wait-no e o = over b r end at _ at l c false (sym (waits-next b r end at l c h k ∙ rw (← e) (rw o refl)))
@@ -71,10 +71,10 @@ module _ (b : List ℕ) (r : List ℤ) (end at l : ℕ) (c : List ℕ) where
       ready = s .ready;
     }
 
-    pub wait-on-ready : m ≡ waitMove b l c (capped (getD r at (pos 0))) → m .made ≡ true → Ready b (m .location) (m .clocks)
+    pub wait-on-ready : m ≡ waitMove b l c (capped (getD r at (pos 0))) → m .made ≡ true → CanStep b (m .location) (m .clocks)
     wait-on-ready e o = rw e (wait-ready b a l c y _ (rw e at o))
 
-    pub jump-on-ready : m ≡ jumpMove b l c (capped (getD r at (pos 0))) → m .made ≡ true → Ready b (m .location) (m .clocks)
+    pub jump-on-ready : m ≡ jumpMove b l c (capped (getD r at (pos 0))) → m .made ≡ true → CanStep b (m .location) (m .clocks)
     jump-on-ready e o = rw e (jump-ready b a l c y _ (rw e at o))
 
     -- the jump is not made, or the stretch is at its end
