@@ -8,9 +8,9 @@ give_up() {
     exit 1
 }
 
-# The proved library. The gate has built it for all tests: rt takes its time even where nothing has changed.
+# The proved library, or another one. The gate has built them for all tests: rt takes its time even where nothing has changed.
 build_library() {
-    [ "${LIBRARY_BUILT:-}" = yes ] || rt staticlib exports </dev/null || give_up 'the library is not proved and built'
+    [ "${LIBRARY_BUILT:-}" = yes ] || rt staticlib "${1:-exports}" </dev/null || give_up 'the library is not proved and built'
 }
 
 # run_program FILE ARGUMENT..: a program in the test's folder, with what rt built.

@@ -1,9 +1,11 @@
 // Document 02's one order of edges: their numbers, sorted by the edges' bytes, repeats dropped.
+use encoding::same;
 use encoding::wide;
 use encoding::word;
 ghost use mathlib.Core.Path.{_≡_};
 ghost use Prim.Native.Nat.{_+_, _*_, _≤_, _<_};
 ghost use lib.ListN.{length, getD};
+ghost use Rattle.encoding.specs.Bytes.{sameBytes};
 ghost use Rattle.order.specs.Edges.{bytesLess, rising};
 ghost use Rattle.order.specs.Laid.{edgeBytes, nthEdge, edgesFrom};
 ghost use Rattle.canonical.specs.Comparing.{lessFrom};
@@ -88,6 +90,16 @@ fn edge_less(bytes: &[u8], size: usize, i: usize, j: usize) -> bool
     less(bytes, i * size, j * size, size)
 }
 
+// Whether edges i and j have the same bytes.
+fn edge_same(bytes: &[u8], size: usize, i: usize, j: usize) -> bool
+    requires { ⌜ Lies size (now bytes) i × Lies size (now bytes) j ⌝ }
+    ensures { λ r. ⌜ r ≡ sameBytes (nthEdge size (now (bytes .entry)) i) (nthEdge size (now (bytes .entry)) j) ⌝ }
+{
+    let a = i * size;
+    let b = j * size;
+    same(&bytes[a..a + size], &bytes[b..b + size])
+}
+
 // ---- an edge among the listed ones
 // Whether the one listed at k is less than edge x.
 fn listed_less(bytes: &[u8], size: usize, numbers: &[u8; 256], k: usize, x: usize) -> bool
@@ -97,12 +109,12 @@ fn listed_less(bytes: &[u8], size: usize, numbers: &[u8; 256], k: usize, x: usiz
     edge_less(bytes, size, wide(numbers[k]) as usize, x)
 }
 
-// Whether edge x is less than the one listed at k.
-fn less_than_listed(bytes: &[u8], size: usize, numbers: &[u8; 256], k: usize, x: usize) -> bool
+// Whether edge x has the bytes of the one listed at k.
+fn same_as_listed(bytes: &[u8], size: usize, numbers: &[u8; 256], k: usize, x: usize) -> bool
     requires { ⌜ (k < 256) × Lies size (now bytes) (getD (now numbers) k 0) × Lies size (now bytes) x ⌝ }
-    ensures { λ r. ⌜ r ≡ bytesLess (nthEdge size (now (bytes .entry)) x) (nthEdge size (now (bytes .entry)) (getD (now (numbers .entry)) k 0)) ⌝ }
+    ensures { λ r. ⌜ r ≡ sameBytes (nthEdge size (now (bytes .entry)) x) (nthEdge size (now (bytes .entry)) (getD (now (numbers .entry)) k 0)) ⌝ }
 {
-    edge_less(bytes, size, x, wide(numbers[k]) as usize)
+    edge_same(bytes, size, x, wide(numbers[k]) as usize)
 }
 
 // Where edge x belongs, behind the last that is less, and whether its bytes are new there. Edges in order are behind all, which is tested first;
@@ -134,7 +146,7 @@ fn place(bytes: &[u8], size: usize, numbers: &[u8; 256], count: usize, x: usize)
     }
     Position {
         at: lo,
-        fresh: less_than_listed(bytes, size, numbers, lo, x),
+        fresh: !same_as_listed(bytes, size, numbers, lo, x),
     }
 }
 

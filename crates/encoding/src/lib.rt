@@ -2,8 +2,9 @@
 use bytes::copy;
 ghost use mathlib.Core.Path.{_≡_};
 ghost use Prim.Native.Nat.{_+_, _≤_, _<_};
+ghost use lib.Dec.{eqb};
 ghost use lib.ListN.{length};
-ghost use Rattle.encoding.specs.Numbers.{be16At, be32At, be16, be32};
+ghost use Rattle.encoding.specs.Numbers.{be16At, be32At, le32At, be16, be32};
 ghost use Rattle.encoding.specs.Placing.{placed};
 ghost use Rattle.encoding.specs.Bytes.{sameBytes, Two, Four};
 
@@ -65,26 +66,70 @@ pub fn word(s: &[u8], at: usize) -> u32
     two(s, at) * 65536 + two(s, at + 2)
 }
 
-// Whether two strings of bytes are the same: from both ends, since automata share long beginnings or ends.
+// ---- strings of bytes compared
+// The number of four bytes, the smallest first, and that they are bytes: where only equality is asked, since it is one load.
+fn le32(s: &[u8], at: usize) -> u32
+    requires { ⌜ at + 4 ≤ length (now s) ⌝ }
+    ensures { λ r. ⌜ (r ≡ le32At (now (s .entry)) at) × Four (now (s .entry)) at ⌝ }
+{
+    wide(s[at]) + wide(s[at + 1]) * 256 + wide(s[at + 2]) * 65536 + wide(s[at + 3]) * 16777216
+}
+
+// Whether the four bytes at `at` make one number in both, and that they are bytes.
+fn same_word(a: &[u8], b: &[u8], at: usize) -> bool
+    requires { ⌜ (at + 4 ≤ length (now a)) × (at + 4 ≤ length (now b)) ⌝ }
+    ensures { λ r. ⌜ (r ≡ eqb (le32At (now (a .entry)) at) (le32At (now (b .entry)) at)) × Four (now (a .entry)) at × Four (now (b .entry)) at ⌝ }
+{
+    le32(a, at) == le32(b, at)
+}
+
+// Whether two strings of one length are the same, by single bytes.
+fn same_singly(a: &[u8], b: &[u8]) -> bool
+    requires { ⌜ length (now a) ≡ length (now b) ⌝ }
+    ensures { λ r. ⌜ r ≡ sameBytes (now (a .entry)) (now (b .entry)) ⌝ }
+{
+    let mut i = 0;
+    while i < a.len() {
+        if a[i] != b[i] {
+            return false;
+        }
+        i += 1;
+    }
+    true
+}
+
+// Whether two strings of one length are the same: four bytes as one number, then the odd bytes singly. It goes from both ends, since automata share
+// long beginnings or long ends; the last two words may overlap.
+fn same_ends(a: &[u8], b: &[u8]) -> bool
+    requires { ⌜ length (now a) ≡ length (now b) ⌝ }
+    ensures { λ r. ⌜ r ≡ sameBytes (now (a .entry)) (now (b .entry)) ⌝ }
+{
+    let mut i = 0;
+    let mut j = a.len();
+    while i + 4 <= j {
+        j -= 4;
+        if !same_word(a, b, i) {
+            return false;
+        }
+        if !same_word(a, b, j) {
+            return false;
+        }
+        i += 4;
+    }
+    if j <= i {
+        return true;
+    }
+    same_singly(&a[i..j], &b[i..j])
+}
+
+// Whether two strings of bytes are the same: their lengths, then their bytes.
 pub fn same(a: &[u8], b: &[u8]) -> bool
     ensures { λ r. ⌜ r ≡ sameBytes (now (a .entry)) (now (b .entry)) ⌝ }
 {
     if a.len() != b.len() {
         return false;
     }
-    let mut i = 0;
-    let mut j = a.len();
-    while i < j {
-        j -= 1;
-        if a[i] != b[i] {
-            return false;
-        }
-        if a[j] != b[j] {
-            return false;
-        }
-        i += 1;
-    }
-    true
+    same_ends(a, b)
 }
 
 // Bytes put at a place of others.

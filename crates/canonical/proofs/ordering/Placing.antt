@@ -1,13 +1,17 @@
 -- Where an edge belongs, by halving: what stands before lo is less, what stands at hi is not. It needs no order of those between.
 -- Assumes nothing.
 use Prim.Native.Nat.{ℕ, _+_, _-_, _/_, _<_, _≤_}
-use mathlib.Core.Bool.{Bool, true, false, true≢false}
+use mathlib.Core.Bool.{Bool, true, false, not, true≢false}
 use mathlib.Core.List.{List}
-use mathlib.Core.Path.{_≡_, sym, _∙_, subst}
+use mathlib.Core.Path.{_≡_, refl, sym, _∙_, subst}
+use borrow.Author.Tests.{not-true, not-false}
 use lib.ListN.{getD}
 use native.Mathlib.Omega.{arith}
+use Rattle.encoding.specs.Bytes.{sameBytes}
+use Rattle.encoding.proofs.Equality.{one-list}
 use Rattle.order.specs.Edges.{Edge, bytesLess}
 use Rattle.order.specs.Laid.{nthEdge}
+use Rattle.order.proofs.Order.{irreflexive, neither}
 use Rattle.canonical.specs.Numbers.{Belongs, Positioned}
 
 pub record Between (size : ℕ) (s : List ℕ) (ns : List ℕ) (count : ℕ) (x : ℕ) (lo hi : ℕ) : Type 0 where
@@ -19,16 +23,33 @@ pub record Between (size : ℕ) (s : List ℕ) (ns : List ℕ) (count : ℕ) (x 
 pub middle : (lo hi : ℕ) → lo < hi → (lo ≤ lo + (hi - lo) / 2) × (lo + (hi - lo) / 2 < hi)
 middle lo hi h = (omega arith, omega arith)
 
+-- ---- of an edge that is not less, other bytes are more
+same-not-less : (x y : Edge) → sameBytes x y ≡ true → bytesLess x y ≡ false
+same-not-less x y e = subst (λ (z : Edge). bytesLess x z ≡ false) (one-list x y .0 e) (irreflexive x)
+
+differ-less : (x y : Edge) → sameBytes x y ≡ false → bytesLess y x ≡ false → bytesLess x y ≡ true
+differ-less x y e h = go (bytesLess x y) refl
+  where
+    go : (t : Bool) → bytesLess x y ≡ t → bytesLess x y ≡ true
+    go true g = g
+    go false g = absurd (true≢false (sym (one-list x y .1 (neither x y g h)) ∙ e))
+
 module _ (size : ℕ) (s : List ℕ) (ns : List ℕ) (count : ℕ) (x : ℕ) where
   abbrev at : ℕ → Edge
   at k = nthEdge size s (getD ns k 0)
 
-  -- its bytes are new where nothing stands, or what it is less than
+  -- its bytes are new where nothing stands
   outside : {r : ℕ} → Belongs size s ns count x r → count ≤ r → Positioned size s ns count x r true
   outside b h = record { belongs = b; fresh = λ e g. absurd (omega arith); there = λ e. absurd (true≢false e) }
 
-  tested : {r : ℕ} {t : Bool} → Belongs size s ns count x r → r < count → t ≡ bytesLess (nthEdge size s x) (at r) → Positioned size s ns count x r t
-  tested b h e = record { belongs = b; fresh = λ f g. sym e ∙ f; there = λ f. (h, sym e ∙ f) }
+  -- or other bytes stand: as they are not less than x, x is less
+  tested : {r : ℕ} {t : Bool} → Belongs size s ns count x r → r < count → t ≡ sameBytes (nthEdge size s x) (at r)
+      → Positioned size s ns count x r (not t)
+  tested b h e = record {
+    belongs = b;
+    fresh = λ f g. differ-less _ _ (sym e ∙ not-true _ f) (b .behind g);
+    there = λ f. (h, same-not-less _ _ (sym e ∙ not-false _ f));
+  }
 
   pub place-none : count ≡ 0 → Positioned size s ns count x 0 true
   place-none e =
@@ -53,8 +74,8 @@ module _ (size : ℕ) (s : List ℕ) (ns : List ℕ) (count : ℕ) (x : ℕ) whe
     pub lower-half : t ≡ false → Between size s ns count x lo mid
     lower-half f = record { apart = h .0; inside = omega (arith, b .inside); before = b .before; behind = sym e ∙ f }
 
-  pub place-found : (lo hi : ℕ) → Between size s ns count x lo hi → hi ≤ lo → {t : Bool} → t ≡ bytesLess (nthEdge size s x) (at lo)
-      → Positioned size s ns count x lo t
+  pub place-found : (lo hi : ℕ) → Between size s ns count x lo hi → hi ≤ lo → {t : Bool} → t ≡ sameBytes (nthEdge size s x) (at lo)
+      → Positioned size s ns count x lo (not t)
   place-found lo hi b h e =
       let same : hi ≡ lo = omega (arith, b .apart) in
       let here = subst (λ (k : ℕ). bytesLess (at k) (nthEdge size s x) ≡ false) same (b .behind) in

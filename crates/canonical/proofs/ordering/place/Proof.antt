@@ -62,7 +62,7 @@ loop-again-2 c =
     lower-half _ _ _ _ _ (l .lo) (l .hi) (l .lo + (l .hi - l .lo) / 2) (l .inv) (middle (l .lo) (l .hi) (omega arith))
     (c .before .listed-less2 .ensures) (c .if3 .left)
 
-found-requires : tie.Need-less-than-listed-requires Inv-loop μ-loop
+found-requires : tie.Need-same-as-listed-requires Inv-loop μ-loop
 found-requires c κs =
     let l = c .before .loop in
     let start = c .before .before .before .before .before .before in
@@ -70,7 +70,7 @@ found-requires c κs =
     (omega (arith, l .inv .inside, l .inv .apart, listed .room), listed .number (l .lo) (omega (arith, l .inv .inside, l .inv .apart)), start .pre .1)
 
 returns-3 : tie.Need-returns-3 Inv-loop μ-loop
-returns-3 c = let l = c .before .before .loop in place-found _ _ _ _ _ (l .lo) (l .hi) (l .inv) (omega arith) (c .less-than-listed .ensures)
+returns-3 c = let l = c .before .before .loop in place-found _ _ _ _ _ (l .lo) (l .hi) (l .inv) (omega arith) (c .same-as-listed .ensures)
 
 pub place-spec : {M : Type 1} → statement M
 place-spec =
