@@ -8,7 +8,8 @@ give_up() {
     exit 1
 }
 
-# The proved library, or another one. The gate has built them for all tests: rt takes its time even where nothing has changed.
+# build_library [CRATE]: the proved library of exports, or of another crate. The gate has built them for all tests: rt takes its time even
+# where nothing has changed.
 build_library() {
     [ "${LIBRARY_BUILT:-}" = yes ] || rt staticlib "${1:-exports}" </dev/null || give_up 'the library is not proved and built'
 }

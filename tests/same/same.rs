@@ -18,10 +18,11 @@ use std::slice;
 
 const LONGEST: usize = 70;
 
-// All bytes alike, so that only the place of a change tells, and all different.
 type Pattern = fn(usize) -> u8;
-const ALIKE: [Pattern; 2] = [|_| 0, |_| 255];
+// No two bytes are alike.
 const DIFFERENT: Pattern = |at| (at * 37 + 11) as u8;
+// Where all are alike, only the place of a change tells.
+const PATTERNS: [Pattern; 3] = [|_| 0, |_| 255, DIFFERENT];
 
 struct Test {
     checks: Checks,
@@ -32,10 +33,13 @@ struct Test {
 impl Test {
     // Whether two strings are said to be equal, taken either way.
     fn told(&mut self, a: &[u8], b: &[u8], equal: bool, what: &str) {
-        let at = self.pages[0].place(a, self.guards[0]);
-        let bt = self.pages[1].place(b, self.guards[1]);
-        let a = unsafe { slice::from_raw_parts(at, a.len()) };
-        let b = unsafe { slice::from_raw_parts(bt, b.len()) };
+        let [first, second] = &mut self.pages;
+        let places = (
+            first.place(a, self.guards[0]),
+            second.place(b, self.guards[1]),
+        );
+        let a = unsafe { slice::from_raw_parts(places.0, a.len()) };
+        let b = unsafe { slice::from_raw_parts(places.1, b.len()) };
         let said = [same(a, b), same(b, a)];
         self.checks.check(said == [equal; 2], || {
             format!("{what}: {said:?} of {a:?} and {b:?}")
@@ -84,7 +88,7 @@ impl Test {
     }
 
     fn length(&mut self, length: usize) {
-        for pattern in [ALIKE[0], ALIKE[1], DIFFERENT] {
+        for pattern in PATTERNS {
             let a: Vec<u8> = (0..length).map(pattern).collect();
             self.told(&a, &a, true, "the same bytes");
             self.one_byte(&a);

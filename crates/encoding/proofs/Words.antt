@@ -9,7 +9,7 @@ use lib.Dec.{eqb}
 use lib.ListN.{getD}
 use native.Mathlib.Decide.{decLe}
 use native.Mathlib.Omega.{arith}
-use Rattle.encoding.specs.Bytes.{sameBytes, Two, Four}
+use Rattle.encoding.specs.Bytes.{sameBytes, Four}
 use Rattle.encoding.specs.Numbers.{le32At}
 use Rattle.encoding.proofs.Equality.{differ-same}
 

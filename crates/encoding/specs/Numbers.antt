@@ -9,7 +9,7 @@ be16At s at = getD s at 0 * 256 + getD s (at + 1) 0
 unfoldable pub be32At : List ℕ → ℕ → ℕ
 be32At s at = be16At s at * 65536 + be16At s (at + 2)
 
--- four bytes as one number, the smallest first, as a machine reads them: the code compares strings by it, no format has it
+-- four bytes as one little-endian number, by which the code compares strings; no format has it
 unfoldable pub le32At : List ℕ → ℕ → ℕ
 le32At s at = getD s at 0 + getD s (at + 1) 0 * 256 + getD s (at + 2) 0 * 65536 + getD s (at + 3) 0 * 16777216
 

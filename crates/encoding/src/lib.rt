@@ -1,4 +1,4 @@
-// Big-endian numbers in bytes, both ways, and byte strings compared and put at a place of others.
+// Numbers in bytes, both ways, big-endian in every format; byte strings compared, and put at a place of others.
 use bytes::copy;
 ghost use mathlib.Core.Path.{_≡_};
 ghost use Prim.Native.Nat.{_+_, _≤_, _<_};
@@ -58,7 +58,7 @@ pub fn bytes_of(x: u32) -> [u8; 4]
     ]
 }
 
-// The number of four bytes, and that they are bytes: where numbers differ, the first byte that differs decides which is less.
+// The big-endian number of four bytes, and that they are bytes: where numbers differ, the first byte that differs decides which is less.
 pub fn word(s: &[u8], at: usize) -> u32
     requires { ⌜ at + 4 ≤ length (now s) ⌝ }
     ensures { λ r. ⌜ (r ≡ be32At (now (s .entry)) at) × Four (now (s .entry)) at ⌝ }
@@ -67,7 +67,7 @@ pub fn word(s: &[u8], at: usize) -> u32
 }
 
 // ---- strings of bytes compared
-// The number of four bytes, the smallest first, and that they are bytes: where only equality is asked, since it is one load.
+// The little-endian number of four bytes, and that they are bytes. It is one load, and serves where only equality is asked.
 fn le32(s: &[u8], at: usize) -> u32
     requires { ⌜ at + 4 ≤ length (now s) ⌝ }
     ensures { λ r. ⌜ (r ≡ le32At (now (s .entry)) at) × Four (now (s .entry)) at ⌝ }
@@ -100,7 +100,7 @@ fn same_singly(a: &[u8], b: &[u8]) -> bool
 
 // Whether two strings of one length are the same: four bytes as one number, then the odd bytes singly. It goes from both ends, since automata share
 // long beginnings or long ends; the last two words may overlap.
-fn same_ends(a: &[u8], b: &[u8]) -> bool
+fn same_by_words(a: &[u8], b: &[u8]) -> bool
     requires { ⌜ length (now a) ≡ length (now b) ⌝ }
     ensures { λ r. ⌜ r ≡ sameBytes (now (a .entry)) (now (b .entry)) ⌝ }
 {
@@ -129,7 +129,7 @@ pub fn same(a: &[u8], b: &[u8]) -> bool
     if a.len() != b.len() {
         return false;
     }
-    same_ends(a, b)
+    same_by_words(a, b)
 }
 
 // Bytes put at a place of others.

@@ -23,7 +23,7 @@ pub record Between (size : ℕ) (s : List ℕ) (ns : List ℕ) (count : ℕ) (x 
 pub middle : (lo hi : ℕ) → lo < hi → (lo ≤ lo + (hi - lo) / 2) × (lo + (hi - lo) / 2 < hi)
 middle lo hi h = (omega arith, omega arith)
 
--- ---- of an edge that is not less, other bytes are more
+-- ---- the same bytes are not less; other bytes, where they are not less, are more
 same-not-less : (x y : Edge) → sameBytes x y ≡ true → bytesLess x y ≡ false
 same-not-less x y e = subst (λ (z : Edge). bytesLess x z ≡ false) (one-list x y .0 e) (irreflexive x)
 

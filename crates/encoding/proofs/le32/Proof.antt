@@ -1,6 +1,6 @@
 -- `le32` meets its contract.
 use Prim.Native.Nat.{ℕ, _+_, _<_}
-use mathlib.Core.Path.{_≡_, subst}
+use mathlib.Core.Path.{subst}
 use borrow.Author.Needs.{needs}
 use lib.ListN.{getD}
 use native.Mathlib.Omega.{arith}

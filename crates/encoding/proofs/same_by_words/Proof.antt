@@ -1,4 +1,4 @@
--- `same_ends` meets its contract: the bytes before i and from j on are the same.
+-- `same_by_words` meets its contract: the bytes before i and from j on are the same.
 use Prim.Native.Nat.{_-_, _≤_}
 use mathlib.Core.Path.{sym, _∙_}
 use borrow.Author.Tests.{not-true, not-false}
@@ -6,8 +6,8 @@ use lib.ListN.{length}
 use native.Mathlib.Omega.{arith}
 use Rattle.encoding.proofs.Words.{words-differ}
 use Rattle.encoding.proofs.Ends.{Outer, outer-start, outer-words, outer-same, between-size, between-same}
-use Rattle.encoding.proofs.same_ends.Statement.{statement}
-use Rattle.encoding.proofs.same_ends.Tie as tie
+use Rattle.encoding.proofs.same_by_words.Statement.{statement}
+use Rattle.encoding.proofs.same_by_words.Tie as tie
 
 abbrev Inv-loop : tie.InvT-loop
 Inv-loop a b i₀ j₀ i j = (i ≤ length a) × (j ≤ length a) × Outer a b i j
@@ -48,8 +48,8 @@ returns-4 c =
     let l = c .before .before .before .before .before .loop in
     c .same-singly .ensures ∙ between-same _ _ (l .i) (l .j) (l .inv .2) (omega arith)
 
-pub same-ends-spec : {M : Type 1} → statement M
-same-ends-spec =
+pub same-by-words-spec : {M : Type 1} → statement M
+same-by-words-spec =
     tie.close
     (tie.spec
     Inv-loop
