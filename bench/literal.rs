@@ -1,11 +1,11 @@
-// Document 01's search in plain Rust, step for step, with document 02's slots, on an automaton that
-// is free of 1 to 8.
+// Document 01's search in plain Rust, step for step, with document 02's slots and two fractions, on an
+// automaton that is free of 1 to 8.
 
 // Each program takes some of it.
 #![allow(dead_code)]
 
 use crate::lengths::{slot, BEFORE_PAIRS};
-use crate::plain::{less, lowered, Fraction, Pair, Work, Zone, NO_LIMIT};
+use crate::plain::{less, lowered, Fraction, Fractions, Pair, Work, Zone, NO_LIMITS, ZERO};
 
 const NO_UPPER: u32 = u32::MAX;
 const COUNTS: u64 = 65_535;
@@ -34,7 +34,7 @@ pub struct Search<'a> {
     clocks: usize,
     slots: usize,
     pub kept: Vec<Kept>,
-    fraction: Fraction,
+    fractions: Fractions,
     stop: Stop,
 }
 
@@ -44,6 +44,11 @@ pub fn gcd(a: u64, b: u64) -> u64 {
     } else {
         gcd(b, a % b)
     }
+}
+
+// In lowest terms.
+fn terms(Fraction { n, d }: Fraction) -> [u64; 2] {
+    [n / gcd(n, d), d / gcd(n, d)]
 }
 
 // A limit, loosened by the error.
@@ -65,11 +70,11 @@ impl<'a> Search<'a> {
             clocks,
             slots,
             kept: vec![],
-            fraction: NO_LIMIT,
+            fractions: NO_LIMITS,
             stop: Stop::No,
         };
         let start = automaton[7] as usize;
-        s.enter(start, [Pair { m: 0, p: 0 }; 81], [-1; 2]);
+        s.enter(start, [ZERO; 81], [-1; 2]);
         let mut next = 0;
         while next < s.kept.len() && s.stop == Stop::No {
             s.expand(next);
@@ -82,8 +87,8 @@ impl<'a> Search<'a> {
     // with another.
     pub fn along(automaton: &'a [u8], branch: &[usize]) -> Zone {
         let s = Search::of(automaton, 0);
-        let (zone, fraction) = ([Pair { m: 0, p: 0 }; 81], NO_LIMIT);
-        let mut w = Work { zone, fraction };
+        let (zone, fractions) = ([ZERO; 81], NO_LIMITS);
+        let mut w = Work { zone, fractions };
         let mut empty = s.is_empty_in(&mut w, automaton[7] as usize);
         for edge in branch {
             let at = s.edge(*edge);
@@ -103,10 +108,15 @@ impl<'a> Search<'a> {
             Stop::Refused(number) => Err(number),
             Stop::Reached => Ok([0, 0, 0, zones]),
             Stop::No => {
-                let Fraction { n, d } = self.fraction;
-                Ok([1, n / gcd(n, d), d / gcd(n, d), zones])
+                let [n, d] = terms(self.fractions.safe);
+                Ok([1, n, d, zones])
             }
         }
+    }
+
+    // Beside each verdict.
+    pub fn exact(&self) -> [u64; 2] {
+        terms(self.fractions.exact)
     }
 
     // The kept zones into their slots; the rest of the store stands.
@@ -147,11 +157,11 @@ impl<'a> Search<'a> {
     fn follow(&mut self, at: usize, zone: Zone, origin: Origin) {
         let mut w = Work {
             zone,
-            fraction: self.fraction,
+            fractions: self.fractions,
         };
         self.meet(&mut w, at + 3);
         let empty = w.reduce(self.clocks + 1);
-        self.fraction = w.fraction;
+        self.fractions = w.fractions;
         if !empty {
             let zone = self.reset(&w.zone, self.automaton[at + 2]);
             self.enter(self.automaton[at + 1] as usize, zone, origin);
@@ -161,10 +171,10 @@ impl<'a> Search<'a> {
     fn enter(&mut self, location: usize, zone: Zone, origin: Origin) {
         let mut w = Work {
             zone,
-            fraction: self.fraction,
+            fractions: self.fractions,
         };
         let empty = self.is_empty_in(&mut w, location);
-        self.fraction = w.fraction;
+        self.fractions = w.fractions;
         if !empty {
             self.judge(location, &w.zone, origin);
         }
@@ -191,8 +201,10 @@ impl<'a> Search<'a> {
         }
         let inside = |k: &&Kept| k.location == location && is_within(zone, &k.zone, size);
         if let Some(old) = self.kept.iter().find(inside) {
+            let Fractions { exact, safe } = &mut self.fractions;
             for at in (0..size * 9).filter(|at| at % 9 < size) {
-                self.fraction = lowered(self.fraction, zone[at], old.zone[at]);
+                *exact = lowered(*exact, zone[at], old.zone[at]);
+                *safe = lowered(*safe, zone[at], old.zone[at]);
             }
         } else if (0..size * 9).any(|at| at % 9 < size && COUNTS < zone[at].p) {
             self.stop = Stop::Refused(9);

@@ -1,4 +1,4 @@
-// Pairs, the running fraction and reduction in plain Rust, for the benchmarks to time the proved
+// Pairs, the two running fractions and reduction in plain Rust, for the benchmarks to time the proved
 // code against.
 #[derive(Clone, Copy)]
 pub struct Pair {
@@ -12,21 +12,34 @@ pub struct Fraction {
     pub d: u64,
 }
 
-pub const NO_LIMIT: Fraction = Fraction { n: 1, d: 0 };
+// Document 02's: every comparison lowers the exact one; only an empty zone and a containment test that
+// holds lower the safe one.
+#[derive(Clone, Copy)]
+pub struct Fractions {
+    pub exact: Fraction,
+    pub safe: Fraction,
+}
+
+pub const ZERO: Pair = Pair { m: 0, p: 0 };
+const NO_LIMIT: Fraction = Fraction { n: 1, d: 0 };
+pub const NO_LIMITS: Fractions = Fractions {
+    exact: NO_LIMIT,
+    safe: NO_LIMIT,
+};
 
 pub type Zone = [Pair; 81];
 
 #[derive(Clone, Copy)]
 pub struct Work {
     pub zone: Zone,
-    pub fraction: Fraction,
+    pub fractions: Fractions,
 }
 
 pub fn less(a: Pair, b: Pair) -> bool {
     a.m < b.m || (a.m == b.m && a.p < b.p)
 }
 
-// The running fraction, lowered by the threshold of a comparison in which `chosen` was chosen.
+// A running fraction, lowered by the threshold of a comparison in which `chosen` was chosen.
 pub fn lowered(f: Fraction, chosen: Pair, other: Pair) -> Fraction {
     if chosen.p <= other.p {
         return f;
@@ -44,12 +57,27 @@ impl Work {
     // The entry at a place becomes the smaller of itself and q.
     pub fn meet(&mut self, at: usize, q: Pair) {
         let there = self.zone[at];
+        let exact = &mut self.fractions.exact;
         if less(q, there) {
             self.zone[at] = q;
-            self.fraction = lowered(self.fraction, q, there);
+            *exact = lowered(*exact, q, there);
         } else {
-            self.fraction = lowered(self.fraction, there, q);
+            *exact = lowered(*exact, there, q);
         }
+    }
+
+    // Whether a diagonal pair shows that the zone is empty. Each that does lowers the safe fraction.
+    fn is_seen_empty(&mut self, size: usize) -> bool {
+        let safe = &mut self.fractions.safe;
+        let mut empty = false;
+        for i in 0..size {
+            let q = self.zone[i * 10];
+            if q.m < 0 {
+                *safe = lowered(*safe, q, ZERO);
+                empty = true;
+            }
+        }
+        empty
     }
 
     // Whether the zone becomes empty.
@@ -68,7 +96,7 @@ impl Work {
                     );
                 }
             }
-            if (0..size).any(|i| self.zone[i * 10].m < 0) {
+            if self.is_seen_empty(size) {
                 return true;
             }
         }

@@ -3,7 +3,7 @@
 mod plain;
 mod times;
 
-use plain::{Pair, Work, Zone, NO_LIMIT};
+use plain::{Pair, Work, Zone, NO_LIMITS, ZERO};
 use times::{best, nanoseconds, opaque};
 
 extern "C" {
@@ -15,7 +15,7 @@ const PRIME: u64 = 1_000_003;
 const REPETITIONS: u32 = 15;
 
 fn square() -> Zone {
-    let mut z = [Pair { m: 0, p: 0 }; 81];
+    let mut z = [ZERO; 81];
     for i in 0..9u64 {
         for j in 0..9u64 {
             if i != j {
@@ -37,14 +37,15 @@ fn plain(size: usize, times: u64) -> u64 {
     for t in 0..times {
         let mut w = Work {
             zone: z,
-            fraction: NO_LIMIT,
+            fractions: NO_LIMITS,
         };
         w.zone[9] = Pair {
             m: (t % 64) as i64,
             p: t % 16,
         };
         w.reduce(size);
-        sum = (sum + w.zone[size - 1].p % PRIME + w.fraction.n % PRIME) % PRIME;
+        let n = w.fractions.exact.n;
+        sum = (sum + w.zone[size - 1].p % PRIME + n % PRIME) % PRIME;
     }
     sum
 }

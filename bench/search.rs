@@ -1,6 +1,6 @@
 // Times the search of the proved crate exports beside two in Rust: bench/literal.rs, which makes
 // the same comparisons in the same order, and the independent one that the tests hold ours to.
-// All must give the same answer and store; a ratio fails nothing.
+// All must give the same answer, with both fractions, and store; a ratio fails nothing.
 //
 // search: the table. search FAMILY ...: the rows of these families. search one SIDE AUTOMATON: one
 // search alone, for its instructions to be counted.
@@ -82,8 +82,8 @@ impl Timed<'_> {
 fn told(answer: Answer) -> String {
     match answer {
         Ok([0, ..]) => "reached".into(),
-        Ok([_, 1, 0, _]) => "holds any".into(),
-        Ok([_, n, d, _]) => format!("holds {n}/{d}"),
+        Ok([_, 1, 0, ..]) => "holds any".into(),
+        Ok([_, n, d, ..]) => format!("holds {n}/{d}"),
         Err(number) => format!("refused {number}"),
     }
 }

@@ -5,7 +5,8 @@ use crate::literal::{Search, Verdict};
 use crate::oracle::{self, Outcome};
 use crate::times::opaque;
 
-pub type Answer = Result<Verdict, u32>;
+// All numbers of an answer, the exact fraction too.
+pub type Answer = Result<library::Answer, u32>;
 
 pub struct Side {
     pub name: &'static str,
@@ -15,7 +16,7 @@ pub struct Side {
 pub const SIDES: [Side; 3] = [
     Side {
         name: "ours",
-        search: library::search,
+        search: library::search_answer,
     },
     Side {
         name: "literal",
@@ -27,19 +28,27 @@ pub const SIDES: [Side; 3] = [
     },
 ];
 
+fn told([kind, n, d, zones]: Verdict, [exact_n, exact_d]: [u64; 2]) -> library::Answer {
+    [kind, n, d, zones, exact_n, exact_d, 0, 0]
+}
+
 fn literal(automaton: &[u8], store: &mut [i32]) -> Answer {
     let search = Search::of(automaton, store.len() / slot(automaton));
     search.store(store);
-    search.answer()
+    let verdict = search.answer()?;
+    Ok(told(verdict, search.exact()))
 }
 
 fn independent(automaton: &[u8], store: &mut [i32]) -> Answer {
-    match oracle::search(automaton, store) {
-        Outcome::Reached { zones } => Ok([0, 0, 0, zones as u64]),
-        Outcome::HoldsAny { zones } => Ok([1, 1, 0, zones as u64]),
-        Outcome::Holds { n, d, zones } => Ok([1, n as u64, d as u64, zones as u64]),
-        Outcome::Refused(number) => Err(number.into()),
-    }
+    let (outcome, (n, d)) = oracle::search_with_exact(automaton, store);
+    let exact = [n as u64, d as u64];
+    let verdict = match outcome {
+        Outcome::Reached { zones } => [0, 0, 0, zones as u64],
+        Outcome::HoldsAny { zones } => [1, 1, 0, zones as u64],
+        Outcome::Holds { n, d, zones } => [1, n as u64, d as u64, zones as u64],
+        Outcome::Refused(number) => return Err(number.into()),
+    };
+    Ok(told(verdict, exact))
 }
 
 // By this name valgrind knows what to count.

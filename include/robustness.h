@@ -59,9 +59,12 @@ enum robustness_place {
     ROBUSTNESS_N = 1,       /* holds: for every error below n/d, where 1/0 means any error; reached: 0 and 0 */
     ROBUSTNESS_D = 2,
     ROBUSTNESS_ZONES = 3,   /* zones kept: so many slots of the store are taken by a search */
-    ROBUSTNESS_EXACT_N = 4, /* this and the next three: 0, until a later change says more */
+    ROBUSTNESS_EXACT_N = 4, /* of robustness_search and robustness_write_run, beside every verdict, reached too: for every error below
+                               this n/d, where 1/0 means any error, a kept zone is exactly the set of states that runs along its own
+                               edges reach. It is never above n/d of a verdict that holds; from it on a zone may have more states.
+                               From a cache, whose records do not have it: 0 and 0 */
     ROBUSTNESS_EXACT_D = 5,
-    ROBUSTNESS_AGAIN = 6,
+    ROBUSTNESS_AGAIN = 6, /* this and the next: 0, until a later change says more */
     ROBUSTNESS_INSIDE = 7,
     ROBUSTNESS_ANSWER = 8 /* how many there are */
 };

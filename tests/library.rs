@@ -6,6 +6,10 @@
 
 /// Kind, n, d and zones, the first numbers of an answer.
 pub type Verdict = [u64; 4];
+/// N and d of the exact fraction, the next two.
+pub type Exact = [u64; 2];
+/// All numbers of an answer: the last two are 0.
+pub type Answer = [u64; 8];
 
 // A slice goes as where it begins and its length. The functions ask nothing of their arguments but
 // that they are there, and reply 0 or a refusal's number.
@@ -73,17 +77,45 @@ extern "C" {
 
 /// What the numbers of an answer have before, to see that a refusal leaves them.
 const BEFORE: u64 = 7_777_777_777;
-/// An answer has eight numbers. One more is lent, to see that it stands.
+/// One number more than an answer has is lent, to see that it stands.
 const LENT: usize = 9;
 
-fn verdict(number: u32, answer: [u64; LENT]) -> Result<Verdict, u32> {
+fn told(number: u32, lent: [u64; LENT]) -> Result<Answer, u32> {
     if number > 0 {
-        assert_eq!(answer, [BEFORE; LENT], "{number} leaves the numbers");
+        assert_eq!(lent, [BEFORE; LENT], "{number} leaves the numbers");
         return Err(number);
     }
-    let [kind, n, d, zones, later @ .., behind] = answer;
-    assert_eq!((later, behind), ([0; 4], BEFORE), "later ones; behind them");
-    Ok([kind, n, d, zones])
+    let [answer @ .., behind] = lent;
+    assert_eq!(behind, BEFORE, "behind the answer");
+    Ok(answer)
+}
+
+/// A record has no exact fraction.
+fn filed(answer: Answer) -> Verdict {
+    let [kind, n, d, zones, later @ ..] = answer;
+    assert_eq!(later, [0; 4], "what a record does not have");
+    [kind, n, d, zones]
+}
+
+fn common(a: u64, b: u64) -> u64 {
+    if b == 0 {
+        a
+    } else {
+        common(b, a % b)
+    }
+}
+
+/// The exact fraction is in lowest terms, 1/0 for no limit, and never above the safe one of a verdict
+/// that holds.
+fn searched(answer: Answer) -> (Verdict, Exact) {
+    let [kind, n, d, zones, exact_n, exact_d, later @ ..] = answer;
+    assert_eq!(later, [0; 2], "later ones");
+    let lowest = exact_n >= 1 && common(exact_n, exact_d) == 1;
+    assert!(lowest, "exact {exact_n}/{exact_d}");
+    let product = |n: u64, d: u64| u128::from(n) * u128::from(d);
+    let above = kind == 1 && product(exact_n, d) > product(n, exact_d);
+    assert!(!above, "exact {exact_n}/{exact_d} is above {n}/{d}");
+    ([kind, n, d, zones], [exact_n, exact_d])
 }
 
 pub fn refusal(automaton: &[u8]) -> u32 {
@@ -103,23 +135,42 @@ pub fn canonical(automaton: &[u8], form: &mut [u8]) -> Result<usize, u32> {
     Ok(usize::try_from(length).expect("a length"))
 }
 
-pub fn search(automaton: &[u8], store: &mut [i32]) -> Result<Verdict, u32> {
-    let mut answer = [BEFORE; LENT];
+/// All that the search tells, as it is, or a refusal.
+pub fn search_answer(automaton: &[u8], store: &mut [i32]) -> Result<Answer, u32> {
+    let mut lent = [BEFORE; LENT];
     let (a, a_len) = (automaton.as_ptr(), automaton.len());
     let (s, s_len) = (store.as_mut_ptr(), store.len());
-    let number = unsafe { robustness_search(a, a_len, s, s_len, answer.as_mut_ptr(), LENT) };
-    verdict(number, answer)
+    let number = unsafe { robustness_search(a, a_len, s, s_len, lent.as_mut_ptr(), LENT) };
+    told(number, lent)
 }
 
-/// The search's verdict, with a run in its buffer where it is reached, or a refusal.
-pub fn write_run(automaton: &[u8], store: &mut [i32], run: &mut [i64]) -> Result<Verdict, u32> {
-    let mut answer = [BEFORE; LENT];
+/// The search's verdict with the exact fraction, or a refusal.
+pub fn search_exact(automaton: &[u8], store: &mut [i32]) -> Result<(Verdict, Exact), u32> {
+    search_answer(automaton, store).map(searched)
+}
+
+pub fn search(automaton: &[u8], store: &mut [i32]) -> Result<Verdict, u32> {
+    search_exact(automaton, store).map(|(verdict, _)| verdict)
+}
+
+/// The search's verdict with the exact fraction, and a run in its buffer where it is reached, or a
+/// refusal.
+pub fn write_run_exact(
+    automaton: &[u8],
+    store: &mut [i32],
+    run: &mut [i64],
+) -> Result<(Verdict, Exact), u32> {
+    let mut lent = [BEFORE; LENT];
     let (a, a_len) = (automaton.as_ptr(), automaton.len());
     let (s, s_len) = (store.as_mut_ptr(), store.len());
     let (r, r_len) = (run.as_mut_ptr(), run.len());
-    let t = answer.as_mut_ptr();
+    let t = lent.as_mut_ptr();
     let number = unsafe { robustness_write_run(a, a_len, s, s_len, r, r_len, t, LENT) };
-    verdict(number, answer)
+    told(number, lent).map(searched)
+}
+
+pub fn write_run(automaton: &[u8], store: &mut [i32], run: &mut [i64]) -> Result<Verdict, u32> {
+    write_run_exact(automaton, store, run).map(|(verdict, _)| verdict)
 }
 
 /// Whether the buffer begins with a run to the target, or a refusal.
@@ -145,19 +196,19 @@ pub fn sound(cache: &[u8]) -> u32 {
 
 /// The verdict filed, or none, or a refusal.
 pub fn look_up(cache: &[u8], automaton: &[u8], form: &mut [u8]) -> Result<Option<Verdict>, u32> {
-    let (mut filed, mut answer) = (BEFORE, [BEFORE; LENT]);
+    let (mut there, mut lent) = (BEFORE, [BEFORE; LENT]);
     let (c, c_len) = (cache.as_ptr(), cache.len());
     let (a, a_len) = (automaton.as_ptr(), automaton.len());
     let (f, f_len) = (form.as_mut_ptr(), form.len());
-    let t = answer.as_mut_ptr();
-    let number = unsafe { robustness_look_up(c, c_len, a, a_len, f, f_len, &mut filed, t, LENT) };
-    if (number, filed) == (0, 0) {
-        assert_eq!(answer, [BEFORE; LENT], "no verdict, so none is written");
+    let t = lent.as_mut_ptr();
+    let number = unsafe { robustness_look_up(c, c_len, a, a_len, f, f_len, &mut there, t, LENT) };
+    if (number, there) == (0, 0) {
+        assert_eq!(lent, [BEFORE; LENT], "no verdict, so none is written");
         return Ok(None);
     }
     let expected = if number == 0 { 1 } else { BEFORE };
-    assert_eq!(filed, expected, "filed, beside {number}");
-    verdict(number, answer).map(Some)
+    assert_eq!(there, expected, "filed, beside {number}");
+    told(number, lent).map(filed).map(Some)
 }
 
 pub fn consult(
@@ -166,12 +217,12 @@ pub fn consult(
     form: &mut [u8],
     store: &mut [i32],
 ) -> Result<Verdict, u32> {
-    let mut answer = [BEFORE; LENT];
+    let mut lent = [BEFORE; LENT];
     let (c, c_len) = (cache.as_mut_ptr(), cache.len());
     let (a, a_len) = (automaton.as_ptr(), automaton.len());
     let (f, f_len) = (form.as_mut_ptr(), form.len());
     let (s, s_len) = (store.as_mut_ptr(), store.len());
-    let t = answer.as_mut_ptr();
+    let t = lent.as_mut_ptr();
     let number = unsafe { robustness_consult(c, c_len, a, a_len, f, f_len, s, s_len, t, LENT) };
-    verdict(number, answer)
+    told(number, lent).map(filed)
 }

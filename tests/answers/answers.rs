@@ -1,6 +1,6 @@
-//! Holds the proved search to a second one: every answer and every number of the store, for damaged
-//! automata, limits at the ends of their range, stores of all sizes, and large error counts. Its
-//! last line is 'N passed, M failed'.
+//! Holds the proved search to a second one: every answer with both fractions and every number of the
+//! store, for damaged automata, limits at the ends of their range, stores of all sizes, and large error
+//! counts. Its last line is 'N passed, M failed'.
 
 mod borders;
 #[path = "../checks.rs"]
@@ -30,9 +30,11 @@ use tally::Tally;
 /// What must be met; not 9, which takes too long to be met often.
 fn labels() -> Vec<String> {
     let limits = sizes::KINDS.map(|(label, _)| label);
-    let verdicts = ["reached", "holds n/d", "holds any", tally::LARGE];
+    let verdicts = ["reached", "holds n/d", "holds any"];
+    let fractions = [tally::LARGE, tally::BELOW, tally::REACHED_EXACT];
     let mut labels: Vec<String> = limits.map(String::from).to_vec();
     labels.extend(verdicts.map(String::from));
+    labels.extend(fractions.map(String::from));
     labels.extend([1, 2, 3, 4, 5, 6, 7, 8, 10].map(|number| format!("refused {number}")));
     labels.extend((1..=8).map(|clocks| format!("{clocks} clocks")));
     labels

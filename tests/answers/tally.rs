@@ -2,7 +2,7 @@
 
 use crate::checks::Checks;
 use crate::drawn::Dice;
-use crate::library::{self, robustness_refusal, Verdict};
+use crate::library::{self, robustness_refusal, Exact, Verdict};
 use crate::oracle::{self, Outcome};
 use std::collections::BTreeMap;
 use std::process::ExitCode;
@@ -14,6 +14,8 @@ const PAST: usize = 8;
 /// What a buffer for a run has before.
 const RUN: [i64; 9] = [2, 0, -7, 5, i64::MAX, i64::MIN, 0, 1, 77];
 pub const LARGE: &str = "n from 900,000 on";
+pub const BELOW: &str = "holds, the exact fraction below the safe one";
+pub const REACHED_EXACT: &str = "reached, an exact fraction n/d";
 
 pub type Answer = Result<Verdict, u32>;
 
@@ -39,6 +41,15 @@ fn answer(outcome: Outcome) -> Answer {
     }
 }
 
+/// What the two fractions are to be met as, beside the kind of a verdict.
+fn fractions(([kind, n, d, _], exact): (Verdict, Exact)) -> Option<&'static str> {
+    match kind {
+        0 if exact[1] > 0 => Some(REACHED_EXACT),
+        1 if exact != [n, d] => Some(BELOW),
+        _ => None,
+    }
+}
+
 fn kind(answer: Answer) -> String {
     match answer {
         Ok([0, ..]) => "reached".into(),
@@ -57,23 +68,28 @@ impl Tally {
         *self.met.entry(label).or_default() += 1;
     }
 
-    /// Lends both searches an equal store of random numbers and compares their answers and all that
-    /// they leave. Gives back the second search's side, so that what follows does not build on a
-    /// failure.
+    /// Lends both searches an equal store of random numbers and compares their answers, the exact
+    /// fraction beside each verdict too, and all that they leave. Gives back the second search's side,
+    /// so that what follows does not build on a failure.
     pub fn search(&mut self, dice: &mut Dice, what: &str, automaton: &[u8], lent: usize) -> Left {
         let number = |_| dice.range(1, u32::MAX) as i32;
         let before: Vec<i32> = (0..lent + PAST).map(number).collect();
         let (mut ours, mut store) = (before.clone(), before.clone());
-        let got = library::search(automaton, &mut ours[..lent]);
-        let answer = answer(oracle::search(automaton, &mut store[..lent]));
+        let got = library::search_exact(automaton, &mut ours[..lent]);
+        let (outcome, (n, d)) = oracle::search_with_exact(automaton, &mut store[..lent]);
+        let answer = answer(outcome);
+        let told = answer.map(|verdict| (verdict, [n as u64, d as u64]));
         let differs = (0..ours.len()).find(|&i| ours[i] != store[i]);
-        self.check(got == answer && differs.is_none(), || {
+        self.check(got == told && differs.is_none(), || {
             format!(
-                "{what}: {got:?}, not {answer:?}, the store of {lent} differs at {differs:?}\n  \
+                "{what}: {got:?}, not {told:?}, the store of {lent} differs at {differs:?}\n  \
                  automaton {automaton:02x?}"
             )
         });
         self.meet(kind(answer));
+        if let Some(label) = told.ok().and_then(fractions) {
+            self.meet(label.into());
+        }
         if matches!(answer, Ok([_, n, _, _]) if n >= 900_000) {
             self.meet(LARGE.into());
         }

@@ -10,6 +10,9 @@ use crate::library::{
 };
 use crate::oracle::{self, Verdict};
 
+/// In place of the exact fraction where a verdict is from a cache, whose records do not have it.
+const NO_EXACT: [u64; 2] = [0, 0];
+
 #[derive(Clone, Copy, PartialEq, Eq, Debug)]
 pub enum Call {
     Refusal,
@@ -103,12 +106,13 @@ impl Lent {
         self.answer[..4].try_into().expect("four numbers")
     }
 
-    /// Kind, n, d and zones, then four of 0, as many as are lent.
-    fn tell(&mut self, verdict: Verdict) {
+    /// Kind, n, d and zones, the exact fraction or 0 and 0, then two of 0, as many as are lent.
+    fn tell(&mut self, verdict: Verdict, exact: [u64; 2]) {
         let Verdict { kind, n, d, zones } = verdict;
-        let numbers = [u32::from(kind), n, d, zones, 0, 0, 0, 0];
+        let first = [u32::from(kind), n, d, zones].map(u64::from);
+        let numbers = first.into_iter().chain(exact).chain([0, 0]);
         for (place, number) in self.answer.iter_mut().zip(numbers) {
-            *place = number.into();
+            *place = number;
         }
     }
 }
@@ -237,16 +241,18 @@ pub fn expected(call: Call, lent: &mut Lent) -> u32 {
         Call::Canonical => {
             oracle::canonical(automaton, form).map(|form| lent.length = form.len() as u64)
         }
-        Call::Search => oracle::searched(automaton, store).map(|verdict| lent.tell(verdict)),
+        Call::Search => {
+            oracle::searched(automaton, store).map(|(verdict, exact)| lent.tell(verdict, exact))
+        }
         Call::WriteRun | Call::Judge => unreachable!("tests/story holds them to document 02"),
         Call::MakeEmpty => oracle::make_empty(cache),
         Call::Sound => oracle::sound(cache),
         Call::LookUp => oracle::look_up(cache, automaton, form).map(|found| {
             lent.filed = u64::from(found.is_some());
-            found.into_iter().for_each(|verdict| lent.tell(verdict));
+            found.into_iter().for_each(|v| lent.tell(v, NO_EXACT));
         }),
         Call::Consult => {
-            oracle::consult(cache, automaton, form, store).map(|verdict| lent.tell(verdict))
+            oracle::consult(cache, automaton, form, store).map(|v| lent.tell(v, NO_EXACT))
         }
     };
     done.err().unwrap_or(0)

@@ -176,8 +176,10 @@ pub fn canonical(automaton: &[u8], lent: &mut [u8]) -> Result<Vec<u8>, u32> {
     Ok(form)
 }
 
-pub fn searched(automaton: &[u8], store: &mut [i32]) -> Result<Verdict, u32> {
-    Verdict::of(search::search(automaton, store))
+/// With the exact fraction, which no record has.
+pub fn searched(automaton: &[u8], store: &mut [i32]) -> Result<(Verdict, [u64; 2]), u32> {
+    let (outcome, (n, d)) = search::search_with_exact(automaton, store);
+    Ok((Verdict::of(outcome)?, [n as u64, d as u64]))
 }
 
 pub fn make_empty(lent: &mut [u8]) -> Result<(), u32> {
@@ -212,7 +214,7 @@ pub fn consult(
     if length > lent.len() || u32::try_from(length).is_err() {
         return Err(FULL);
     }
-    let verdict = searched(&form, store)?;
+    let (verdict, _) = searched(&form, store)?;
     cache.records.push(Record {
         verdict,
         automaton: form,

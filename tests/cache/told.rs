@@ -20,6 +20,12 @@ const A: Numbers = [1, 1, 1, 1, 0, 0, 0, 0];
 const B: Numbers = [0, 0, 0, 1, 0, 0, 0, 0];
 const D: Numbers = [1, 1, 0, 1, 0, 0, 0, 0];
 const FILED: Numbers = [1, 4_000_000_001, 4_294_967_291, 4_294_967_295, 0, 0, 0, 0];
+/// By the bare search, the exact fraction too. By hand: a lo that a guard asks of a clock which may be 0
+/// is B's 5/1, and document 02's 1/1.
+const A_EXACT: Numbers = [1, 1, 1, 1, 1, 1, 0, 0];
+const B_EXACT: Numbers = [0, 0, 0, 1, 5, 1, 0, 0];
+const D_EXACT: Numbers = [1, 1, 0, 1, 1, 0, 0, 0];
+const LOOP_EXACT: Numbers = [1, 1, 0, 1, 1, 1, 0, 0];
 
 /// The call; the automaton; the numbers of the store; the free bytes of the cache, or none for one
 /// that is not sound; the reply, where 13 has a byte too few for the form; what is told, if
@@ -33,10 +39,11 @@ type Case = (
     Option<Numbers>,
 );
 
-const CASES: [Case; 23] = [
-    (Call::Search, "A", SLOT, None, 0, Some(A)),
-    (Call::Search, "B", SLOT, None, 0, Some(B)),
-    (Call::Search, "D", SLOT, None, 0, Some(D)),
+const CASES: [Case; 25] = [
+    (Call::Search, "A", SLOT, None, 0, Some(A_EXACT)),
+    (Call::Search, "B", SLOT, None, 0, Some(B_EXACT)),
+    (Call::Search, "D", SLOT, None, 0, Some(D_EXACT)),
+    (Call::Search, "looping", SLOT, None, 0, Some(LOOP_EXACT)),
     (Call::Search, "J", SLOT, None, 7, None),
     (Call::Search, "A", SLOT - 1, None, 10, None),
     (Call::LookUp, "G", 0, Some(0), 0, Some(FILED)),
@@ -51,6 +58,7 @@ const CASES: [Case; 23] = [
     (Call::Consult, "A", SLOT, Some(55), 0, Some(A)),
     (Call::Consult, "B", SLOT, Some(55), 0, Some(B)),
     (Call::Consult, "D", SLOT, Some(44), 0, Some(D)),
+    (Call::Consult, "looping", SLOT, Some(55), 0, Some(D)),
     (Call::Consult, "J", SLOT, Some(55), 7, None),
     (Call::Consult, "A", SLOT - 1, Some(55), 10, None),
     (Call::Consult, "A", SLOT, None, 11, None),

@@ -1,11 +1,11 @@
 //! The library's answer for one automaton, held to the runs that the explorer finds.
 
 use crate::checks::Checks;
-use crate::claims::Claim;
+use crate::claims::{Bound, Claim};
 use crate::draft::Draft;
 use crate::explorer::{Explorer, Grid, Loosening};
 use crate::kept::Kept;
-use crate::library::{self, Verdict};
+use crate::library::{self, Exact, Verdict};
 use crate::own;
 use std::collections::BTreeMap;
 use std::process::ExitCode;
@@ -13,25 +13,41 @@ use std::process::ExitCode;
 const STORE: usize = 16_384;
 /// The states of a grid on which each of them is looked for in the kept zones.
 const MOST_COMPARED: usize = 4_000;
-const AT: &str = "a run at the fraction itself";
-const TWICE: &str = "a run below twice the fraction";
-const INEXACT: &str = "kept zones not exact below twice the fraction";
-const OWN_INEXACT: &str = "a zone and its own runs differ below twice the fraction";
+/// Where the exact fraction isn't told the error is 0, which is below any.
+const NO_ERROR: [Loosening; 3] = [no_error(1), no_error(2), no_error(3)];
+const REACHED_EXACT: &str = "reached, an exact fraction n/d";
+const EQUAL: &str = "holds, the safe fraction is the exact one";
+const ABOVE: &str = "holds, the safe fraction is above the exact one";
+const AT: &str = "a run at the safe fraction itself";
+const TWICE: &str = "a run below twice the safe fraction";
+const INEXACT: &str = "kept zones not exact below twice the exact fraction";
+const LARGER: &str = "a zone larger than its own runs, from the exact fraction on";
+const BETWEEN: &str = "a zone larger than its own runs, between the fractions";
+const REACHED_LARGER: &str = "a zone larger than its own runs, reached";
 const BRANCHES: &str = "zones behind another than the first";
 /// What must be met, and how often at least, lest the checks say little.
-const LEAST: [(&str, usize); 11] = [
+const LEAST: [(&str, usize); 16] = [
     ("holds any", 1_000),
     ("holds n/d", 5_000),
     ("holds n/d, three zones or more", 1_000),
     ("reached", 1_000),
     ("reached, two clocks or more", 1_000),
     ("refused 10", 50),
+    (REACHED_EXACT, 1_000),
+    (EQUAL, 5_000),
+    (ABOVE, 1_000),
     (AT, 2_000),
     (TWICE, 2_000),
     (INEXACT, 2_000),
-    (OWN_INEXACT, 200),
+    (LARGER, 1_000),
+    (BETWEEN, 100),
+    (REACHED_LARGER, 100),
     (BRANCHES, 2_000),
 ];
+
+const fn no_error(scale: u32) -> Loosening {
+    Loosening { scale, error: 0 }
+}
 
 #[derive(Default)]
 pub struct Tally {
@@ -55,18 +71,20 @@ impl Tally {
     }
 }
 
-fn sort(tally: &mut Tally, automaton: &Draft, answer: Result<Verdict, u32>) {
+fn sort(tally: &mut Tally, automaton: &Draft, answer: Result<(Verdict, Exact), u32>) {
     let clocks = automaton.invariants[0].len();
-    match answer.map(|verdict| (Claim::of(verdict), verdict[3])) {
-        Ok((Claim::Reached, _)) => {
+    let told = answer.map(|(verdict, exact)| (Claim::of(verdict), verdict[3], exact));
+    match told {
+        Ok((Claim::Reached, _, [_, d])) => {
             tally.meet("reached", true);
             tally.meet("reached, two clocks or more", clocks > 1);
+            tally.meet(REACHED_EXACT, d > 0);
         }
-        Ok((Claim::Below(..), zones)) => {
+        Ok((Claim::Holds(safe), _, _)) if safe.is_any() => tally.meet("holds any", true),
+        Ok((Claim::Holds(_), zones, _)) => {
             tally.meet("holds n/d", true);
             tally.meet("holds n/d, three zones or more", zones > 2);
         }
-        Ok((Claim::Any, _)) => tally.meet("holds any", true),
         Err(_) => tally.meet("refused 10", true),
     }
 }
@@ -74,7 +92,7 @@ fn sort(tally: &mut Tally, automaton: &Draft, answer: Result<Verdict, u32>) {
 /// Beside the claim, one that is wrong: the same explorer must show that it is.
 fn demand_3(tally: &mut Tally, automaton: &Draft, claim: Claim) {
     let wrong = match claim {
-        Claim::Reached => Claim::Below(1, 1_000),
+        Claim::Reached => Claim::Holds(Bound { n: 1, d: 1_000 }),
         _ => Claim::Reached,
     };
     for (claim, right) in [(claim, true), (wrong, false)] {
@@ -83,86 +101,124 @@ fn demand_3(tally: &mut Tally, automaton: &Draft, claim: Claim) {
             format!("{claim:?}: {refuted:?}\n  {:02x?}", automaton.bytes())
         });
     }
-    if let Claim::Below(n, d) = claim {
-        let at = Loosening { scale: d, error: n };
-        tally.meet(AT, Explorer::explored(automaton, at).unsafe_run());
-        let twice = Claim::Below(2 * n, d).refuted(automaton);
-        tally.meet(TWICE, twice.is_some());
+    match claim {
+        Claim::Holds(safe) if !safe.is_any() => {
+            let (scale, error) = (safe.d, safe.n);
+            let at = Loosening { scale, error };
+            tally.meet(AT, Explorer::explored(automaton, at).unsafe_run());
+            let twice = Claim::Holds(safe.twice()).refuted(automaton);
+            tally.meet(TWICE, twice.is_some());
+        }
+        _ => {}
     }
 }
 
+/// The errors whose grids are small enough for each state to be looked for.
+fn feasible(automaton: &Draft, mut errors: Vec<Loosening>) -> Vec<Loosening> {
+    errors.retain(|l| Grid::new(automaton, *l).states() <= MOST_COMPARED);
+    errors
+}
+
 /// The differences at all of the errors that are feasible.
-fn differences(automaton: &Draft, kept: &Kept, errors: &[Loosening]) -> (usize, usize) {
-    let few = |l: &&Loosening| Grid::new(automaton, **l).states() <= MOST_COMPARED;
+fn differences(automaton: &Draft, kept: &Kept, errors: Vec<Loosening>) -> (usize, usize) {
     let (mut unreached, mut missed) = (0, 0);
-    for loosening in errors.iter().filter(few) {
-        let found = kept.differences(&Explorer::explored(automaton, *loosening));
+    for loosening in feasible(automaton, errors) {
+        let found = kept.differences(&Explorer::explored(automaton, loosening));
         unreached += found.0;
         missed += found.1;
     }
     (unreached, missed)
 }
 
-/// Demand 2 for each zone and the runs along its own edges, which the slots tell.
-fn own_runs(tally: &mut Tally, automaton: &Draft, kept: &Kept, claim: Claim) {
-    let few = |l: &&Loosening| Grid::new(automaton, **l).states() <= MOST_COMPARED;
-    let differ = |errors: &[Loosening]| -> Option<usize> {
-        let each = errors.iter().filter(few);
-        each.map(|l| own::differences(automaton, kept, *l)).sum()
-    };
-    let found = differ(&claim.errors());
-    tally.checks.check(found == Some(0), || {
+/// Demand 2 for the kept zones of a location together, at errors below the exact fraction: runs reach
+/// all their states and, where the search came to its end, no others.
+fn demand_2(tally: &mut Tally, automaton: &Draft, kept: &Kept, errors: Vec<Loosening>, end: bool) {
+    let (unreached, missed) = differences(automaton, kept, errors);
+    let right = unreached == 0 && (missed == 0 || !end);
+    tally.checks.check(right, || {
         let bytes = automaton.bytes();
-        format!("{claim:?}: {found:?} states differ from a zone's own runs\n  {bytes:02x?}")
+        format!("{unreached} states unreached, {missed} missed\n  {bytes:02x?}")
     });
+}
+
+/// Demand 2 for each zone and the runs along its own edges, which the slots tell, at the same errors.
+fn own_runs(tally: &mut Tally, automaton: &Draft, kept: &Kept, errors: Vec<Loosening>) {
+    for loosening in feasible(automaton, errors) {
+        let found = own::differences(automaton, kept, loosening);
+        tally.checks.check(found == Some((0, 0)), || {
+            let bytes = automaton.bytes();
+            format!("{loosening:?}: {found:?} states differ from a zone's own runs\n  {bytes:02x?}")
+        });
+    }
     let deep = |slot: usize| kept.told(slot)[1] > 0;
     tally.meet(BRANCHES, (0..kept.zones()).any(deep));
-    if let Claim::Below(n, d) = claim {
-        let twice = differ(&Claim::Below(2 * n, d).errors());
-        tally.meet(OWN_INEXACT, twice != Some(0));
-    }
 }
 
-/// Demand 2 for the kept zones of a location together: runs reach all their states and, where the automaton holds, no others. Where it does not,
-/// the fraction isn't told, and the error is 0, which is below any.
-fn demand_2(tally: &mut Tally, automaton: &Draft, kept: &Kept, claim: Claim) {
-    let (unreached, missed) = match claim {
-        Claim::Reached => {
-            let errors = [1, 2, 3].map(|scale| Loosening { scale, error: 0 });
-            (differences(automaton, kept, &errors).0, 0)
-        }
-        _ => differences(automaton, kept, &claim.errors()),
-    };
-    tally.checks.check((unreached, missed) == (0, 0), || {
-        let bytes = automaton.bytes();
-        format!("{claim:?}: {unreached} states unreached, {missed} missed\n  {bytes:02x?}")
+/// At errors from the exact fraction on, below the safe one or not, a zone contains the states of its
+/// own runs, and may have more.
+fn contained(tally: &mut Tally, automaton: &Draft, kept: &Kept, claim: Claim, exact: Bound) {
+    let (mut larger, mut between) = (false, false);
+    for loosening in feasible(automaton, exact.errors_from()) {
+        let found = own::differences(automaton, kept, loosening);
+        tally.checks.check(matches!(found, Some((_, 0))), || {
+            let bytes = automaton.bytes();
+            format!("{loosening:?}: {found:?}, own states are missing\n  {bytes:02x?}")
+        });
+        let more = found.map_or(false, |(more, _)| more > 0);
+        larger |= more;
+        between |= more && matches!(claim, Claim::Holds(safe) if safe.is_above(loosening));
+    }
+    tally.meet(LARGER, larger);
+    tally.meet(BETWEEN, between);
+    tally.meet(REACHED_LARGER, larger && claim == Claim::Reached);
+}
+
+/// Where the automaton holds, the exact fraction is never above the safe one, and at errors below the
+/// safe one runs reach no state outside the kept zones, though these may have more.
+fn two_fractions(tally: &mut Tally, automaton: &Draft, kept: &Kept, safe: Bound, exact: Bound) {
+    tally.checks.check(exact.is_at_most(safe), || {
+        format!("{exact:?} is above {safe:?}\n  {:02x?}", automaton.bytes())
     });
-    if let Claim::Below(n, d) = claim {
-        let twice = Claim::Below(2 * n, d).errors();
-        tally.meet(INEXACT, differences(automaton, kept, &twice) != (0, 0));
+    tally.meet(EQUAL, safe == exact);
+    tally.meet(ABOVE, safe != exact);
+    if safe != exact {
+        let (_, missed) = differences(automaton, kept, safe.errors_below());
+        tally.checks.check(missed == 0, || {
+            let bytes = automaton.bytes();
+            format!("{safe:?}: {missed} states missed\n  {bytes:02x?}")
+        });
+    }
+    if !exact.is_any() {
+        let twice = exact.twice().errors_below();
+        tally.meet(INEXACT, differences(automaton, kept, twice) != (0, 0));
     }
 }
 
-pub fn judge(tally: &mut Tally, automaton: &Draft) -> Result<Verdict, u32> {
+pub fn judge(tally: &mut Tally, automaton: &Draft) -> Result<(Verdict, Exact), u32> {
     let bytes = automaton.bytes();
     let mut store = vec![0; STORE];
-    let answer = library::search(&bytes, &mut store);
+    let answer = library::search_exact(&bytes, &mut store);
     sort(tally, automaton, answer);
     match answer {
-        Ok(verdict) => {
-            let claim = Claim::of(verdict);
+        Ok((verdict, exact)) => {
+            let (claim, exact) = (Claim::of(verdict), Bound::new(exact));
             let kept = Kept::new(automaton, &store, verdict[3] as usize);
+            let (below, end) = (exact.errors_below(), claim != Claim::Reached);
             demand_3(tally, automaton, claim);
-            demand_2(tally, automaton, &kept, claim);
-            own_runs(tally, automaton, &kept, claim);
+            demand_2(tally, automaton, &kept, below.clone(), end);
+            own_runs(tally, automaton, &kept, below);
+            contained(tally, automaton, &kept, claim, exact);
+            if let Claim::Holds(safe) = claim {
+                two_fractions(tally, automaton, &kept, safe, exact);
+            }
         }
         Err(number) => {
             let otherwise = || format!("refused {number}: {bytes:02x?}");
             tally.checks.check(number == 10, otherwise);
-            // Every slot is filled. Of their states the same is known as where it is reached.
+            // Every slot is filled.
             let kept = Kept::new(automaton, &store, STORE);
-            demand_2(tally, automaton, &kept, Claim::Reached);
-            own_runs(tally, automaton, &kept, Claim::Reached);
+            demand_2(tally, automaton, &kept, NO_ERROR.to_vec(), false);
+            own_runs(tally, automaton, &kept, NO_ERROR.to_vec());
         }
     }
     answer

@@ -59,9 +59,9 @@ impl Own<'_> {
     }
 }
 
-/// The states that are in a kept zone or in its own set and not in both; none where a slot does not tell
-/// where its zone came from.
-pub fn differences(automaton: &Draft, kept: &Kept, loosening: Loosening) -> Option<usize> {
+/// The states that are in a kept zone and not in its own set, and those that are in its own set and not in
+/// the zone; none where a slot does not tell where its zone came from.
+pub fn differences(automaton: &Draft, kept: &Kept, loosening: Loosening) -> Option<(usize, usize)> {
     let grid = Grid::new(automaton, loosening);
     let mut own = Own {
         automaton,
@@ -70,14 +70,17 @@ pub fn differences(automaton: &Draft, kept: &Kept, loosening: Loosening) -> Opti
         sets: Vec::new(),
         locations: Vec::new(),
     };
-    let mut differ = 0;
+    let (mut more, mut missed) = (0, 0);
     for slot in 0..kept.zones().min(MOST_ZONES) {
         let told = kept.told(slot);
         let set = own.next(told)?;
-        let within = |place: usize| kept.has(slot, &own.grid.valuation(place), loosening);
-        differ += (0..set.len()).filter(|&p| set[p] != within(p)).count();
+        for (place, &reached) in set.iter().enumerate() {
+            let within = kept.has(slot, &own.grid.valuation(place), loosening);
+            more += usize::from(within && !reached);
+            missed += usize::from(reached && !within);
+        }
         own.sets.push(set);
         own.locations.push(told[0]);
     }
-    Some(differ)
+    Some((more, missed))
 }

@@ -21,7 +21,7 @@ mod library;
 mod long;
 mod own;
 mod small;
-// Only A to H are needed.
+// Only A to H and document 02's are needed.
 #[allow(dead_code)]
 #[path = "../search/table.rs"]
 mod table;
@@ -29,27 +29,29 @@ mod table;
 use demands::{judge, Tally};
 use drawn::Dice;
 use explorer::{Explorer, Loosening};
-use library::Verdict;
+use library::{Exact, Verdict};
 use std::process::ExitCode;
 
 const TURNS: usize = 20_000;
 
-/// Document 01's cards A to H with the answers that it prints; zones where it prints none are those
-/// of the examples' README.
-const LETTERS: [(&str, Verdict); 9] = [
-    ("A", [1, 1, 1, 1]),
-    ("B", [0, 0, 0, 1]),
-    ("C", [1, 1, 1, 1]),
-    ("D", [1, 1, 0, 1]),
-    ("E", [1, 2, 1, 0]),
-    ("E-start-is-target", [1, 2, 1, 0]),
-    ("F", [0, 0, 0, 1]),
-    ("G", [1, 3, 1, 1]),
-    ("H", [1, 1, 0, 1]),
+/// Document 01's cards A to H and document 02's with the answers that they print; zones where they print
+/// none are those of the examples' README. The exact fraction is the one that 01 prints; by hand, where it
+/// prints none: B and F reach after a guard with lo 5, and lo 4, of a clock that may be 0.
+const CARDS: [(&str, Verdict, Exact); 10] = [
+    ("A", [1, 1, 1, 1], [1, 1]),
+    ("B", [0, 0, 0, 1], [5, 1]),
+    ("C", [1, 1, 1, 1], [1, 1]),
+    ("D", [1, 1, 0, 1], [1, 0]),
+    ("E", [1, 2, 1, 0], [2, 1]),
+    ("E-start-is-target", [1, 2, 1, 0], [2, 1]),
+    ("F", [0, 0, 0, 1], [4, 1]),
+    ("G", [1, 3, 1, 1], [3, 1]),
+    ("H", [1, 1, 0, 1], [1, 0]),
+    ("looping", [1, 1, 0, 1], [1, 1]),
 ];
 
 /// By hand: the scale, the error in ticks, and whether a run stands in the target.
-const RUNS: [(&str, u32, u32, bool); 17] = [
+const RUNS: [(&str, u32, u32, bool); 20] = [
     ("A", 1, 1, true),
     ("A", 10, 9, false),
     ("A", 10, 10, true),
@@ -67,17 +69,20 @@ const RUNS: [(&str, u32, u32, bool); 17] = [
     ("G", 10, 30, true),
     ("G", 1, 3, true),
     ("H", 1, 1_000, false),
+    ("looping", 10, 9, false),
+    ("looping", 1, 1, false),
+    ("looping", 1, 1_000, false),
 ];
 
-fn letters(tally: &mut Tally) {
-    for (name, verdict) in LETTERS {
+fn cards(tally: &mut Tally) {
+    for (name, verdict, exact) in CARDS {
         let bytes = table::named(name);
         let automaton = small::read(&bytes);
         let same = automaton.bytes() == bytes;
         tally.checks.check(same, || format!("{name} is read wrong"));
         let answer = judge(tally, &automaton);
-        tally.checks.check(answer == Ok(verdict), || {
-            format!("{name}: {answer:?}, not {verdict:?}")
+        tally.checks.check(answer == Ok((verdict, exact)), || {
+            format!("{name}: {answer:?}, not {verdict:?} and {exact:?}")
         });
     }
     for (name, scale, error, unsafe_run) in RUNS {
@@ -102,7 +107,7 @@ fn random(tally: &mut Tally, round: u64) {
 
 fn main() -> ExitCode {
     let mut tally = Tally::default();
-    letters(&mut tally);
+    cards(&mut tally);
     for round in long::rounds() {
         random(&mut tally, round);
     }

@@ -34,6 +34,19 @@ const SHORTCUTS: u64 = 300;
 const SPOILT: u64 = 2_000;
 /// A comparison in which an answer hardly occurs would say little about it.
 const LEAST: usize = 40;
+const BELOW: &str = "holds, the exact fraction below the safe one";
+/// Which the program does not print: document 01's, which every comparison lowers. By hand: a guard with
+/// lo 5, or document 02's lo 1, of a clock that may be 0 has the threshold 5/1, or 1/1.
+const EXACT: [(&str, (i64, i64)); 8] = [
+    ("A", (1, 1)),
+    ("B", (5, 1)),
+    ("C", (1, 1)),
+    ("D", (1, 0)),
+    ("E", (2, 1)),
+    ("G", (3, 1)),
+    ("H", (1, 0)),
+    ("looping", (1, 1)),
+];
 
 /// All that the program writes for an automaton, or how it ended.
 fn program_says(program: &Path, automaton: &[u8]) -> String {
@@ -55,9 +68,14 @@ fn program_says(program: &Path, automaton: &[u8]) -> String {
     String::from_utf8_lossy(&output.stdout).into_owned()
 }
 
-/// What the program should make of its input: only the first bytes count, and its store is fixed.
+/// What the program should make of its input: only the first bytes count, and its store is fixed. Beside
+/// it the exact fraction.
+fn searched(automaton: &[u8]) -> (Outcome, (i64, i64)) {
+    oracle::search_with_exact(&automaton[..automaton.len().min(READ)], &mut [0; STORE])
+}
+
 fn oracle_says(automaton: &[u8]) -> Outcome {
-    oracle::search(&automaton[..automaton.len().min(READ)], &mut [0; STORE])
+    searched(automaton).0
 }
 
 fn same(checks: &mut Checks, what: &str, got: &str, expected: &str) {
@@ -98,7 +116,7 @@ fn examples(checks: &mut Checks, program: &Path, folder: &Path) {
         both_say(checks, program, &file, &automaton, &line);
     }
     checks.check(rows.is_empty(), || {
-        format!("examples that document 01 does not have: {:?}", rows.keys())
+        format!("examples that are not in the table: {:?}", rows.keys())
     });
 }
 
@@ -134,6 +152,15 @@ fn other_stores(checks: &mut Checks) {
     checks.check(store == left, || {
         format!("oracle, the store of I is {:?}", store)
     });
+}
+
+fn exact_fractions(checks: &mut Checks) {
+    for (name, exact) in EXACT {
+        let got = searched(&named(name)).1;
+        checks.check(got == exact, || {
+            format!("oracle, {}: exact {:?} and not {:?}", name, got, exact)
+        });
+    }
 }
 
 /// Automata that need every slot of the program's store, and one slot more.
@@ -179,6 +206,15 @@ fn long_inputs() -> Vec<Vec<u8>> {
     inputs
 }
 
+/// Whether the program would print another fraction if it printed the exact one.
+fn is_below(outcome: Outcome, exact: (i64, i64)) -> bool {
+    match outcome {
+        Outcome::Holds { n, d, .. } => exact != (n, d),
+        Outcome::HoldsAny { .. } => exact != (1, 0),
+        _ => false,
+    }
+}
+
 fn kind(outcome: Outcome) -> String {
     match outcome {
         Outcome::Reached { .. } => "reached".into(),
@@ -204,8 +240,9 @@ fn comparison(checks: &mut Checks, program: &Path) {
     let automata: Vec<Vec<u8>> = long::rounds().flat_map(random_automata).collect();
     let mut seen: BTreeMap<String, usize> = BTreeMap::new();
     for automaton in &automata {
-        let expected = oracle_says(automaton);
+        let (expected, exact) = searched(automaton);
         *seen.entry(kind(expected)).or_default() += 1;
+        *seen.entry(BELOW.into()).or_default() += usize::from(is_below(expected, exact));
         let got = program_says(program, automaton);
         checks.check(got == format!("{}\n", expected), || {
             format!(
@@ -218,7 +255,7 @@ fn comparison(checks: &mut Checks, program: &Path) {
     // Not 9: a zone that k jumps lead to has error counts of at most k + 1, which the program's
     // slots are too few for.
     let refusals = [1, 2, 3, 4, 5, 6, 7, 8, 10].map(|number| format!("refused {}", number));
-    let verdicts = ["reached", "holds n/d", "holds any"].map(String::from);
+    let verdicts = ["reached", "holds n/d", "holds any", BELOW].map(String::from);
     for answer in refusals.iter().chain(&verdicts) {
         let times = seen.get(answer).copied().unwrap_or(0);
         checks.check(times >= LEAST, || {
@@ -237,6 +274,7 @@ fn main() -> ExitCode {
     let mut checks = Checks::default();
     examples(&mut checks, program, folder);
     other_stores(&mut checks);
+    exact_fractions(&mut checks);
     full_stores(&mut checks, program);
     comparison(&mut checks, program);
     checks.sum_up()

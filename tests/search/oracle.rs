@@ -135,6 +135,8 @@ struct Pair {
 }
 
 impl Pair {
+    const ZERO: Pair = Pair { m: 0, p: 0 };
+
     /// A limit, loosened by the error.
     fn loosened(m: i64) -> Pair {
         Pair { m, p: 1 }
@@ -152,7 +154,7 @@ impl Pair {
     }
 }
 
-/// The running fraction; none is 1/0, no limit.
+/// A running fraction; none is 1/0, no limit.
 #[derive(Clone, Copy)]
 struct Fraction(Option<(i64, i64)>);
 
@@ -170,6 +172,35 @@ impl Fraction {
         if lower {
             self.0 = Some((n, d));
         }
+    }
+
+    /// In lowest terms.
+    fn given_out(self) -> (i64, i64) {
+        match self.0 {
+            None => (1, 0),
+            Some((n, d)) => (n / gcd(n, d), d / gcd(n, d)),
+        }
+    }
+}
+
+/// Document 02's two: every comparison lowers the exact one, as document 01 has it; only what makes a
+/// zone empty and containment tests that hold lower the safe one.
+#[derive(Clone, Copy)]
+struct Fractions {
+    safe: Fraction,
+    exact: Fraction,
+}
+
+impl Fractions {
+    const NO_LIMIT: Fractions = Fractions {
+        safe: Fraction(None),
+        exact: Fraction(None),
+    };
+
+    /// A pair of a containment test that holds.
+    fn contained(&mut self, new: Pair, kept: Pair) {
+        self.safe.compared(new, kept);
+        self.exact.compared(new, kept);
     }
 }
 
@@ -192,7 +223,7 @@ impl Zone {
         let side = clocks + 1;
         Zone {
             side,
-            pairs: vec![Pair { m: 0, p: 0 }; side * side],
+            pairs: vec![Pair::ZERO; side * side],
         }
     }
 
@@ -204,34 +235,47 @@ impl Zone {
         self.pairs[row * self.side + column] = pair;
     }
 
-    fn lower(&mut self, row: usize, column: usize, by: Pair, fraction: &mut Fraction) {
+    fn lower(&mut self, row: usize, column: usize, by: Pair, exact: &mut Fraction) {
         let there = self.at(row, column);
         if there.at_most(by) {
-            fraction.compared(there, by);
+            exact.compared(there, by);
         } else {
-            fraction.compared(by, there);
+            exact.compared(by, there);
             self.put(row, column, by);
         }
     }
 
-    fn meet(&mut self, limits: &[Limit], fraction: &mut Fraction) {
+    fn meet(&mut self, limits: &[Limit], exact: &mut Fraction) {
         for (i, l) in limits.iter().enumerate() {
             if l.hi != NO_UPPER {
-                self.lower(i + 1, 0, Pair::loosened(i64::from(l.hi)), fraction);
+                self.lower(i + 1, 0, Pair::loosened(i64::from(l.hi)), exact);
             }
-            self.lower(0, i + 1, Pair::loosened(-i64::from(l.lo)), fraction);
+            self.lower(0, i + 1, Pair::loosened(-i64::from(l.lo)), exact);
         }
     }
 
+    /// "At each diagonal pair of the round where this is seen with m below 0, the threshold of its final
+    /// pair against (0, 0)."
+    fn seen_empty(&self, safe: &mut Fraction) -> bool {
+        let mut empty = false;
+        for pair in (0..self.side).map(|i| self.at(i, i)) {
+            if pair.m < 0 {
+                safe.compared(pair, Pair::ZERO);
+                empty = true;
+            }
+        }
+        empty
+    }
+
     /// None is an empty zone.
-    fn reduce(mut self, fraction: &mut Fraction) -> Option<Zone> {
+    fn reduce(mut self, fractions: &mut Fractions) -> Option<Zone> {
         for middle in 0..self.side {
             for cell in 0..self.pairs.len() {
                 let (row, column) = (cell / self.side, cell % self.side);
                 let by = self.at(row, middle).plus(self.at(middle, column));
-                self.lower(row, column, by, fraction);
+                self.lower(row, column, by, &mut fractions.exact);
             }
-            if (0..self.side).any(|i| self.at(i, i).m < 0) {
+            if self.seen_empty(&mut fractions.safe) {
                 return None;
             }
         }
@@ -255,13 +299,13 @@ impl Zone {
         after
     }
 
-    fn enter(mut self, invariant: &[Limit], fraction: &mut Fraction) -> Option<Zone> {
-        self.meet(invariant, fraction);
-        let mut zone = self.reduce(fraction)?;
+    fn enter(mut self, invariant: &[Limit], fractions: &mut Fractions) -> Option<Zone> {
+        self.meet(invariant, &mut fractions.exact);
+        let mut zone = self.reduce(fractions)?;
         for (i, l) in invariant.iter().enumerate() {
             zone.put(i + 1, 0, Pair::loosened(i64::from(l.hi)));
         }
-        zone.reduce(fraction)
+        zone.reduce(fractions)
     }
 
     fn within(&self, other: &Zone) -> bool {
@@ -272,6 +316,7 @@ impl Zone {
     }
 }
 
+/// The verdict carries the safe fraction.
 #[derive(Clone, Copy, PartialEq, Eq, Debug)]
 pub enum Outcome {
     Reached { zones: usize },
@@ -327,7 +372,7 @@ struct Search<'a> {
     kept: Vec<Kept>,
     /// The numbers of the kept zones by location, oldest first.
     at_location: Vec<Vec<usize>>,
-    fraction: Fraction,
+    fractions: Fractions,
 }
 
 impl Search<'_> {
@@ -353,15 +398,15 @@ impl Search<'_> {
             slot: taken as i64,
             edge: number as i64,
         };
-        zone.meet(&edge.guard, &mut self.fraction);
-        match zone.reduce(&mut self.fraction) {
+        zone.meet(&edge.guard, &mut self.fractions.exact);
+        match zone.reduce(&mut self.fractions) {
             Some(zone) => self.arrive(zone.reset(edge.reset), edge.to, origin),
             None => Ok(()),
         }
     }
 
     fn arrive(&mut self, zone: Zone, location: usize, origin: Origin) -> Result<(), Stop> {
-        match zone.enter(&self.automaton.invariants[location], &mut self.fraction) {
+        match zone.enter(&self.automaton.invariants[location], &mut self.fractions) {
             Some(zone) => self.judge(Kept {
                 location,
                 origin,
@@ -381,7 +426,7 @@ impl Search<'_> {
             .find(|&&k| zone.within(&kept[k].zone))
         {
             for (a, b) in zone.pairs.iter().zip(&kept[old].zone.pairs) {
-                self.fraction.compared(*a, *b);
+                self.fractions.contained(*a, *b);
             }
             return Ok(());
         }
@@ -422,16 +467,23 @@ pub fn refusal(bytes: &[u8]) -> Result<(), u8> {
     Automaton::read(bytes).map(|_| ())
 }
 
-/// The program's answer for these bytes, with this store lent.
-pub fn search(bytes: &[u8], store: &mut [i32]) -> Outcome {
-    search_with_branch(bytes, store).0
+/// How a search ended.
+struct End {
+    outcome: Outcome,
+    exact: (i64, i64),
+    branch: Option<Vec<usize>>,
 }
 
-/// The same, and where it is reached the edges of the search's branch to the target.
-pub fn search_with_branch(bytes: &[u8], store: &mut [i32]) -> (Outcome, Option<Vec<usize>>) {
+fn end(bytes: &[u8], store: &mut [i32]) -> End {
     let automaton = match Automaton::read(bytes) {
         Ok(automaton) => automaton,
-        Err(number) => return (Outcome::Refused(number), None),
+        Err(number) => {
+            return End {
+                outcome: Outcome::Refused(number),
+                exact: Fractions::NO_LIMIT.exact.given_out(),
+                branch: None,
+            }
+        }
     };
     let at_location = vec![Vec::new(); automaton.invariants.len()];
     let mut s = Search {
@@ -439,17 +491,37 @@ pub fn search_with_branch(bytes: &[u8], store: &mut [i32]) -> (Outcome, Option<V
         store,
         kept: Vec::new(),
         at_location,
-        fraction: Fraction(None),
+        fractions: Fractions::NO_LIMIT,
     };
-    let end = s.run();
+    let stop = s.run();
     let zones = s.kept.len();
-    match (end, s.fraction.0) {
+    let (outcome, branch) = match (stop, s.fractions.safe.given_out()) {
         (Err(Stop::Refused(number)), _) => (Outcome::Refused(number), None),
         (Err(Stop::Reached(origin)), _) => (Outcome::Reached { zones }, Some(s.branch(origin))),
-        (Ok(()), None) => (Outcome::HoldsAny { zones }, None),
-        (Ok(()), Some((n, d))) => {
-            let (n, d) = (n / gcd(n, d), d / gcd(n, d));
-            (Outcome::Holds { n, d, zones }, None)
-        }
+        (Ok(()), (_, 0)) => (Outcome::HoldsAny { zones }, None),
+        (Ok(()), (n, d)) => (Outcome::Holds { n, d, zones }, None),
+    };
+    End {
+        outcome,
+        exact: s.fractions.exact.given_out(),
+        branch,
     }
+}
+
+/// The program's answer for these bytes, with this store lent.
+pub fn search(bytes: &[u8], store: &mut [i32]) -> Outcome {
+    end(bytes, store).outcome
+}
+
+/// The same, and the exact fraction as the search ended, which "the bare search gives beside each
+/// verdict".
+pub fn search_with_exact(bytes: &[u8], store: &mut [i32]) -> (Outcome, (i64, i64)) {
+    let end = end(bytes, store);
+    (end.outcome, end.exact)
+}
+
+/// The program's answer, and where it is reached the edges of the search's branch to the target.
+pub fn search_with_branch(bytes: &[u8], store: &mut [i32]) -> (Outcome, Option<Vec<usize>>) {
+    let end = end(bytes, store);
+    (end.outcome, end.branch)
 }

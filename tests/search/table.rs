@@ -1,4 +1,5 @@
-//! The automata of document 01's table, its cards, built as its words describe them.
+//! The automata of document 01's table, its cards, and of document 02's Change 4, built as their words
+//! describe them.
 
 use crate::draft::{Draft, Edge, Limit, NO_UPPER};
 
@@ -91,6 +92,16 @@ fn letters() -> Vec<Named> {
     ]
 }
 
+/// Document 02's Change 4: a start with 0 to 20, an edge back to itself with lo 1 that resets, and a
+/// target with no edge into it.
+fn looping() -> Named {
+    let stays = |d: &mut Draft| {
+        d.invariants[0][0].1 = 20;
+        d.edges[0].to = 0;
+    };
+    ("looping", but(usual((1, NO_UPPER), 1), stays))
+}
+
 /// At and past the ends of what a limit may be.
 fn limits() -> Vec<Named> {
     const MOST: u32 = 1_000_000;
@@ -132,10 +143,10 @@ fn counts() -> Vec<Named> {
 }
 
 pub fn automata() -> Vec<Named> {
-    [letters(), limits(), counts()].concat()
+    [letters(), vec![looping()], limits(), counts()].concat()
 }
 
 pub fn named(name: &str) -> Vec<u8> {
     let found = automata().into_iter().find(|(there, _)| *there == name);
-    found.expect("an automaton of document 01").1
+    found.expect("an automaton of the documents").1
 }

@@ -1,5 +1,5 @@
-//! Document 01's cards that ask for a store of their own, with document 02's slots, by the proved
-//! search: each answer and the store that it leaves.
+//! Document 01's cards that ask for a store of their own, with document 02's slots, and both fractions of
+//! the cards that keep one zone or none, by the proved search: each answer and the store that it leaves.
 
 #[path = "../checks.rs"]
 mod checks;
@@ -9,7 +9,7 @@ mod lengths;
 mod library;
 
 use checks::Checks;
-use library::{search, Verdict};
+use library::{search, search_exact, Exact, Verdict};
 use std::process::ExitCode;
 
 /// What the store has before, to see that the rest of it stands.
@@ -18,6 +18,10 @@ const UNTOUCHED: i32 = -7;
 const SLOT: usize = lengths::slot_of(2);
 /// What A leaves in its only slot: its location, −1 and −1 as for any first zone, its pairs.
 const KEPT: &[i32] = &[0, -1, -1, 0, 0, 0, 0, 5, 1, 0, 0];
+/// The same of a start with another hi.
+const KEPT_9: &[i32] = &[0, -1, -1, 0, 0, 0, 0, 9, 1, 0, 0];
+const KEPT_20: &[i32] = &[0, -1, -1, 0, 0, 0, 0, 20, 1, 0, 0];
+const KEPT_MOST: &[i32] = &[0, -1, -1, 0, 0, 0, 0, 1_000_000, 1, 0, 0];
 
 /// How K's slots begin, each zone from the one before by its edge, and the pairs of the first four, row by
 /// row: docs/RULES.md works them out.
@@ -36,28 +40,54 @@ const WHEEL: [[i32; SLOT]; 4] = [
     ],
 ];
 
-/// The automaton's name; the store's numbers; the answer; the first numbers of the store, where 01 prints them,
-/// past which it is untouched.
+/// The automaton's name; the store's numbers; the answer, with the exact fraction; the first numbers of
+/// the store, where they are known, past which it is untouched.
 type Case = (
     &'static str,
     usize,
-    Result<Verdict, u32>,
+    Result<(Verdict, Exact), u32>,
     Option<&'static [i32]>,
 );
 
 const CASES: [Case; 6] = [
     ("A", 10, Err(10), Some(&[])),
-    ("A", 11, Ok([1, 1, 1, 1]), Some(KEPT)),
-    ("A", 14, Ok([1, 1, 1, 1]), Some(KEPT)),
-    ("E", 0, Ok([1, 2, 1, 0]), Some(&[])),
+    ("A", 11, Ok(([1, 1, 1, 1], [1, 1])), Some(KEPT)),
+    ("A", 14, Ok(([1, 1, 1, 1], [1, 1])), Some(KEPT)),
+    ("E", 0, Ok(([1, 2, 1, 0], [2, 1])), Some(&[])),
     ("K", 12 * SLOT, Err(10), None),
     ("K", 65_535 * SLOT, Err(9), None),
+];
+
+/// Document 02's card of Change 4, and document 01's that keep one zone or none. By hand: of 02's card,
+/// and where an edge reaches the target, the exact fraction is the lo that its guard asks of a clock which
+/// may be 0; the smallest has no edge. Elsewhere both fractions are the one that 01 prints.
+const FRACTIONS: [Case; 10] = [
+    ("looping", 11, Ok(([1, 1, 0, 1], [1, 1])), Some(KEPT_20)),
+    ("B", 11, Ok(([0, 0, 0, 1], [5, 1])), Some(KEPT)),
+    ("C", 11, Ok(([1, 1, 1, 1], [1, 1])), Some(KEPT_9)),
+    ("D", 11, Ok(([1, 1, 0, 1], [1, 0])), Some(KEPT)),
+    (
+        "E-start-is-target",
+        0,
+        Ok(([1, 2, 1, 0], [2, 1])),
+        Some(&[]),
+    ),
+    ("F", 11, Ok(([0, 0, 0, 1], [4, 1])), Some(KEPT)),
+    ("G", 11, Ok(([1, 3, 1, 1], [3, 1])), Some(KEPT)),
+    ("H", 11, Ok(([1, 1, 0, 1], [1, 0])), Some(KEPT)),
+    (
+        "limit-1000000",
+        11,
+        Ok(([0, 0, 0, 1], [1_000_000, 1])),
+        Some(KEPT_MOST),
+    ),
+    ("smallest", 0, Ok(([0, 0, 0, 0], [1, 0])), Some(&[])),
 ];
 
 fn judge(checks: &mut Checks, examples: &str, (name, numbers, expected, begins): Case) {
     let automaton = std::fs::read(format!("{examples}/{name}.card")).expect("an example");
     let mut store = vec![UNTOUCHED; numbers];
-    let answer = search(&automaton, &mut store);
+    let answer = search_exact(&automaton, &mut store);
     let stored = begins.map_or(true, |first| {
         store.starts_with(first) && store[first.len()..].iter().all(|x| *x == UNTOUCHED)
     });
@@ -94,7 +124,7 @@ fn wheel(checks: &mut Checks, examples: &str) {
 fn main() -> ExitCode {
     let examples = std::env::args().nth(1).expect("the folder of the examples");
     let mut checks = Checks::default();
-    for case in CASES {
+    for case in CASES.into_iter().chain(FRACTIONS) {
         judge(&mut checks, &examples, case);
     }
     wheel(&mut checks, &examples);

@@ -4,7 +4,7 @@
 use crate::calls::{self, Call, Lent};
 use crate::drawn::Dice;
 use crate::hand::{draft, edge};
-use crate::library;
+use crate::library::{self, Exact};
 use crate::rings::FREE;
 use crate::table::{named, with_byte};
 use crate::tally::{Judged, Tally};
@@ -15,8 +15,8 @@ const BEHIND: i64 = -7;
 const MORE: usize = 9;
 const ANSWERS: [usize; 8] = [0, 1, 3, 4, 7, 8, 9, 20];
 
-/// A name, the automaton, the run and all slots that are kept.
-type Case = (&'static str, Vec<u8>, &'static [i64], &'static [i32]);
+/// A name, the automaton, the run, all slots that are kept and the exact fraction.
+type Case = (&'static str, Vec<u8>, &'static [i64], &'static [i32], Exact);
 
 /// The first slot of a start with 0 to 5, as of document 01's A: its location, −1 and −1, its pairs.
 const START: &[i32] = &[0, -1, -1, 0, 0, 0, 0, 5, 1, 0, 0];
@@ -32,26 +32,29 @@ fn between() -> Vec<u8> {
     draft(&[&[(0, 5)], &[(0, 5)], &[(0, 9)]], edges)
 }
 
+/// By hand, the exact fraction: a guard with lo 5 of a clock that may be 0 has the threshold 5/1; of those
+/// with lo 4 and lo 3 the second is the lower.
 fn cases() -> [Case; 3] {
     [
-        ("B", named("B"), &[4, 5, 0, 0], START),
-        ("start is target", named("smallest"), &[2, 0], &[]),
-        ("between", between(), &[6, 5, 0, 3, 1, 0], BOTH),
+        ("B", named("B"), &[4, 5, 0, 0], START, [5, 1]),
+        ("start is target", named("smallest"), &[2, 0], &[], [1, 0]),
+        ("between", between(), &[6, 5, 0, 3, 1, 0], BOTH, [3, 1]),
     ]
 }
 
 /// The same run in every buffer that is long enough, in every store with enough slots.
 pub fn runs(tally: &mut Tally) {
-    for (name, automaton, run, slots) in cases() {
+    for (name, automaton, run, slots, exact) in cases() {
         tally.must(name, &Judged::new(&automaton), run, true);
         for (more, spare) in (0..=MORE).flat_map(|more| [(more, 0), (more, 5), (more, 40)]) {
             let mut buffer = vec![BEHIND; run.len() + more];
             let mut store = vec![UNTOUCHED; slots.len() + spare];
-            let reply = library::write_run(&automaton, &mut store, &mut buffer);
+            let reply = library::write_run_exact(&automaton, &mut store, &mut buffer);
             let expected = [run, &vec![BEHIND; more]].concat();
             let kept = [slots, &vec![UNTOUCHED; spare]].concat();
             let zones = slots.len() as u64 / START.len() as u64;
-            let right = reply == Ok([0, 0, 0, zones]) && buffer == expected && store == kept;
+            let told = reply == Ok(([0, 0, 0, zones], exact));
+            let right = told && buffer == expected && store == kept;
             tally.check(right, || {
                 format!("{name}, {more} more: {reply:?}, {buffer:?}, {store:?}")
             });
@@ -86,8 +89,8 @@ fn answered(tally: &mut Tally, before: &Lent, (reply, answer, run): Reply) {
 pub fn answers(tally: &mut Tally) {
     let mut dice = Dice::new(11);
     let foreign = with_byte(&named("B"), 4, 2);
-    let reached = Some([0, 0, 0, 1, 0, 0, 0, 0]);
-    let holds = Some([1, 1, 1, 1, 0, 0, 0, 0]);
+    let reached = Some([0, 0, 0, 1, 5, 1, 0, 0]);
+    let holds = Some([1, 1, 1, 1, 1, 1, 0, 0]);
     for length in ANSWERS {
         let cases: [(Vec<u8>, usize, Reply); 5] = [
             (named("B"), 4, (0, reached, &[4, 5, 0, 0])),

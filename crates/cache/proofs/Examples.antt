@@ -13,7 +13,7 @@ use Rattle.canonical.specs.Writing.{formRefusal}
 use Rattle.search.specs.declared.verdict.Answer.the-variants.{Refused}
 use Rattle.search.specs.declared.verdict.Holding.the-variants.{Below}
 use Rattle.search.specs.declared.verdict.Verdict.the-variants.{Holds}
-use Rattle.search.specs.Answers.{searchAnswer}
+use Rattle.search.specs.Answers.{answerIn, searchAnswer}
 use Rattle.search.specs.Verdicts.{holdingOf, numbersOf, verdictOf, soundNumbers}
 use Rattle.search.proofs.answers.Examples as search
 use Rattle.search.proofs.answers.Given.{promised}
@@ -29,10 +29,12 @@ use Rattle.cache.specs.Examples.{automatonA, empty, holds, AllRight, exa
 
 -- the search's case I: card A with stores of 10 and of 11 numbers
 answer-10 : searchAnswer automatonA 10 ≡ Refused 10
-answer-10 = search.all-right .1 .1 .1 .1 .1 .1 .1 .1 .1 .1 .0 .0
+unfolding answerIn
+answer-10 = ap answerIn (search.all-right .1 .1 .1 .1 .1 .1 .1 .1 .1 .1 .0 .0)
 
 answer-11 : searchAnswer automatonA 11 ≡ holds
-answer-11 = search.all-right .1 .1 .1 .1 .1 .1 .1 .1 .1 .1 .1 .0 .0
+unfolding answerIn
+answer-11 = ap answerIn (search.all-right .1 .1 .1 .1 .1 .1 .1 .1 .1 .1 .1 .0 .0)
 
 -- 1/1 is in lowest terms, as all that the search gives out
 lowest : soundNumbers (record { kind = 1; n = 1; d = 1 }) ≡ true

@@ -144,7 +144,7 @@ fn search_and_file(cache: &mut [u8], layout: Layout, automaton: &[u8], store: &m
     if LONGEST - used < length {
         return Answer::Refused(12);
     }
-    let answer = search(automaton, store);
+    let answer = search(automaton, store).answer();
     file(cache, layout, automaton, answer);
     answer
 }

@@ -11,10 +11,14 @@ use Rattle.run_judge.specs.declared.judgement.Judgement.{Judgement}
 use Rattle.run_judge.specs.declared.judgement.Judgement.the-variants as judgement
 use Rattle.search.specs.declared.verdict.Answer.{Answer}
 use Rattle.search.specs.declared.verdict.Answer.the-variants.{Found, Refused}
+use Rattle.search.specs.declared.verdict.Figures.{Figures}
+use Rattle.search.specs.declared.verdict.Findings.{Findings}
+use Rattle.search.specs.declared.verdict.Findings.the-variants as findings
 use Rattle.search.specs.declared.verdict.Verdict.{Verdict}
 use Rattle.cache.specs.declared.lookup.Lookup.{Lookup}
 use Rattle.cache.specs.declared.lookup.Lookup.the-variants as lookup
-use Rattle.exports.specs.Replies.{verdictNumbers, over, answerNumber, told, lookupNumber, filedTold, lookupTold, formNumber, formTold}
+use Rattle.exports.specs.Replies.{verdictNumbers, noExact, over, answerNumber, told, findingsNumber, findingsTold}
+use Rattle.exports.specs.Replies.{lookupNumber, filedTold, lookupTold, formNumber, formTold}
 use Rattle.exports.specs.Replies.{judgementNumber, passesTold}
 
 -- ---- `write_over`: a turn writes the next number; where nothing is left to write, or no room, all are written
@@ -35,9 +39,9 @@ over-full (x ∷ xs) [] (suc i) h = refl
 over-full (x ∷ xs) (y ∷ ys) zero h = absurd (omega arith)
 over-full (x ∷ xs) (y ∷ ys) (suc i) h = ap (λ (l : List ℕ). x ∷ l) (over-full xs ys i (omega arith))
 
--- ---- `tell` and `tell_lookup`, by the case of what is told
+-- ---- `tell`, `tell_findings` and `tell_lookup`, by the case of what is told
 pub tells-found : {a : Answer} (old : List ℕ) {new : List ℕ} (v : Verdict) (zones : ℕ) → a ≡ Found v zones
-    → {ns : List ℕ} → ns ≡ verdictNumbers v zones → new ≡ over ns old → (0 ≡ answerNumber a) × (new ≡ told a old)
+    → {ns : List ℕ} → ns ≡ verdictNumbers v zones noExact → new ≡ over ns old → (0 ≡ answerNumber a) × (new ≡ told a old)
 unfolding answerNumber told
 tells-found old v zones e g w = rw e (refl, w ∙ ap (λ (ns : List ℕ). over ns old) g)
 
@@ -45,8 +49,18 @@ pub tells-refused : {a : Answer} (old : List ℕ) (k : ℕ) → a ≡ Refused k 
 unfolding answerNumber told
 tells-refused old k e = rw e (refl, refl)
 
+-- ---- `tell_findings`
+pub tells-verdict : {r : Findings} (old : List ℕ) {new : List ℕ} (v : Verdict) (x : Figures) → r ≡ findings.Found v x
+    → {ns : List ℕ} → ns ≡ verdictNumbers v (x .zones) (x .exact) → new ≡ over ns old → (0 ≡ findingsNumber r) × (new ≡ findingsTold r old)
+unfolding findingsNumber findingsTold
+tells-verdict old v x e g w = rw e (refl, w ∙ ap (λ (ns : List ℕ). over ns old) g)
+
+pub tells-none : {r : Findings} (old : List ℕ) (k : ℕ) → r ≡ findings.Refused k → (k ≡ findingsNumber r) × (old ≡ findingsTold r old)
+unfolding findingsNumber findingsTold
+tells-none old k e = rw e (refl, refl)
+
 module _ {l : Lookup} (was : ℕ) (old : List ℕ) where
-  pub tells-filed : {new : List ℕ} (v : Verdict) (zones : ℕ) → l ≡ lookup.Filed v zones → {ns : List ℕ} → ns ≡ verdictNumbers v zones
+  pub tells-filed : {new : List ℕ} (v : Verdict) (zones : ℕ) → l ≡ lookup.Filed v zones → {ns : List ℕ} → ns ≡ verdictNumbers v zones noExact
       → new ≡ over ns old → (0 ≡ lookupNumber l) × ((1 ≡ filedTold l was) × (new ≡ lookupTold l old))
   unfolding lookupNumber filedTold lookupTold told
   tells-filed v zones e g w = rw e (refl, (refl, w ∙ ap (λ (ns : List ℕ). over ns old) g))

@@ -12,31 +12,46 @@ use run_judge::judgement::Judgement;
 use run_writer::write_run;
 use search::search;
 use search::verdict::Answer;
+use search::verdict::Findings;
 use search::verdict::Verdict;
 use search::verdict::numbers_of;
+use zones::fraction::Fraction;
 ghost use mathlib.Core.Path.{_≡_};
 ghost use lib.ListN.{length};
 ghost use Rattle.automata.specs.Refusals.{refusalOf};
-ghost use Rattle.search.specs.Answers.{searchAnswer, searchStore};
+ghost use Rattle.search.specs.Answers.{searchFindings, searchStore};
 ghost use Rattle.cache.specs.Caches.{sound};
 ghost use Rattle.cache.specs.Consulting.{makeEmptyReply, makeEmptyCache};
 ghost use Rattle.cache.specs.Drawn.{lookUpIn, consultAnswer, consultCache, consultStore};
 ghost use Rattle.canonical.specs.Writing.{formAnswer, formBuffer};
-ghost use Rattle.exports.specs.Replies.{verdictNumbers, over, answerNumber, told, lookupNumber, filedTold, lookupTold, soundNumber};
+ghost use Rattle.exports.specs.Replies.{verdictNumbers, over, answerNumber, told, findingsNumber, findingsTold};
+ghost use Rattle.exports.specs.Replies.{lookupNumber, filedTold, lookupTold, soundNumber};
 ghost use Rattle.exports.specs.Replies.{formNumber, formTold, judgementNumber, passesTold};
 ghost use mathlib.Core.Logic.{_↔_};
 ghost use Rattle.run_judge.specs.declared.judgement.Judgement.the-variants.{Yes};
 ghost use Rattle.run_judge.specs.Judging.{judgementOf};
 ghost use Rattle.run_judge.specs.Passing.{Passes};
 ghost use Rattle.run_writer.specs.Told.{Tells};
-ghost use Rattle.run_writer.specs.Writing.{runAnswer, runBuffer};
+ghost use Rattle.run_writer.specs.Writing.{runFindings, runBuffer};
 
-// What is told of a verdict: kind, n, d, zones; then exact n, exact d, again and inside, which are 0 until later changes have them.
-fn verdict_numbers(v: Verdict, zones: u32) -> [u64; 8]
-    ensures { λ r. ⌜ r ≡ verdictNumbers v zones ⌝ }
+// A cache's verdict comes without an exact fraction.
+const NO_EXACT: Fraction = Fraction { n: 0, d: 0 };
+
+// What is told of a verdict: kind, n, d, zones, exact n and exact d; then again and inside, which are 0 until a later change has them.
+fn verdict_numbers(v: Verdict, zones: u32, exact: Fraction) -> [u64; 8]
+    ensures { λ r. ⌜ r ≡ verdictNumbers v zones exact ⌝ }
 {
     let x = numbers_of(v);
-    [x.kind as u64, x.n, x.d, zones as u64, 0, 0, 0, 0]
+    [
+        x.kind as u64,
+        x.n,
+        x.d,
+        zones as u64,
+        exact.n,
+        exact.d,
+        0,
+        0,
+    ]
 }
 
 // As many of the numbers as are lent.
@@ -57,10 +72,25 @@ fn tell(found: Answer, answer: &mut [u64]) -> u32
 {
     match found {
         Answer::Found(v, zones) => {
-            write_over(verdict_numbers(v, zones), answer);
+            write_over(verdict_numbers(v, zones, NO_EXACT), answer);
             0
         }
         Answer::Refused(k) => k,
+    }
+}
+
+// What the bare search finds: the same, with the exact fraction.
+fn tell_findings(found: Findings, answer: &mut [u64]) -> u32
+    ensures { λ r. ⌜ r ≡ findingsNumber found ⌝ }
+    ensures { λ r. ⌜ now (answer .exit) ≡ findingsTold found (now (answer .entry)) ⌝ }
+{
+    match found {
+        Findings::Found(v, x) => {
+            let exact = x.exact;
+            write_over(verdict_numbers(v, x.zones, exact), answer);
+            0
+        }
+        Findings::Refused(k) => k,
     }
 }
 
@@ -73,7 +103,7 @@ fn tell_lookup(found: Lookup, filed: &mut u64, answer: &mut [u64]) -> u32
     match found {
         Lookup::Filed(v, zones) => {
             *filed = 1;
-            write_over(verdict_numbers(v, zones), answer);
+            write_over(verdict_numbers(v, zones, NO_EXACT), answer);
             0
         }
         Lookup::Absent => {
@@ -134,14 +164,14 @@ pub extern "C" fn robustness_canonical(automaton: &[u8], form: &mut [u8], writte
     tell_form(write_canonical(automaton, form), written)
 }
 
-// The search's answer, told; the kept zones stand in the store.
+// What the search finds, told; the kept zones stand in the store.
 #[no_mangle]
 pub extern "C" fn robustness_search(automaton: &[u8], store: &mut [i32], answer: &mut [u64]) -> u32
-    ensures { λ r. ⌜ r ≡ answerNumber (searchAnswer (now (automaton .entry)) (length (now (store .entry)))) ⌝ }
+    ensures { λ r. ⌜ r ≡ findingsNumber (searchFindings (now (automaton .entry)) (length (now (store .entry)))) ⌝ }
     ensures { λ r. ⌜ now (store .exit) ≡ searchStore (now (automaton .entry)) (now (store .entry)) ⌝ }
-    ensures { λ r. ⌜ now (answer .exit) ≡ told (searchAnswer (now (automaton .entry)) (length (now (store .entry)))) (now (answer .entry)) ⌝ }
+    ensures { λ r. ⌜ now (answer .exit) ≡ findingsTold (searchFindings (now (automaton .entry)) (length (now (store .entry)))) (now (answer .entry)) ⌝ }
 {
-    tell(search(automaton, store), answer)
+    tell_findings(search(automaton, store), answer)
 }
 
 // The same, or 14; and where the answer is reached, a run that ends at the target.
@@ -152,15 +182,15 @@ pub extern "C" fn robustness_write_run(
     run: &mut [i64],
     answer: &mut [u64],
 ) -> u32
-    ensures { λ r. ⌜ r ≡ answerNumber (runAnswer (now (automaton .entry)) (length (now (store .entry))) (length (now (run .entry)))) ⌝ }
+    ensures { λ r. ⌜ r ≡ findingsNumber (runFindings (now (automaton .entry)) (length (now (store .entry))) (length (now (run .entry)))) ⌝ }
     ensures { λ r. ⌜ now (store .exit) ≡ searchStore (now (automaton .entry)) (now (store .entry)) ⌝ }
     ensures { λ r. ⌜ now (run .exit) ≡ runBuffer (now (automaton .entry)) (length (now (store .entry))) (now (run .entry)) ⌝ }
     ensures { λ r. ⌜ now (answer .exit)
-        ≡ told (runAnswer (now (automaton .entry)) (length (now (store .entry))) (length (now (run .entry)))) (now (answer .entry)) ⌝ }
+        ≡ findingsTold (runFindings (now (automaton .entry)) (length (now (store .entry))) (length (now (run .entry)))) (now (answer .entry)) ⌝ }
     ensures { λ r. ⌜ Tells (now (automaton .entry)) (length (now (store .entry))) (now (run .exit))
-        (runAnswer (now (automaton .entry)) (length (now (store .entry))) (length (now (run .entry)))) ⌝ }
+        (runFindings (now (automaton .entry)) (length (now (store .entry))) (length (now (run .entry)))) ⌝ }
 {
-    tell(write_run(automaton, store, run), answer)
+    tell_findings(write_run(automaton, store, run), answer)
 }
 
 // Whether the buffer begins with a run of the automaton that ends at the target, told.

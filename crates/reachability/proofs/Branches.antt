@@ -7,10 +7,11 @@ use lib.ListN.{length}
 use Rattle.runs.specs.Runs.{System}
 use Rattle.reachability.specs.Search.{Result, zone, fracOf, Zones, Came, first-zone, by-edge, Node, Nth, State, reached, ended, first-node}
 use Rattle.reachability.specs.Search.{child, offer, nothing, begin, search}
-use Rattle.reachability.specs.Laws.{Stays}
+use Rattle.reachability.specs.Laws.{Falls}
 use Rattle.reachability.specs.Branches.{Branch, BranchOf, Branches, Arrived, pathOf}
 use Rattle.reachability.proofs.Lists.{Grown, grown-nth, nth-lt, nth-tail, nth-place}
-use Rattle.reachability.proofs.Judged.{offer-kept, offer-frac, offer-met}
+use Rattle.reachability.proofs.Judged.{offer-kept, offer-met}
+use Rattle.reachability.proofs.Later.{offer-falls}
 use Rattle.reachability.proofs.Keeps.{Steady, search-keeps}
 
 module _ {Z F : Type 0} (A : System) (O : Zones Z F) (B : F → Type 0) where
@@ -64,47 +65,48 @@ module _ {Z F : Type 0} (A : System) (O : Zones Z F) (B : F → Type 0) where
   path-is ks j k first-zone b = sym (b .path)
   path-is ks j k (by-edge f i) b = rw (pathOf, nth-tail ks f (b .parent) (b .kept)) (sym (b .path))
 
-  -- ---- of all, and of the one that met the target
-  module _ (stay : Stays O B) (cap : ℕ) where
+  -- ---- of all, and of the one that met the target: below a bound on the fraction
+  module _ (fall : Falls O B) (cap : ℕ) where
     record Branched (q : State Z F) : Type 0 where
-      fine : B (q .frac)
-      nodes : Branches A O B (q .kept)
-      met : (c : Came) → q .outcome ≡ ended (reached c) → Arrived A O B (q .kept) c
+      nodes : B (q .frac) → Branches A O B (q .kept)
+      met : B (q .frac) → (c : Came) → q .outcome ≡ ended (reached c) → Arrived A O B (q .kept) c
 
-    offered : (q : State Z F) (c : Z → Node Z) (r : Result Z F) → Branches A O B (q .kept) → B (fracOf r)
+    offered : (q : State Z F) (c : Z → Node Z) (r : Result Z F) → (B (fracOf r) → Branches A O B (q .kept))
         → ((z : Z) (f : F) → r ≡ zone z f → B f → BranchOf A O B (q .kept) (length (q .kept)) (c z)) → Branched (offer A O cap q c r)
-    offered q c r h d b = record {
-      fine = offer-frac A O cap B q c r d (λ z f y e i. stay .lowered (c z .zone) (y .zone) f (i .holds) (subst (λ x. B (fracOf x)) e d));
-      nodes = offer-kept A O cap (Branches A O B) q c r h (λ z f e a w l. branches-snoc (q .kept) (c z) h (b z f e (subst (λ x. B (fracOf x)) e d)));
-      met = λ x o.
-          let m = offer-met A O cap q c r x o in
-          subst (λ ks. Arrived A O B ks x) (sym (m .same))
+    offered q c r h b = record {
+      nodes = λ x.
+          let d : B (fracOf r) = offer-falls A O cap q c r B fall x in
+          offer-kept A O cap (Branches A O B) q c r (h d)
+          (λ z f e a w l. branches-snoc (q .kept) (c z) (h d) (b z f e (subst (λ y. B (fracOf y)) e d)));
+      met = λ x y o.
+          let d : B (fracOf r) = offer-falls A O cap q c r B fall x in
+          let m = offer-met A O cap q c r y o in
+          subst (λ ks. Arrived A O B ks y) (sym (m .same))
           (record {
             node = c (m .met);
             came = m .came;
             there = m .there;
-            branch = b (m .met) (m .after) (m .made) (subst (λ x. B (fracOf x)) (m .made) d);
+            branch = b (m .met) (m .after) (m .made) (subst (λ y. B (fracOf y)) (m .made) d);
           });
     }
 
     starts : Branched (begin A O cap)
-    starts = offered (nothing A O cap) (first-node A) (O .enter (O .top)) (λ j k n. absurd n)
-        (stay .enter (O .top) (stay .top)) (λ z f e b. first-branch [] z (O .top) f e b)
+    starts = offered (nothing A O cap) (first-node A) (O .enter (O .top)) (λ d j k n. absurd n) (λ z f e b. first-branch [] z (O .top) f e b)
 
     goes-on : Steady A O cap Branched
     goes-on = record {
       edge = λ q j k i c n l g h.
-          offered q (child A j k i) (O .succ i (k .zone) (q .frac)) (h .nodes)
-          (stay .succ i (k .zone) (q .frac) (h .fine)) (λ z f e b. child-branch (q .kept) j k i z (q .frac) f n l g e b);
+          offered q (child A j k i) (O .succ i (k .zone) (q .frac)) (λ d. h .nodes (fall .succ i (k .zone) (q .frac) d))
+          (λ z f e b. child-branch (q .kept) j k i z (q .frac) f n l g e b);
     }
 
     ends : Branched (search A O cap)
     ends = search-keeps A O cap goes-on starts
 
     -- each kept node came from an older one by an edge of it, with that one's path and this edge, but for the first
-    pub branches : Branches A O B (search A O cap .kept)
+    pub branches : B (search A O cap .frac) → Branches A O B (search A O cap .kept)
     branches = ends .nodes
 
     -- and so did the zone that met the target
-    pub arrived : (c : Came) → search A O cap .outcome ≡ ended (reached c) → Arrived A O B (search A O cap .kept) c
+    pub arrived : B (search A O cap .frac) → (c : Came) → search A O cap .outcome ≡ ended (reached c) → Arrived A O B (search A O cap .kept) c
     arrived = ends .met

@@ -22,20 +22,18 @@ module _ (edges : ℕ) (from to : ℕ → ℕ) (start target : ℕ) (isOpen : �
       (meaning edges from to start target isOpen) s₀ e₀
   laws = record {
     clocks = record { none = λ v. refl; more = λ t u v. refl };
-    tighter = λ f s e h. tt;
-    safe = λ s e. record { enter = λ f b. tt; succ = λ i z f b. tt; lowered = λ z y f b. tt };
-    exact = λ s e. record { enter = λ f b. tt; succ = λ i z f b. tt; lowered = λ z y f b. tt };
-    fine = record { top = tt; enter = λ f b. tt; succ = λ i z f b. tt; lowered = λ z y f h b. tt };
-    one-sided = record {
-      enter-shape = λ f g z j. tt;
-      succ-shape = λ i y z f g l h j. tt;
-      enter-in = λ s e f g z t j b h k. tt;
+    error = tt;
+    shapes = record { enter = λ f g z j. tt; succ = λ i y z f g l h j. tt };
+    inclusion = record { enter = λ s e f g z t r j h k. tt; succ = λ s e i y z f g v t r l h j m u w x. tt };
+    safe-falls = λ s e. record { enter = λ f b. tt; succ = λ i z f b. tt; lowered = λ z y f b. tt };
+    safe = record {
       enter-none = λ s e f g j b h. zone-empty j;
-      succ-in = λ s e i y z f g v t l h j b m u w x. tt;
       succ-none = λ s e i y f g v l h j b m u w. shut (isOpen i) g u j;
       within-in = λ s e z y f v h k j b m. tt;
     };
-    both = record {
+    exact-falls = λ s e. record { enter = λ f b. tt; succ = λ i z f b. tt; lowered = λ z y f b. tt };
+    exact-stays = record { top = tt; enter = λ f b. tt; succ = λ i z f l h b. tt; lowered = λ z y f h k j b. tt };
+    exact = record {
       enter-fit = λ s e f g z j b. tt;
       succ-fit = λ s e i y z f g l h k j b. tt;
       enter-from = λ s e f g z v j b m. record { time = 0; begins = tt; stays = tt; same = refl };

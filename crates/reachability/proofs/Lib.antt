@@ -5,6 +5,7 @@ pub mod Judged
 pub mod Later
 pub mod Keeps
 pub mod Inherits
+pub mod Shaped
 pub mod Cover
 pub mod Same
 pub mod Reached

@@ -18,7 +18,7 @@ use Rattle.reachability.proofs.Branches.{path-is, branches, arrived}
 
 module _ {Z F : Type 0} (A : System) (O : Zones Z F) (M : Meaning A Z F) (s e : ℕ) (L : Laws A O M s e) (W : Witnesses A Z)
     (H : WitnessLaws A O M W s e) (ks : List (Node Z)) (B : Branches A O (λ f. M .Exact f s e) ks)
-    (T : All (Tight A O M (L .one-sided) s e) ks) where
+    (T : All (Tight A O M s e) ks) where
   abbrev X : F → Type 0
   X f = M .Exact f s e
 
@@ -36,7 +36,7 @@ module _ {Z F : Type 0} (A : System) (O : Zones Z F) (M : Meaning A Z F) (s e : 
   first-run : (k : Node Z) (v : W .S) (p : List ℕ) (xs : List Step) (j : ℕ) → Starts A O X ks j k → M .In (k .zone) s e (W .val v)
       → Follows (k .at) v p xs → RunAlong A s e (k .path ++ p) (wait (W .since v) ∷ xs)
   first-run k v p xs j b i h =
-      let o = L .both .enter-from s e (b .before) (b .after) (k .zone) (W .val v) (b .made) (b .fine) i in
+      let o = L .exact .enter-from s e (b .before) (b .after) (k .zone) (W .val v) (b .made) (b .fine) i in
       let t : o .time ≡ W .since v = sym (H .since-is v (o .time) (o .same)) in
       let here : after A (first A) (wait (W .since v)) ≡ stand (k .at) v =
       λ x. record { at = sym (b .at) x; clocks = (ap (λ y. A .pass y (A .origin)) (sym t) ∙ o .same) x } in
@@ -101,12 +101,12 @@ module _ {Z F : Type 0} (A : System) (O : Zones Z F) (M : Meaning A Z F) (s e : 
   last-in : (j : ℕ) (k : Node Z) (c : Came) → Branch A O X ks j k c → M .In (k .zone) s e (W .val (lastState W ks c))
   unfolding lastState
   last-in j k first-zone b =
-      let x = L .both .enter-fit s e (b .before) (b .after) (k .zone) (b .made) (b .fine) in
-      let q = L .both .point (k .zone) (L .one-sided .enter-shape (b .before) (b .after) (k .zone) (b .made)) x in
-      let f = L .both .enter-from s e (b .before) (b .after) (k .zone) (q .0) (b .made) (b .fine) (q .1) in
+      let x = L .exact .enter-fit s e (b .before) (b .after) (k .zone) (b .made) (b .fine) in
+      let q = L .exact .point (k .zone) (L .shapes .enter (b .before) (b .after) (k .zone) (b .made)) x in
+      let f = L .exact .enter-from s e (b .before) (b .after) (k .zone) (q .0) (b .made) (b .fine) (q .1) in
       let u = L .clocks .none (A .origin) in
       subst (M .In (k .zone) s e) (u ∙ sym (H .begins))
-      (L .one-sided .enter-in s e (b .before) (b .after) (k .zone) 0 (b .made) (L .tighter _ s e (b .fine)) (f .begins)
+      (L .inclusion .enter s e (b .before) (b .after) (k .zone) 0 (L .error) (b .made) (f .begins)
       (subst (A .inv s e (A .start)) (sym u) (f .begins)))
   last-in j k (by-edge f i) b =
       let y = b .parent in
@@ -130,5 +130,6 @@ module _ {Z F : Type 0} (A : System) (O : Zones Z F) (M : Meaning A Z F) (s e : 
       → RunAlong A s e (pathOf (search A O cap .kept) c) (runTo W (search A O cap .kept) c)
   run-back c o =
       let b = exact-there A O M s e L cap in
-      whole A O M s e L W H (search A O cap .kept) (branches A O (λ f. M .Exact f s e) (L .fine) cap)
-      (all-tight A O M (L .one-sided) s e s e (L .both) (L .exact s e) cap b) c (arrived A O (λ f. M .Exact f s e) (L .fine) cap c o)
+      whole A O M s e L W H (search A O cap .kept) (branches A O (λ f. M .Exact f s e) (L .exact-falls s e) cap b)
+      (all-tight A O M s e s e (L .shapes) (L .exact) (L .exact-falls s e) cap b) c
+      (arrived A O (λ f. M .Exact f s e) (L .exact-falls s e) cap b c o)

@@ -38,6 +38,7 @@ module _ (edges : ℕ) (from to : ℕ → ℕ) (start target : ℕ) (isOpen : �
 
   abbrev pub meaning : Meaning graph (Unit {0}) (Unit {0})
   meaning = record {
+    Error = λ s e. Unit {0};
     In = λ z s e v. Unit {0};
     Shape = λ z. Unit {0};
     Fit = λ z s e. Unit {0};

@@ -1,5 +1,5 @@
--- The laws of zones that the search rests on: the one-sided ones below the safe fraction, the others below the exact one.
--- In document 01 the two fractions are one.
+-- The laws of zones that the search rests on: inclusion at every error, emptiness and containment below the safe fraction, the other inclusion
+-- below the exact one.
 use Prim.Native.Nat.{ℕ, _+_, _<_}
 use mathlib.Core.Bool.{true}
 use mathlib.Core.Path.{_≡_}
@@ -13,29 +13,35 @@ pub record Falls {Z F : Type 0} (O : Zones Z F) (B : F → Type 0) : Type 0 wher
   pub succ : (i : ℕ) (z : Z) (f : F) → B (fracOf (O .succ i z f)) → B f
   pub lowered : (z y : Z) (f : F) → B (O .lowered z y f) → B f
 
--- and one that stays
-pub record Stays {Z F : Type 0} (O : Zones Z F) (B : F → Type 0) : Type 0 where
-  pub top : B (O .top)
-  pub enter : (f : F) → B f → B (fracOf (O .enter f))
-  pub succ : (i : ℕ) (z : Z) (f : F) → B f → B (fracOf (O .succ i z f))
-  pub lowered : (z y : Z) (f : F) → O .within z y ≡ true → B f → B (O .lowered z y f)
-
 -- waits add up
 pub record Clocks (A : System) : Type 0 where
   pub none : (v : A .Val) → A .pass 0 v ≡ v
   pub more : (t u : ℕ) (v : A .Val) → A .pass u (A .pass t v) ≡ A .pass (t + u) v
 
 module _ {Z F : Type 0} (A : System) (O : Zones Z F) (M : Meaning A Z F) where
-  -- every zone has a state of each run that it stands for
-  pub record OneSided : Type 0 where
-    pub enter-shape : (f g : F) (z : Z) → O .enter f ≡ zone z g → M .Shape z
-    pub succ-shape : (i : ℕ) (y z : Z) (f g : F) → i < A .edges → M .Shape y → O .succ i y f ≡ zone z g → M .Shape z
-    pub enter-in : (s e : ℕ) (f g : F) (z : Z) (t : ℕ) → O .enter f ≡ zone z g → M .Safe g s e
+  -- what every zone has
+  pub record Shapes : Type 0 where
+    pub enter : (f g : F) (z : Z) → O .enter f ≡ zone z g → M .Shape z
+    pub succ : (i : ℕ) (y z : Z) (f g : F) → i < A .edges → M .Shape y → O .succ i y f ≡ zone z g → M .Shape z
+
+  -- what every operation keeps of the running fractions
+  pub record Stays (B : F → Type 0) : Type 0 where
+    pub top : B (O .top)
+    pub enter : (f : F) → B f → B (fracOf (O .enter f))
+    pub succ : (i : ℕ) (z : Z) (f : F) → i < A .edges → M .Shape z → B f → B (fracOf (O .succ i z f))
+    pub lowered : (z y : Z) (f : F) → M .Shape z → M .Shape y → O .within z y ≡ true → B f → B (O .lowered z y f)
+
+  -- at every error a zone has each state of the runs that it stands for
+  pub record Inclusion : Type 0 where
+    pub enter : (s e : ℕ) (f g : F) (z : Z) (t : ℕ) → M .Error s e → O .enter f ≡ zone z g
         → A .inv s e (A .start) (A .origin) → A .inv s e (A .start) (A .pass t (A .origin)) → M .In z s e (A .pass t (A .origin))
-    pub enter-none : (s e : ℕ) (f g : F) → O .enter f ≡ empty g → M .Safe g s e → A .inv s e (A .start) (A .origin) → ⊥
-    pub succ-in : (s e i : ℕ) (y z : Z) (f g : F) (v : A .Val) (t : ℕ) → i < A .edges → M .Shape y → O .succ i y f ≡ zone z g → M .Safe g s e
+    pub succ : (s e i : ℕ) (y z : Z) (f g : F) (v : A .Val) (t : ℕ) → M .Error s e → i < A .edges → M .Shape y → O .succ i y f ≡ zone z g
         → M .In y s e v → A .guard s e i v → A .inv s e (A .to i) (A .reset i v) → A .inv s e (A .to i) (A .pass t (A .reset i v))
         → M .In z s e (A .pass t (A .reset i v))
+
+  -- below the safe fraction what is empty has no state, and what is contained is a subset
+  pub record SafeLaws : Type 0 where
+    pub enter-none : (s e : ℕ) (f g : F) → O .enter f ≡ empty g → M .Safe g s e → A .inv s e (A .start) (A .origin) → ⊥
     pub succ-none : (s e i : ℕ) (y : Z) (f g : F) (v : A .Val) → i < A .edges → M .Shape y → O .succ i y f ≡ empty g → M .Safe g s e
         → M .In y s e v → A .guard s e i v → A .inv s e (A .to i) (A .reset i v) → ⊥
     pub within-in : (s e : ℕ) (z y : Z) (f : F) (v : A .Val) → M .Shape z → M .Shape y → O .within z y ≡ true → M .Safe (O .lowered z y f) s e
@@ -58,7 +64,7 @@ module _ {Z F : Type 0} (A : System) (O : Zones Z F) (M : Meaning A Z F) where
     pub stays : A .inv s e (A .to i) (A .pass time (A .reset i old))
     pub same : A .pass time (A .reset i old) ≡ v
 
-  -- every state of a zone is one of a run; at `s₀`, `e₀` each has a state (document 01: at 1 and 0)
+  -- below the exact fraction every state of a zone is one of a run; at `s₀`, `e₀` each has a state (document 01: at 1 and 0)
   pub record ExactLaws (s₀ e₀ : ℕ) : Type 0 where
     pub enter-fit : (s e : ℕ) (f g : F) (z : Z) → O .enter f ≡ zone z g → M .Exact g s e → M .Fit z s e
     pub succ-fit : (s e i : ℕ) (y z : Z) (f g : F) → i < A .edges → M .Shape y → M .Fit y s e → O .succ i y f ≡ zone z g
@@ -70,9 +76,11 @@ module _ {Z F : Type 0} (A : System) (O : Zones Z F) (M : Meaning A Z F) where
 
   pub record Laws (s₀ e₀ : ℕ) : Type 0 where
     pub clocks : Clocks A
-    pub tighter : (f : F) (s e : ℕ) → M .Exact f s e → M .Safe f s e
-    pub safe : (s e : ℕ) → Falls O (λ f. M .Safe f s e)
-    pub exact : (s e : ℕ) → Falls O (λ f. M .Exact f s e)
-    pub fine : Stays O (λ f. M .Exact f s₀ e₀)
-    pub one-sided : OneSided
-    pub both : ExactLaws s₀ e₀
+    pub error : M .Error s₀ e₀
+    pub shapes : Shapes
+    pub inclusion : Inclusion
+    pub safe-falls : (s e : ℕ) → Falls O (λ f. M .Safe f s e)
+    pub safe : SafeLaws
+    pub exact-falls : (s e : ℕ) → Falls O (λ f. M .Exact f s e)
+    pub exact-stays : Stays (λ f. M .Exact f s₀ e₀)
+    pub exact : ExactLaws s₀ e₀

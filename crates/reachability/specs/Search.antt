@@ -7,7 +7,7 @@ use mathlib.Core.Path.{_≡_}
 use lib.Dec.{ltb, eqb}
 use Rattle.runs.specs.Runs.{System}
 
--- what an operation on zones gives: empty, or a zone, and the running fraction after it
+-- what an operation on zones gives: empty, or a zone, and the running fractions after it
 pub data Result (Z F : Type 0) : Type 0 where
   empty : F → Result Z F
   zone : Z → F → Result Z F

@@ -9,7 +9,6 @@ use native.Mathlib.Omega.{arith}
 use Rattle.runs.specs.Limits.{Limits, Holds}
 use Rattle.runs.specs.Timed.{Valuation, ticks, listed, later}
 use Rattle.runs.proofs.Valuations.{listed-length, ticks-listed, same-ticks, origin-ticks}
-use Rattle.zones.specs.declared.fraction.Fraction.{Fraction}
 use Rattle.zones.specs.declared.pair.Pair.{Pair}
 use Rattle.zones.specs.Fractions.{noLimit}
 use Rattle.zones.specs.Moves.{Closed, Shaped}
@@ -24,7 +23,7 @@ use Rattle.automata.proofs.fields.Resets.{reset-zero}
 use Rattle.reachability.specs.Search.{zone}
 use Rattle.reachability.specs.Witnesses.{WitnessLaws, Leads}
 use Rattle.search.specs.Exploring.{SoundZone}
-use Rattle.search.specs.Instance.{workOf, following, zonesOf, meaningOf, Inside}
+use Rattle.search.specs.Instance.{Fractions, workOf, following, zonesOf, meaningOf, Inside}
 use Rattle.search.proofs.instance.Obeys.{came-from, Jumped, jumped, laws}
 use Rattle.witness.specs.declared.Back.{Back}
 use Rattle.witness.specs.Laws.{SteppedBack, Reached}
@@ -122,15 +121,15 @@ module _ (b : List ℕ) (a : Accepted b) where
         })
 
     -- from a zone to its successor
-    module _ (y z : List Pair) (f g : Fraction) (shape : Shaped c (workOf y noLimit)) (fit : Closed (suc c) (squareOf 1 0 (workOf y noLimit)))
-        (made : following b i y f ≡ zone z g) (exact : Below 1 0 g) where
-      from : (v : ℕ → ℕ) → Has 1 0 c (workOf z noLimit) v → (u : ℕ → ℕ) × Has 1 0 c (workOf y f) u × Follows 1 0 c G R I u v
+    module _ (y z : List Pair) (f g : Fractions) (shape : Shaped c (workOf y noLimit)) (fit : Closed (suc c) (squareOf 1 0 (workOf y noLimit)))
+        (made : following b i y f ≡ zone z g) (exact : Below 1 0 (g .exact)) where
+      from : (v : ℕ → ℕ) → Has 1 0 c (workOf z noLimit) v → (u : ℕ → ℕ) × Has 1 0 c (workOf y (f .exact)) u × Follows 1 0 c G R I u v
       from = came-from b a i hi 1 0 (omega arith) y z f g shape fit made exact
 
       point : (v : Valuation) × Inside b z 1 0 v
       point =
-          laws b a .both .point z (laws b a .one-sided .succ-shape i y z f g hi shape made)
-          (laws b a .both .succ-fit 1 0 i y z f g hi shape fit made (omega arith, exact))
+          laws b a .exact .point z (laws b a .shapes .succ i y z f g hi shape made)
+          (laws b a .exact .succ-fit 1 0 i y z f g hi shape fit made (omega arith, exact))
 
       crosses-edge : SoundZone b y → Crosses b i y
       crosses-edge s =
@@ -154,7 +153,7 @@ module _ (b : List ℕ) (a : Accepted b) where
           let r = landed in
           let j = jumped-to y (r .before) (clocksOf (landingAlong b i y)) (r .inside) (r .follows) in
           subst (Inside b z 1 0) (j .same)
-          (laws b a .one-sided .succ-in 1 0 i y z f g (listed c (r .before)) (r .follows .enters .wait) hi shape made (omega arith, exact)
+          (laws b a .inclusion .succ 1 0 i y z f g (listed c (r .before)) (r .follows .enters .wait) (omega arith) hi shape made
           (j .inside) (j .may) (j .lands) (j .stays))
 
       stepped : (v : List ℕ) → clocksOf v 0 ≡ 0 → Inside b z 1 0 (listed c (clocksOf v)) →
@@ -191,8 +190,8 @@ module _ (b : List ℕ) (a : Accepted b) where
           (leads-from (cleared v) (cleared-start v) (subst (Inside b z 1 0) (sym e) n)))
 
 -- ---- what is asked
-pub crosses : (b : List ℕ) (a : Accepted b) (i : ℕ) (y z : List Pair) (f g : Fraction) → i < edges b → SoundZone b y →
-    Shaped (clocks b) (workOf y noLimit) → Closed (suc (clocks b)) (squareOf 1 0 (workOf y noLimit)) → following b i y f ≡ zone z g → Below 1 0 g →
+pub crosses : (b : List ℕ) (a : Accepted b) (i : ℕ) (y z : List Pair) (f g : Fractions) → i < edges b → SoundZone b y →
+    Shaped (clocks b) (workOf y noLimit) → Closed (suc (clocks b)) (squareOf 1 0 (workOf y noLimit)) → following b i y f ≡ zone z g → Below 1 0 (g .exact) →
     Crosses b i y
 crosses b a i y z f g hi s p k e x = crosses-edge b a i hi y z f g p k e x s
 

@@ -11,8 +11,8 @@ use Rattle.reachability.specs.Witnesses.{RunAlong}
 use Rattle.run_judge.specs.declared.judgement.Judgement.the-variants.{Yes}
 use Rattle.run_judge.specs.Judging.{judgementOf}
 use Rattle.runs.specs.Written.{written}
-use Rattle.search.specs.declared.verdict.Answer.{Answer}
-use Rattle.search.specs.declared.verdict.Answer.the-variants.{Found, Refused}
+use Rattle.search.specs.declared.verdict.Findings.{Findings}
+use Rattle.search.specs.declared.verdict.Findings.the-variants.{Found, Refused}
 use Rattle.search.specs.declared.verdict.Verdict.the-variants.{Reached, Holds}
 use Rattle.search.specs.Answers.{stateOf}
 use Rattle.run_writer.specs.Writing.{runOf}
@@ -33,8 +33,8 @@ pub record Written (b : List ℕ) (amount : ℕ) (run : List ℤ) : Type 0 where
   -- "What the writer gives, the judge passes."
   pub passes : judgementOf b run ≡ Yes
 
--- of an answer, with what was left in the buffer
-unfoldable pub Tells : List ℕ → ℕ → List ℤ → Answer → Type 0
-Tells b amount run (Found Reached zones) = Written b amount run
-Tells b amount run (Found (Holds h) zones) = Unit {0}
+-- of what was found, with what was left in the buffer
+unfoldable pub Tells : List ℕ → ℕ → List ℤ → Findings → Type 0
+Tells b amount run (Found Reached x) = Written b amount run
+Tells b amount run (Found (Holds h) x) = Unit {0}
 Tells b amount run (Refused k) = Unit {0}

@@ -1,4 +1,4 @@
--- "A run in whole time units with no loosening is written by a call over the bare search": what the call answers, and what it leaves of the buffer.
+-- "A run in whole time units with no loosening is written by a call over the bare search": what the call finds, and what it leaves of the buffer.
 use Prim.Native.Nat.{ℕ}
 use mathlib.Core.Bool.{cond}
 use mathlib.Core.List.{List, [], _++_}
@@ -10,9 +10,9 @@ use Rattle.reachability.specs.Search.{Came, Outcome, going, ended, reached, ref
 use Rattle.reachability.specs.Witnesses.{runTo}
 use Rattle.runs.specs.Runs.{Step}
 use Rattle.runs.specs.Written.{written}
-use Rattle.search.specs.declared.verdict.Answer.{Answer}
-use Rattle.search.specs.declared.verdict.Answer.the-variants.{Refused}
-use Rattle.search.specs.Answers.{stateOf, searchAnswer}
+use Rattle.search.specs.declared.verdict.Findings.{Findings}
+use Rattle.search.specs.declared.verdict.Findings.the-variants.{Refused}
+use Rattle.search.specs.Answers.{stateOf, searchFindings}
 use Rattle.search.specs.Instance.{ZoneState}
 use Rattle.run_writer.specs.Crossing.{witnessesOf}
 
@@ -30,8 +30,8 @@ unfoldable pub runNumbers : List ℕ → ℕ → List ℤ
 runNumbers b amount = cond (eqb (refusalOf b) 0) (outcomeNumbers b (stateOf b amount) (stateOf b amount .outcome)) []
 
 -- "Turned away: 14, run buffer too short, after a reached verdict, buffer untouched." The store is of `amount` numbers, the buffer of `room`
-unfoldable pub runAnswer : List ℕ → ℕ → ℕ → Answer
-runAnswer b amount room = cond (ltb room (length (runNumbers b amount))) (Refused 14) (searchAnswer b amount)
+unfoldable pub runFindings : List ℕ → ℕ → ℕ → Findings
+runFindings b amount room = cond (ltb room (length (runNumbers b amount))) (Refused 14) (searchFindings b amount)
 
 -- "Numbers outside a run are unchanged."
 unfoldable pub runBuffer : List ℕ → ℕ → List ℤ → List ℤ

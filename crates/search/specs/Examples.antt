@@ -1,24 +1,26 @@
--- "Cards on the table": document 01's cards A to J, each with a store, and what the search answers and leaves.
+-- "Cards on the table": document 01's cards A to J and that of document 02, Change 4, each with a store, and what the search finds and leaves.
 use Prim.Native.Nat.{ℕ, _/_, _%_}
 use mathlib.Core.List.{List, [], _∷_, _++_}
 use mathlib.Core.Path.{_≡_}
 use lib.IntN.{ℤ, pos, negsuc}
 use lib.ListN.{length, replicate}
-use Rattle.search.specs.declared.verdict.Answer.{Answer}
-use Rattle.search.specs.declared.verdict.Answer.the-variants.{Found, Refused}
+use Rattle.zones.specs.declared.fraction.Fraction.{Fraction}
+use Rattle.search.specs.declared.verdict.Findings.{Findings}
+use Rattle.search.specs.declared.verdict.Findings.the-variants.{Found, Refused}
 use Rattle.search.specs.declared.verdict.Holding.the-variants.{AnyError, Below}
+use Rattle.search.specs.declared.verdict.Verdict.{Verdict}
 use Rattle.search.specs.declared.verdict.Verdict.the-variants.{Reached, Holds}
-use Rattle.search.specs.Answers.{searchAnswer, searchStore}
+use Rattle.search.specs.Answers.{searchFindings, searchStore}
 
 pub record Example : Type 0 where
   pub bytes : List ℕ
   pub store : List ℤ
-  pub answer : Answer
+  pub findings : Findings
   pub after : List ℤ
 
 -- what is claimed of a card
 abbrev pub Right : Example → Type 0
-Right c = (searchAnswer (c .bytes) (length (c .store)) ≡ c .answer) × (searchStore (c .bytes) (c .store) ≡ c .after)
+Right c = (searchFindings (c .bytes) (length (c .store)) ≡ c .findings) × (searchStore (c .bytes) (c .store) ≡ c .after)
 
 abbrev pub AllRight : List Example → Type 0
 AllRight [] = Unit {0}
@@ -62,23 +64,47 @@ kept hi = pos 0 ∷ negsuc 0 ∷ negsuc 0 ∷ pos 0 ∷ pos 0 ∷ pos 0 ∷ pos 
 abbrev first : ℕ → List ℤ
 first hi = kept hi ++ replicate 13 (pos 7)
 
-abbrev below : ℕ → ℕ → ℕ → Answer
-below n d zones = Found (Holds (Below (record { n = n; d = d }))) zones
+-- what is found: a verdict, the zones kept, and the exact fraction
+abbrev found : Verdict → ℕ → Fraction → Findings
+found v zones exact = Found v (record { zones = zones; exact = exact })
 
+abbrev over : ℕ → ℕ → Fraction
+over n d = record { n = n; d = d }
+
+abbrev below : ℕ → ℕ → Verdict
+below n d = Holds (Below (over n d))
+
+abbrev any : Verdict
+any = Holds AnyError
+
+-- ---- the cards, each with its safe fraction in the verdict and its exact one beside it
 abbrev pub examples : List Example
 examples =
-    record { bytes = firstBytes; store = lent; answer = below 1 1 1; after = first 5 }  -- A
-    ∷ record { bytes = card 1 (limits 0 5) (limits 0 9) (edge 1 0 5 noUpper); store = lent; answer = Found Reached 1; after = first 5 }  -- B
-    ∷ record { bytes = card 1 (limits 0 9) (limits 0 9) (edge 1 0 5 3); store = lent; answer = below 1 1 1; after = first 9 }  -- C
-    ∷ record { bytes = head 27 1 1 0 ++ (limits 0 5 ++ limits 0 9); store = lent; answer = Found (Holds AnyError) 1; after = first 5 }  -- D
-    ∷ record { bytes = head 27 1 1 0 ++ (limits 2 5 ++ limits 0 9); store = lent; answer = below 2 1 0; after = lent }  -- E
-    ∷ record { bytes = head 27 1 1 0 ++ (limits 2 5 ++ limits 0 9); store = []; answer = below 2 1 0; after = [] }  -- E, with an empty store
-    ∷ record { bytes = head 27 1 0 0 ++ (limits 2 5 ++ limits 0 9); store = lent; answer = below 2 1 0; after = lent }  -- E, start also the target
-    ∷ record { bytes = card 1 (limits 0 5) (limits 0 9) (edge 1 1 4 noUpper); store = lent; answer = Found Reached 1; after = first 5 }  -- F
-    ∷ record { bytes = card 1 (limits 0 5) (limits 3 9) (edge 1 1 0 noUpper); store = lent; answer = below 3 1 1; after = first 5 }  -- G
-    ∷ record { bytes = card 1 (limits 0 5) (limits 0 9) (edge 0 1 0 noUpper); store = lent; answer = Found (Holds AnyError) 1; after = first 5 }  -- H
-    ∷ record { bytes = firstBytes; store = replicate 10 (pos 7); answer = Refused 10; after = replicate 10 (pos 7) }  -- I
-    ∷ record { bytes = firstBytes; store = replicate 11 (pos 7); answer = below 1 1 1; after = kept 5 }  -- I
-    ∷ record { bytes = card 1 (limits 0 5) (limits 0 9) (edge 1 2 7 noUpper); store = lent; answer = Refused 7; after = lent }  -- J
-    ∷ record { bytes = card 9 (limits 0 5) (limits 0 9) (edge 1 0 7 noUpper); store = lent; answer = Refused 4; after = lent }  -- J, n of 9
+    -- A: the guard has the threshold 7/1, and (x, x) = (−2, 2) makes it empty, 2/2
+    record { bytes = firstBytes; store = lent; findings = found (below 1 1) 1 (over 1 1); after = first 5 }
+    -- B: the guard's threshold is 5/1, and nothing is empty
+    ∷ record { bytes = card 1 (limits 0 5) (limits 0 9) (edge 1 0 5 noUpper); store = lent; findings = found Reached 1 (over 5 1); after = first 5 }
+    -- C: (x, x) = (3, 1) + (−5, 1)
+    ∷ record { bytes = card 1 (limits 0 9) (limits 0 9) (edge 1 0 5 3); store = lent; findings = found (below 1 1) 1 (over 1 1); after = first 9 }
+    -- D
+    ∷ record { bytes = head 27 1 1 0 ++ (limits 0 5 ++ limits 0 9); store = lent; findings = found any 1 (over 1 0); after = first 5 }
+    -- E: (x, x) = (0, 0) + (−2, 1); with an empty store; where the start is the target, too
+    ∷ record { bytes = head 27 1 1 0 ++ (limits 2 5 ++ limits 0 9); store = lent; findings = found (below 2 1) 0 (over 2 1); after = lent }
+    ∷ record { bytes = head 27 1 1 0 ++ (limits 2 5 ++ limits 0 9); store = []; findings = found (below 2 1) 0 (over 2 1); after = [] }
+    ∷ record { bytes = head 27 1 0 0 ++ (limits 2 5 ++ limits 0 9); store = lent; findings = found (below 2 1) 0 (over 2 1); after = lent }
+    -- F: the guard's threshold is 4/1
+    ∷ record { bytes = card 1 (limits 0 5) (limits 0 9) (edge 1 1 4 noUpper); store = lent; findings = found Reached 1 (over 4 1); after = first 5 }
+    -- G: (x, x) = (0, 0) + (−3, 1) at arrival
+    ∷ record { bytes = card 1 (limits 0 5) (limits 3 9) (edge 1 1 0 noUpper); store = lent; findings = found (below 3 1) 1 (over 3 1); after = first 5 }
+    -- H
+    ∷ record { bytes = card 1 (limits 0 5) (limits 0 9) (edge 0 1 0 noUpper); store = lent; findings = found any 1 (over 1 0); after = first 5 }
+    -- I
+    ∷ record { bytes = firstBytes; store = replicate 10 (pos 7); findings = Refused 10; after = replicate 10 (pos 7) }
+    ∷ record { bytes = firstBytes; store = replicate 11 (pos 7); findings = found (below 1 1) 1 (over 1 1); after = kept 5 }
+    -- J, and with n of 9
+    ∷ record { bytes = card 1 (limits 0 5) (limits 0 9) (edge 1 2 7 noUpper); store = lent; findings = Refused 7; after = lent }
+    ∷ record { bytes = card 9 (limits 0 5) (limits 0 9) (edge 1 0 7 noUpper); store = lent; findings = Refused 4; after = lent }
+    -- document 02: "a start with limits 0 to 20, one edge back to itself with guard lo 1 that resets, and a target with no edge into it. We print
+    -- 1/1", which is the exact fraction; "becomes holds at any error"
+    ∷ record { bytes = card 1 (limits 0 20) (limits 0 9) (edge 0 1 1 noUpper); store = lent; findings = found any 1 (over 1 1); after = first 20 }
     ∷ []

@@ -44,11 +44,13 @@ pub record SoundNode (b : List ℕ) (k : ZoneNode) : Type 0 where
 pub record SoundState (b : List ℕ) (slots : ℕ) (q : ZoneState) : Type 0 where
   pub nodes : (j : ℕ) (k : ZoneNode) → Nth (q .kept) j k → SoundNode b k
   pub most : length (q .kept) ≤ slots
-  pub fraction : Fits32 (q .frac)
+  pub exact : Fits32 (q .frac .exact)
+  pub safe : Fits32 (q .frac .safe)
 
 -- what has entered a location
 pub record SoundResult (b : List ℕ) (r : Reduced) : Type 0 where
   pub fraction : Fits32 (r .work .fraction)
+  pub safe : Fits32 (r .safe)
   pub sized : r .empty ≡ false → Sized lastCounts (suc (clocks b)) (r .work)
   pub framed : r .empty ≡ false → Framed (suc (clocks b)) (r .work .zone)
 
@@ -56,7 +58,8 @@ pub record SoundResult (b : List ℕ) (r : Reduced) : Type 0 where
 pub record Shown (n : ℕ) (s₀ : List ℤ) (q : ZoneState) (s : List ℤ) (t : Turn) : Type 0 where
   pub number : t .count ≡ length (q .kept)
   pub store : s ≡ storeOf n (q .kept) s₀
-  pub fraction : t .fraction ≡ q .frac
+  pub exact : t .exact ≡ q .frac .exact
+  pub safe : t .safe ≡ q .frac .safe
   pub outcome : outcomeOf (t .outcome) ≡ q .outcome
   pub honest : Honest (t .outcome)
 
@@ -101,7 +104,7 @@ pub record Led (o : Origin) : Type 0 where
 -- what the offer of r in l gives, however it was led to
 abbrev pub Offers : List ℕ → ℕ → List ℤ → Turn → ℕ → Origin → Reduced → List ℤ → Turn → Type 0
 Offers b slots s t l o r s′ t′ =
-    (p : Led o) → Continues b slots s t (λ q. offer (systemOf b) (zonesOf b) slots q (nodeAt l (p .came) (p .path)) (resultOf r)) s′ t′
+    (p : Led o) → Continues b slots s t (λ q. offer (systemOf b) (zonesOf b) slots q (nodeAt l (p .came) (p .path)) (resultOf (t .safe) r)) s′ t′
 
 -- the zone of a node that is taken
 pub record SoundZone (b : List ℕ) (z : List Pair) : Type 0 where

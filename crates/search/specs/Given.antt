@@ -4,14 +4,16 @@ use mathlib.Core.List.{List}
 use mathlib.Core.Logic.{_⊎_}
 use mathlib.Core.Path.{_≡_}
 use Rattle.zones.specs.declared.fraction.Fraction.{Fraction}
-use Rattle.zones.specs.Fractions.{gcdOf}
+use Rattle.zones.specs.Fractions.{AtMost, gcdOf}
 use Rattle.search.specs.declared.verdict.Answer.{Answer}
 use Rattle.search.specs.declared.verdict.Answer.the-variants.{Found, Refused}
+use Rattle.search.specs.declared.verdict.Findings.{Findings}
+use Rattle.search.specs.declared.verdict.Findings.the-variants as findings
 use Rattle.search.specs.declared.verdict.Verdict.the-variants.{Reached, Holds}
 use Rattle.automata.specs.Refusals.{refusalOf}
 use Rattle.search.specs.Store.{mostSlots}
 use Rattle.search.specs.Verdicts.{fractionOf, holdingOf}
-use Rattle.search.specs.Answers.{searchAnswer}
+use Rattle.search.specs.Answers.{searchFindings, searchAnswer}
 
 -- ---- its numbers: n is at least 1, n/d is in lowest terms, and a record's "4 bytes n, 4 bytes d, 4 bytes zone count" suffice
 pub record Terms (f : Fraction) : Type 0 where
@@ -26,6 +28,16 @@ Given b (Found (Holds h) zones) = Terms (fractionOf h) × (h ≡ holdingOf (frac
 Given b (Found Reached zones) = zones ≤ mostSlots
 Given b (Refused k) = ((k ≡ refusalOf b) × (1 ≤ k) × (k ≤ 8)) ⊎ ((refusalOf b ≡ 0) × ((k ≡ 9) ⊎ (k ≡ 10)))
 
--- ---- it is the answer "at every store size that lets the search finish"
+-- ---- what stands beside a verdict: the exact fraction, given out as the verdict's is, and not above it
+unfoldable pub Beside : Findings → Type 0
+Beside (findings.Found (Holds h) x) = Terms (x .exact) × AtMost (x .exact) (fractionOf h)
+Beside (findings.Found Reached x) = Terms (x .exact)
+Beside (findings.Refused k) = Unit {0}
+
+-- ---- it is the answer "at every store size that lets the search finish", and so is all that the search finds
 unfoldable pub Lasting : List ℕ → Answer → Type 0
 Lasting b r = (r ≡ Refused 10 → ⊥) → (amount : ℕ) → (searchAnswer b amount ≡ Refused 10 → ⊥) → searchAnswer b amount ≡ r
+
+unfoldable pub LastingFindings : List ℕ → Findings → Type 0
+LastingFindings b r =
+    (r ≡ findings.Refused 10 → ⊥) → (amount : ℕ) → (searchFindings b amount ≡ findings.Refused 10 → ⊥) → searchFindings b amount ≡ r

@@ -1,4 +1,5 @@
 -- The outcome of a search, as the code has it: the definition's for each of its cases.
+use Prim.Native.Nat.{ℕ}
 use mathlib.Core.Bool.{Bool, true, false}
 use mathlib.Core.Path.{_≡_}
 use lib.IntN.{pos, negsuc}
@@ -6,6 +7,8 @@ use Rattle.reachability.specs.Search as definition
 use Rattle.slots.specs.declared.slot.Origin.{Origin}
 use Rattle.zones.specs.Integers.{up}
 use Rattle.search.specs.Store.{originOf}
+use Rattle.zones.specs.declared.fraction.Fraction.{Fraction}
+use Rattle.search.specs.declared.outcome.Turn.{Turn}
 use Rattle.search.specs.declared.outcome.Outcome.{Outcome}
 use Rattle.search.specs.declared.outcome.Outcome.the-variants.{Going, Reached, Refused}
 
@@ -23,6 +26,10 @@ abbrev pub Honest : Outcome → Type 0
 Honest Going = Unit {0}
 Honest (Reached o) = originOf (cameOf o) ≡ o
 Honest (Refused k) = Unit {0}
+
+-- the search at t is refused by k
+abbrev pub refusedBy : Turn → Fraction → ℕ → Turn
+refusedBy t exact k = record { count = t .count; exact = exact; safe = t .safe; outcome = Refused k }
 
 -- whether a search has stopped
 unfoldable pub hasEnded : definition.Outcome → Bool

@@ -1,12 +1,16 @@
--- All that the search promises of its answer beside the equations: what a caller may build on.
+-- All that the search promises of what it finds beside the equations: what a caller may build on.
 use Prim.Native.Nat.{ℕ}
 use mathlib.Core.List.{List}
-use Rattle.search.specs.declared.verdict.Answer.{Answer}
-use Rattle.search.specs.Demands.{Robust, KeptExact}
-use Rattle.search.specs.Given.{Given, Lasting}
+use Rattle.search.specs.declared.verdict.Findings.{Findings}
+use Rattle.search.specs.Answers.{answerIn}
+use Rattle.search.specs.Demands.{Robust, KeptExact, KeptContains, Ordered}
+use Rattle.search.specs.Given.{Given, Beside, LastingFindings}
 
-pub record Promised (b : List ℕ) (amount : ℕ) (r : Answer) : Type 0 where
-  pub robust : Robust b r
+pub record Promised (b : List ℕ) (amount : ℕ) (r : Findings) : Type 0 where
+  pub robust : Robust b (answerIn r)
   pub exact : KeptExact b amount
-  pub given : Given b r
-  pub lasting : Lasting b r
+  pub contains : KeptContains b amount
+  pub ordered : Ordered b amount
+  pub given : Given b (answerIn r)
+  pub beside : Beside r
+  pub lasting : LastingFindings b r

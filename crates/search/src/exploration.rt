@@ -8,15 +8,16 @@ use automata::fields::start;
 use automata::fields::target;
 use automata::opened::counts_of;
 use automata::opened::edge_of;
+use slots::containment::inside_below;
 use slots::containment::is_within;
 use slots::containment::largest_count;
-use slots::containment::lowered_within;
 use slots::slot::Origin;
 use slots::slot::decode;
 use slots::slot::encode;
 use slots::slot::keep;
 use slots::slot::slot_length;
 use zones::fraction::Fraction;
+use zones::fraction::after_lowering;
 use zones::pair::Pair;
 use zones::reduction::Reduced;
 use zones::zone::Work;
@@ -31,7 +32,7 @@ ghost use Rattle.automata.specs.Accepted.{Accepted};
 ghost use Rattle.automata.specs.Automata.{clocks, edges, locations, target, to};
 ghost use Rattle.search.specs.Exploring.{FirstHit, Shown, SoundResult, SoundZone, Offers, Led, nodeAt, arrivalOf, successorOf};
 ghost use Rattle.search.specs.Exploring.{Continues, Going};
-ghost use Rattle.search.specs.Instance.{zonesOf};
+ghost use Rattle.search.specs.Instance.{fractionsOf, zonesOf};
 ghost use Rattle.automata.specs.Opened.{edgeOf};
 ghost use Rattle.reachability.specs.Search.{Came, judge, expand, take-from};
 ghost use Rattle.automata.specs.Semantics.{systemOf};
@@ -80,44 +81,39 @@ fn judge(
     requires { ⌜ Sized lastCounts (suc (clocks (now automaton))) w × Framed (suc (clocks (now automaton))) (w .zone) ⌝ }
     ensures { λ r. ⌜ ((p : Led origin) → Continues (now (automaton .entry)) capacity (now (store .entry)) turn
         (λ q. judge (systemOf (now (automaton .entry))) (zonesOf (now (automaton .entry))) capacity q
-        (nodeAt l (p .came) (p .path) (w .zone)) (w .fraction)) (now (store .exit)) r) ⌝ }
+        (nodeAt l (p .came) (p .path) (w .zone)) (fractionsOf (w .fraction) (turn .safe))) (now (store .exit)) r) ⌝ }
 {
     let size = counts_of(automaton).clocks + 1;
     let count = turn.count;
     let z = w.zone;
-    let fraction = w.fraction;
+    let exact = w.fraction;
+    let safe = turn.safe;
     let numbers = encode(l, origin, z, size);
     let stride = slot_length(size);
     let j = find(store, &numbers, count, size);
     if j < count {
         let at = j * stride;
-        let lowered = lowered_within(&numbers, &store[at..], size * size, fraction);
+        let below = inside_below(&numbers, &store[at..], size * size);
         return Turn {
             count,
-            fraction: lowered,
+            exact: after_lowering(exact, below),
+            safe: after_lowering(safe, below),
             outcome: Outcome::Going,
         };
     }
     if COUNTS < largest_count(&numbers, size * size) {
-        return Turn {
-            count,
-            fraction,
-            outcome: Outcome::Refused(9),
-        };
+        return turn.refused(exact, 9);
     }
     if count < capacity {
         keep(store, count * stride, &numbers, stride);
         return Turn {
             count: count + 1,
-            fraction,
+            exact,
+            safe,
             outcome: Outcome::Going,
         };
     }
-    Turn {
-        count,
-        fraction,
-        outcome: Outcome::Refused(10),
-    }
+    turn.refused(exact, 10)
 }
 
 // What has entered l is judged.
@@ -136,18 +132,21 @@ fn offer(
 {
     let count = turn.count;
     let work = r.work;
-    let fraction = work.fraction;
+    let exact = work.fraction;
+    let safe = turn.safe;
     if r.empty {
         return Turn {
             count,
-            fraction,
+            exact,
+            safe: after_lowering(safe, r.safe),
             outcome: Outcome::Going,
         };
     }
     if l == target(automaton) {
         return Turn {
             count,
-            fraction,
+            exact,
+            safe,
             outcome: Outcome::Reached(origin),
         };
     }
@@ -198,10 +197,11 @@ fn follow(
     if met.empty {
         let count = turn.count;
         let work = met.work;
-        let fraction = work.fraction;
+        let exact = work.fraction;
         return Turn {
             count,
-            fraction,
+            exact,
+            safe: after_lowering(turn.safe, met.safe),
             outcome: Outcome::Going,
         };
     }
@@ -235,7 +235,7 @@ fn expand(
         (edges (now (automaton .entry))) 0) (now (store .exit)) r) ⌝ }
 {
     let mut t = turn;
-    let first = t.fraction;
+    let first = t.exact;
     let mut w = Work {
         zone: z,
         fraction: first,
@@ -245,8 +245,8 @@ fn expand(
     while i < last {
         let edge = edge_of(automaton, i);
         if edge.from == l {
-            let fraction = t.fraction;
-            w.fraction = fraction;
+            let exact = t.exact;
+            w.fraction = exact;
             let origin = Origin::along(parent, i);
             t = follow(automaton, store, t, capacity, origin, i, edge, w);
             if t.has_ended() {
@@ -300,7 +300,8 @@ pub fn explore(automaton: &[u8], store: &mut [i32]) -> Turn
     let l = start(automaton);
     let first = Turn {
         count: 0,
-        fraction: Fraction { n: 1, d: 0 },
+        exact: Fraction { n: 1, d: 0 },
+        safe: Fraction { n: 1, d: 0 },
         outcome: Outcome::Going,
     };
     let t = arrive(

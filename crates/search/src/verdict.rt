@@ -2,6 +2,7 @@
 use zones::fraction::Fraction;
 use zones::fraction::gcd;
 ghost use mathlib.Core.Path.{_≡_};
+ghost use Rattle.search.specs.Answers.{answerIn};
 ghost use Rattle.search.specs.Verdicts.{holdingOf, numbersOf, verdictOf, soundNumbers};
 
 // Up to which error an automaton holds.
@@ -16,10 +17,34 @@ pub enum Verdict {
     Holds(Holding),
 }
 
-// What a search answers: a verdict with the number of zones kept, or the number of a refusal.
+// A verdict with the number of zones kept, or the number of a refusal: what is printed, and what a cache gives back.
 pub enum Answer {
     Found(Verdict, u32),
     Refused(u32),
+}
+
+// What stands beside a verdict of the bare search: the number of zones kept, and the exact fraction.
+pub struct Figures {
+    pub zones: u32,
+    pub exact: Fraction,
+}
+
+// What the bare search finds: a verdict, which has the safe fraction, with its figures, or the number of a refusal.
+pub enum Findings {
+    Found(Verdict, Figures),
+    Refused(u32),
+}
+
+impl Findings {
+    // The answer alone.
+    pub fn answer(self) -> Answer
+        ensures { λ r. ⌜ r ≡ answerIn self ⌝ }
+    {
+        match self {
+            Findings::Found(v, x) => Answer::Found(v, x.zones),
+            Findings::Refused(k) => Answer::Refused(k),
+        }
+    }
 }
 
 // A verdict as numbers: its kind, and the n and d of its fraction.

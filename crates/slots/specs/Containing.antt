@@ -8,9 +8,9 @@ use lib.IntN.{ℤ, pos}
 use lib.Signed.{_≤ℤ_, ltZ}
 use Rattle.zones.specs.declared.fraction.Fraction.{Fraction}
 use Rattle.zones.specs.Containment.{larger}
-use Rattle.zones.specs.Fractions.{loweredBy}
+use Rattle.zones.specs.Fractions.{noLimit, loweredBy}
 use Rattle.zones.specs.Pairs.{thresholdOf}
-use Rattle.zones.specs.Ranges.{Bounded, Fits32, lastCounts}
+use Rattle.zones.specs.Ranges.{Bounded, lastCounts}
 use Rattle.runs.specs.Limits.{scale}
 use Rattle.slots.specs.Slots.{mAt, pAt, slotPair}
 
@@ -25,10 +25,10 @@ unfoldable pub withinSlots : List ℤ → List ℤ → ℕ → Bool
 withinSlots new old zero = true
 withinSlots new old (suc t) = cond (lessAt new old t) false (withinSlots new old t)
 
--- the fraction after a test that holds: the pairs of `new` were chosen
-unfoldable pub loweredSlots : List ℤ → List ℤ → ℕ → Fraction → Fraction
-loweredSlots new old zero f = f
-loweredSlots new old (suc t) f = loweredBy (loweredSlots new old t f) (thresholdOf (slotPair new t) (slotPair old t))
+-- the lowest threshold of a test that holds: the pairs of `new` were chosen
+unfoldable pub insideSlots : List ℤ → List ℤ → ℕ → Fraction
+insideSlots new old zero = noLimit
+insideSlots new old (suc t) = loweredBy (insideSlots new old t) (thresholdOf (slotPair new t) (slotPair old t))
 
 unfoldable pub largestSlot : List ℤ → ℕ → ℕ
 largestSlot s zero = 0
@@ -40,10 +40,9 @@ pub record Readable (s : List ℤ) (pairs : ℕ) : Type 0 where
   pub counts : (t : ℕ) → t < pairs → pos 0 ≤ℤ getD s (pAt t) (pos 0)
 
 -- two slots in range with a test that holds
-pub record ComparableSlots (new old : List ℤ) (pairs : ℕ) (f : Fraction) : Type 0 where
+pub record ComparableSlots (new old : List ℤ) (pairs : ℕ) : Type 0 where
   pub new-reads : Readable new pairs
   pub old-reads : Readable old pairs
   pub new-bounded : (t : ℕ) → t < pairs → Bounded scale lastCounts (slotPair new t)
   pub old-bounded : (t : ℕ) → t < pairs → Bounded scale lastCounts (slotPair old t)
   pub inside : withinSlots new old pairs ≡ true
-  pub fraction : Fits32 f

@@ -7,7 +7,7 @@ ghost use mathlib.Core.Path.{_≡_};
 ghost use Prim.Native.Nat.{_≤_};
 ghost use lib.ListN.{length};
 ghost use Rattle.slots.specs.Slots.{mAt};
-ghost use Rattle.slots.specs.Containing.{withinSlots, loweredSlots, largestSlot, Readable, ComparableSlots};
+ghost use Rattle.slots.specs.Containing.{withinSlots, insideSlots, largestSlot, Readable, ComparableSlots};
 
 // Whether each of the new slot's pairs is the smaller or equal beside the old one's. The search
 // spends its time here: it stops at the first pair that is not.
@@ -32,12 +32,12 @@ pub fn is_within(new: &[i32], old: &[i32], pairs: usize) -> bool
     true
 }
 
-// The running fraction after a test that holds: the new slot's pairs were chosen.
-pub fn lowered_within(new: &[i32], old: &[i32], pairs: usize, f0: Fraction) -> Fraction
-    requires { ⌜ ComparableSlots (now new) (now old) pairs f0 ⌝ }
-    ensures { λ r. ⌜ r ≡ loweredSlots (now (new .entry)) (now (old .entry)) pairs f0 ⌝ }
+// The lowest threshold of a test that holds: the new slot's pairs were chosen.
+pub fn inside_below(new: &[i32], old: &[i32], pairs: usize) -> Fraction
+    requires { ⌜ ComparableSlots (now new) (now old) pairs ⌝ }
+    ensures { λ r. ⌜ r ≡ insideSlots (now (new .entry)) (now (old .entry)) pairs ⌝ }
 {
-    let mut f = f0;
+    let mut f = Fraction { n: 1, d: 0 };
     let mut t = 0;
     while t < pairs {
         f = f.after_choice(get_pair(new, t), get_pair(old, t));

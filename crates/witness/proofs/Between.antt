@@ -9,6 +9,7 @@ use Rattle.zones.specs.declared.pair.Pair.{Pair}
 use Rattle.zones.specs.declared.reduction.Reduced.{Reduced}
 use Rattle.zones.specs.declared.zone.Work.{Work}
 use Rattle.zones.specs.Moves.{Closed, Shaped, Includes, Exact}
+use Rattle.zones.specs.Reductions.{nonEmpty}
 use Rattle.zones.specs.Sets.{Square, In, squareOf, Has, Put, Follows}
 use Rattle.zones.specs.Values.{valueOf, Below}
 use Rattle.zones.specs.Zones.{entry, resetOf}
@@ -51,7 +52,7 @@ module _ (c : ℕ) (n≤ : suc c ≤ 9) (w : Work) (shaped : Shaped c w) (closed
   below-g = proper-below (g .work .fraction) (in-g .proper proper)
 
   live-g : g .empty ≡ false
-  live-g = in-g .live below-g old old has (refl, f .guard)
+  live-g = in-g .live (in-g .tighter below-g) old old has (refl, f .guard)
 
   out-g : Exact 1 0 c (λ x y. (y ≡ x) × Within 1 0 c G x) w g
   out-g = meet-exact 1 0 (omega arith) c n≤ w shaped G (closed .low)
@@ -63,7 +64,7 @@ module _ (c : ℕ) (n≤ : suc c ≤ 9) (w : Work) (shaped : Shaped c w) (closed
   by : ResetBy (suc c) R (g .work) r
   by = reset-by (suc c) n≤ R (g .work) (in-g .shaped live-g .size)
 
-  in-r : Includes 1 0 c (Put (suc c) R) (g .work) (record { work = r; empty = false })
+  in-r : Includes 1 0 c (Put (suc c) R) (g .work) (nonEmpty r)
   in-r = reset-includes 1 0 (omega arith) c n≤ (g .work) (in-g .shaped live-g) R R0 r by
 
   proper-r : 0 < r .fraction .n
@@ -88,7 +89,7 @@ module _ (c : ℕ) (n≤ : suc c ≤ 9) (w : Work) (shaped : Shaped c w) (closed
   below-a = proper-below (a .work .fraction) (in-a .proper proper-r)
 
   live-a : a .empty ≡ false
-  live-a = in-a .live below-a (f .after) (f .after) after-r (refl, f .enters .arrived)
+  live-a = in-a .live (in-a .tighter below-a) (f .after) (f .after) after-r (refl, f .enters .arrived)
 
   out-a : Exact 1 0 c (λ x y. (y ≡ x) × Within 1 0 c I x) r a
   out-a = meet-exact 1 0 (omega arith) c n≤ r (in-r .shaped refl) I (closed-r .low)

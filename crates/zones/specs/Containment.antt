@@ -8,7 +8,7 @@ use lib.Dec.{ltb}
 use lib.ListN.{getD}
 use Rattle.zones.specs.declared.fraction.Fraction.{Fraction}
 use Rattle.zones.specs.declared.pair.Pair.{Pair}
-use Rattle.zones.specs.Fractions.{loweredBy}
+use Rattle.zones.specs.Fractions.{noLimit, loweredBy}
 use Rattle.zones.specs.Pairs.{zeroPair, isLess, thresholdOf}
 
 abbrev pub placeOf : List Pair → ℕ → Pair
@@ -22,13 +22,14 @@ withinTo n (suc k) z y = cond (ltb (k % 9) n) (cond (isLess (placeOf y k) (place
 abbrev pub within : ℕ → List Pair → List Pair → Bool
 within n z y = withinTo n (n * 9) z y
 
--- the fraction after a test that holds: z's pairs were chosen. "A containment test that fails lowers nothing", and is not asked for this
-unfoldable pub loweredTo : ℕ → ℕ → List Pair → List Pair → Fraction → Fraction
-loweredTo n zero z y f = f
-loweredTo n (suc k) z y f = cond (ltb (k % 9) n) (loweredBy (loweredTo n k z y f) (thresholdOf (placeOf z k) (placeOf y k))) (loweredTo n k z y f)
+-- the lowest threshold of a test that holds, z's pairs being chosen: both fractions are lowered by it, and at every error below it z is inside y.
+-- "A containment test that fails lowers nothing", and is not asked for this
+unfoldable pub insideTo : ℕ → ℕ → List Pair → List Pair → Fraction
+insideTo n zero z y = noLimit
+insideTo n (suc k) z y = cond (ltb (k % 9) n) (loweredBy (insideTo n k z y) (thresholdOf (placeOf z k) (placeOf y k))) (insideTo n k z y)
 
-abbrev pub loweredWithin : ℕ → List Pair → List Pair → Fraction → Fraction
-loweredWithin n z y f = loweredTo n (n * 9) z y f
+abbrev pub insideBelow : ℕ → List Pair → List Pair → Fraction
+insideBelow n z y = insideTo n (n * 9) z y
 
 -- ---- the largest error count
 unfoldable pub larger : ℕ → ℕ → ℕ

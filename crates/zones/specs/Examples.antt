@@ -13,7 +13,7 @@ use Rattle.zones.specs.declared.fraction.Fraction.{Fraction}
 use Rattle.zones.specs.declared.pair.Pair.{Pair}
 use Rattle.zones.specs.declared.reduction.Reduced.{Reduced}
 use Rattle.zones.specs.declared.zone.Work.{Work}
-use Rattle.zones.specs.Containment.{within, loweredWithin, largestCount}
+use Rattle.zones.specs.Containment.{within, insideBelow, largestCount}
 use Rattle.zones.specs.Fractions.{noLimit, loweredBy, lowestTerms}
 use Rattle.zones.specs.Pairs.{zeroPair}
 use Rattle.zones.specs.Reductions.{reduceOf}
@@ -68,10 +68,11 @@ abbrev work : ℕ → List Pair → Fraction → Work
 work n z f = record { zone = square n z; fraction = f }
 
 abbrev live : ℕ → List Pair → Fraction → Result
-live n z f = reduced (record { work = work n z f; empty = false })
+live n z f = reduced (record { work = work n z f; empty = false; safe = noLimit })
 
-abbrev empty : ℕ → List Pair → Fraction → Result
-empty n z f = reduced (record { work = work n z f; empty = true })
+-- with what the safe fraction is lowered by
+abbrev empty : ℕ → List Pair → Fraction → Fraction → Result
+empty n z f safe = reduced (record { work = work n z f; empty = true; safe = safe })
 
 -- limits: the lower ones by clock, and the upper ones
 abbrev noUpper : ℕ
@@ -143,12 +144,13 @@ shortest =
 
 abbrev pub reducing : List Example
 reducing =
-    -- card A. k 0: (1, 1): (5, 1) + (−7, 1) = (−2, 2) vs (0, 0), chosen, thr 2/2, 2 * 1 < 7 * 2. m below 0: empty, and the fraction is lowered
-    reduces 2 (o ∷ less 7 1 ∷ plus 5 1 ∷ o ∷ []) (over 7 1) gives empty 2 (o ∷ less 7 1 ∷ plus 5 1 ∷ less 2 2 ∷ []) (over 2 2)
+    -- card A. k 0: (1, 1): (5, 1) + (−7, 1) = (−2, 2) vs (0, 0), chosen, thr 2/2, 2 * 1 < 7 * 2. m below 0: empty, and the fraction is lowered.
+    -- (1, 1) against (0, 0): 2/2, which the safe one is lowered by
+    reduces 2 (o ∷ less 7 1 ∷ plus 5 1 ∷ o ∷ []) (over 7 1) gives empty 2 (o ∷ less 7 1 ∷ plus 5 1 ∷ less 2 2 ∷ []) (over 2 2) (over 2 2)
     -- the same with 1/1 there, which stays: 2 * 1 is not below 1 * 2
-    ∷ reduces 2 (o ∷ less 7 1 ∷ plus 5 1 ∷ o ∷ []) (over 1 1) gives empty 2 (o ∷ less 7 1 ∷ plus 5 1 ∷ less 2 2 ∷ []) (over 1 1)
+    ∷ reduces 2 (o ∷ less 7 1 ∷ plus 5 1 ∷ o ∷ []) (over 1 1) gives empty 2 (o ∷ less 7 1 ∷ plus 5 1 ∷ less 2 2 ∷ []) (over 1 1) (over 2 2)
     -- card C, lo above hi. k 0: (1, 1): (3, 1) + (−5, 1) = (−2, 2) vs (0, 0), chosen, thr 2/2, 2 * 1 < 5 * 2. Empty
-    ∷ reduces 2 (o ∷ less 5 1 ∷ plus 3 1 ∷ o ∷ []) (over 5 1) gives empty 2 (o ∷ less 5 1 ∷ plus 3 1 ∷ less 2 2 ∷ []) (over 2 2)
+    ∷ reduces 2 (o ∷ less 5 1 ∷ plus 3 1 ∷ o ∷ []) (over 5 1) gives empty 2 (o ∷ less 5 1 ∷ plus 3 1 ∷ less 2 2 ∷ []) (over 2 2) (over 2 2)
     -- lo and hi equal, and the largest. k 0: (1, 1): (1000000, 1) + (−1000000, 1) = (0, 2) vs (0, 0), equal m, stays; k 1: (0, 0) the same.
     -- m is not below 0: not empty
     ∷ reduces 2 (o ∷ less 1000000 1 ∷ plus 1000000 1 ∷ o ∷ []) (over 1000000 1)
@@ -176,12 +178,19 @@ reducing =
     -- k 1: (0, 2): (−4, 1) vs (0, 0), chosen, thr 4/1.  (2, 0): (11, 1) vs (3, 4), stays, thr 8/3, 8 * 1 < 4 * 3.
     --      (2, 2): (−2, 2) vs (0, 0), chosen, thr 2/2, 2 * 3 < 8 * 2. m below 0: empty
     ∷ reduces 3 (o ∷ o ∷ o ∷ plus 9 0 ∷ o ∷ less 4 1 ∷ plus 3 4 ∷ plus 2 1 ∷ o ∷ []) noLimit
-    gives empty 3 (o ∷ o ∷ less 4 1 ∷ plus 9 0 ∷ o ∷ less 4 1 ∷ plus 3 4 ∷ plus 2 1 ∷ less 2 2 ∷ []) (over 2 2)
-    -- but its own round is done: (1, 1) falls below 0 before row 2, whose comparison lowers the fraction.
+    gives empty 3 (o ∷ o ∷ less 4 1 ∷ plus 9 0 ∷ o ∷ less 4 1 ∷ plus 3 4 ∷ plus 2 1 ∷ less 2 2 ∷ []) (over 2 2) (over 2 2)
+    -- but its own round is done: (1, 1) falls below 0 before row 2, whose comparison lowers the fraction. The safe one has (1, 1) alone.
     -- k 0: (1, 1): (−2, 2) vs (0, 0), chosen, thr 2/2.  (1, 2): (2, 1) vs (9, 0), chosen, thr 7/1.
     --      (2, 1): (3, 3) vs (4, 0), chosen, thr 1/3, 1 * 2 < 2 * 3
     ∷ reduces 3 (o ∷ less 4 1 ∷ o ∷ plus 2 1 ∷ o ∷ plus 9 0 ∷ plus 7 2 ∷ plus 4 0 ∷ o ∷ []) noLimit
-    gives empty 3 (o ∷ less 4 1 ∷ o ∷ plus 2 1 ∷ less 2 2 ∷ plus 2 1 ∷ plus 7 2 ∷ plus 3 3 ∷ o ∷ []) (over 1 3)
+    gives empty 3 (o ∷ less 4 1 ∷ o ∷ plus 2 1 ∷ less 2 2 ∷ plus 2 1 ∷ plus 7 2 ∷ plus 3 3 ∷ o ∷ []) (over 1 3) (over 2 2)
+    -- two diagonal pairs of one round are below 0, and the lower of their thresholds counts: 1/3 of (2, 2), beside 2/2 of (1, 1).
+    -- k 0: (1, 1): (−2, 2) vs (0, 0), chosen, thr 2/2.  (1, 2): (−2, 2) vs (9, 0), chosen, thr 11/2.  (2, 1): (−1, 3) vs (4, 0), chosen, thr 5/3.
+    --      (2, 2): (3, 2) + (−4, 1) = (−1, 3) vs (0, 0), chosen, thr 1/3, 1 * 2 < 2 * 3
+    ∷ reduces 3 (o ∷ less 4 1 ∷ less 4 1 ∷ plus 2 1 ∷ o ∷ plus 9 0 ∷ plus 3 2 ∷ plus 4 0 ∷ o ∷ []) noLimit
+    gives empty 3 (o ∷ less 4 1 ∷ less 4 1 ∷ plus 2 1 ∷ less 2 2 ∷ less 2 2 ∷ plus 3 2 ∷ less 1 3 ∷ less 1 3 ∷ []) (over 1 3) (over 1 3)
+    -- a diagonal pair without an error count is below 0 at every error: (1, 1): (2, 0) + (−4, 0) = (−2, 0) vs (0, 0), chosen, no thr
+    ∷ reduces 2 (o ∷ less 4 0 ∷ plus 2 0 ∷ o ∷ []) noLimit gives empty 2 (o ∷ less 4 0 ∷ plus 2 0 ∷ less 2 0 ∷ []) noLimit noLimit
     -- only with the middle index outermost does one pass reduce this: (1, 0) is (1, 3) + (3, 2) + (2, 0). With it innermost (1, 0) is done before
     -- (3, 0), and stays (50, 0).
     -- k 0: (1, 3), (3, 2): (50, 0) vs (1, 1), stay, thr 49/1.  (2, 1), (2, 3): (1, 1) vs (50, 0), chosen, thr 49/1.
@@ -242,7 +251,7 @@ moving =
     -- card A, as document 01 stores it: 0 0 0 0 5 1 0 0. Limits lower nothing; raised, (1, 0) is (5, 1), and no way is shorter
     ∷ reduced (startOf 1 (only 0 5)) gives live 2 (o ∷ o ∷ plus 5 1 ∷ o ∷ []) noLimit
     -- card E: a start with lo 2 is empty. (0, 1): (−2, 1) vs (0, 0), chosen, thr 2/1. k 0: (1, 1): (−2, 1) vs (0, 0), chosen, thr 2/1, not lower
-    ∷ reduced (startOf 1 (only 2 5)) gives empty 2 (o ∷ less 2 1 ∷ o ∷ less 2 1 ∷ []) (over 2 1)
+    ∷ reduced (startOf 1 (only 2 5)) gives empty 2 (o ∷ less 2 1 ∷ o ∷ less 2 1 ∷ []) (over 2 1) (over 2 1)
     -- two clocks that start together
     ∷ reduced (startOf 2 (limits (0 ∷ 0 ∷ []) (4 ∷ 4 ∷ []))) gives live 3 begun noLimit
     -- x = 0, y from 2 to 4 enters x up to 3, y up to 9. Limits and the first reduction change nothing. Raised, (1, 0) is (3, 1) and (2, 0) is (9, 1).
@@ -252,11 +261,11 @@ moving =
     ∷ reduced (followOf 2 (limits (2 ∷ 0 ∷ []) (noUpper ∷ noUpper ∷ [])) first (limits (0 ∷ 0 ∷ []) (3 ∷ 9 ∷ [])) (work 3 begun noLimit))
     gives live 3 entered (over 2 1)
     -- card A: guard lo 7 leaves nothing, as above
-    ∷ follows (only 7 noUpper) (setOf []) (only 0 9) gives empty 2 (o ∷ less 7 1 ∷ plus 5 1 ∷ less 2 2 ∷ []) (over 2 2)
+    ∷ follows (only 7 noUpper) (setOf []) (only 0 9) gives empty 2 (o ∷ less 7 1 ∷ plus 5 1 ∷ less 2 2 ∷ []) (over 2 2) (over 2 2)
     -- card F: guard lo 4, thr 4/1, then the reset: x is 0, and waits up to 9. With the guard after the reset it would be empty
     ∷ follows (only 4 noUpper) first (only 0 9) gives live 2 (o ∷ o ∷ plus 9 1 ∷ o ∷ []) (over 4 1)
     -- card G: reset into 3 to 9. (0, 1): (−3, 1) vs (0, 0), chosen, thr 3/1. k 0: (1, 1): (−3, 1) vs (0, 0), chosen, thr 3/1: empty at arrival
-    ∷ follows (only 0 noUpper) first (only 3 9) gives empty 2 (o ∷ less 3 1 ∷ o ∷ less 3 1 ∷ []) (over 3 1)
+    ∷ follows (only 0 noUpper) first (only 3 9) gives empty 2 (o ∷ less 3 1 ∷ o ∷ less 3 1 ∷ []) (over 3 1) (over 3 1)
     ∷ []
 
 -- ---- fractions
@@ -289,9 +298,9 @@ abbrev pub containing : List Example
 containing =
     -- (−2, 3) beside (−1, 1), thr 1/2; (5, 2) beside (7, 1), thr 2/1, not lower
     test (within 2 inner (outer 7 1)) gives test true
-    ∷ fraction (loweredWithin 2 inner (outer 7 1) noLimit) gives fraction (over 1 2)
+    ∷ fraction (insideBelow 2 inner (outer 7 1)) gives fraction (over 1 2)
     -- a fraction that is lower already stays: 1 * 3 is not below 1 * 2
-    ∷ fraction (loweredWithin 2 inner (outer 7 1) (over 1 3)) gives fraction (over 1 3)
+    ∷ fraction (loweredBy (over 1 3) (insideBelow 2 inner (outer 7 1))) gives fraction (over 1 3)
     -- equal is contained, with no thr
     ∷ test (within 2 inner (outer 5 2)) gives test true
     -- at equal m the larger p is not; a larger m is not

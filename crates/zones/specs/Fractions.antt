@@ -1,6 +1,6 @@
 -- "One running fraction is lowered where it stands by every comparison made in meeting limits and in reduction. It starts at 1/0, no limit,
--- and is given out in lowest terms."
-use Prim.Native.Nat.{ℕ, zero, suc, _*_, _/_, _%_}
+-- and is given out in lowest terms." That is the exact one; document 02 has a safe one beside it, which is lowered likewise, but less often.
+use Prim.Native.Nat.{ℕ, zero, suc, _*_, _/_, _%_, _≤_}
 use mathlib.Core.Path.{_≡_}
 use mathlib.Core.Bool.{cond}
 use lib.Dec.{ltb}
@@ -12,6 +12,10 @@ noLimit = record { n = 1; d = 0 }
 -- the lower of two fractions, the first where they are equal
 unfoldable pub loweredBy : Fraction → Fraction → Fraction
 loweredBy f g = cond (ltb (g .n * f .d) (f .n * g .d)) g f
+
+-- f is not above g; 1/0 is above every other
+abbrev pub AtMost : Fraction → Fraction → Type 0
+AtMost f g = f .n * g .d ≤ g .n * f .d
 
 -- ---- "in lowest terms"
 -- Euclid's algorithm in at most the given number of steps

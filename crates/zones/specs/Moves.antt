@@ -33,15 +33,17 @@ pub record Shaped (c : ℕ) (w : Work) : Type 0 where
   pub size : length (w .zone) ≡ 81
   pub diagonal : (a : ℕ) → a < suc c → entry w a a ≡ zeroPair
 
--- Into the zone: every state that S gives from a state of w is in r, whatever the thresholds; below the running fraction r is then not declared
--- empty.
--- The running fraction only falls, and its numerator stays at least 1
+-- Into the zone: every state that S gives from a state of w is in r, whatever the thresholds. Below what lowers the safe fraction r is then not
+-- declared empty; and what is below the running fraction is below that.
+-- The running fraction only falls, and no numerator is 0
 pub record Includes (s e c : ℕ) (S : (ℕ → ℕ) → (ℕ → ℕ) → Type 0) (w : Work) (r : Reduced) : Type 0 where
   pub before : Below s e (r .work .fraction) → Below s e (w .fraction)
   pub proper : 0 < w .fraction .n → 0 < r .work .fraction .n
   pub shaped : r .empty ≡ false → Shaped c (r .work)
   pub into : r .empty ≡ false → (v v′ : ℕ → ℕ) → Has s e c w v → S v v′ → Has s e c (r .work) v′
-  pub live : Below s e (r .work .fraction) → (v v′ : ℕ → ℕ) → Has s e c w v → S v v′ → r .empty ≡ false
+  pub live : Below s e (r .safe) → (v v′ : ℕ → ℕ) → Has s e c w v → S v v′ → r .empty ≡ false
+  pub tighter : Below s e (r .work .fraction) → Below s e (r .safe)
+  pub some : 0 < r .safe .n
 
 -- Out of the zone: below the running fraction every state of r is one that S gives from a state of w, and r is reduced
 pub record Exact (s e c : ℕ) (S : (ℕ → ℕ) → (ℕ → ℕ) → Type 0) (w : Work) (r : Reduced) : Type 0 where

@@ -9,6 +9,7 @@ use lib.IntN.{pos, natAbs}
 use lib.Signed.{_≤ℤ_}
 use Rattle.zones.specs.declared.fraction.Fraction.{Fraction}
 use Rattle.zones.specs.declared.pair.Pair.{Pair}
+use Rattle.zones.specs.declared.reduction.Diagonal.{Diagonal}
 use Rattle.zones.specs.declared.zone.Bounds.{Bounds}
 use Rattle.zones.specs.declared.zone.Work.{Work}
 use Rattle.zones.specs.Integers.{up, down}
@@ -92,6 +93,11 @@ pub record RoundReady (w : Work) (n k : ℕ) : Type 0 where
   pub spread : (a b : ℕ) → a < n → b < n → Spread scale stepCounts 9 (entry w a b)
   pub fraction : Fits32 (w .fraction)
   pub diagonal : pos 0 ≤ℤ entry w k k .m
+
+-- a pair of the diagonal after a round, and what the diagonal has shown before it
+pub record DiagonalReady (s : Diagonal) (q : Pair) : Type 0 where
+  pub safe : Fits32 (s .safe)
+  pub spread : Spread scale stepCounts 18 q
 
 -- a clock's limits to be met
 pub record LimitsReady (b : Bounds) (lo hi : ℕ) (absent : Bool) : Type 0 where

@@ -5,9 +5,13 @@ use Prim.Native.Nat.{ℕ, zero, suc}
 use mathlib.Core.Bool.{Bool, true, false, cond}
 use lib.IntN.{pos}
 use lib.Signed.{ltZ}
+use Rattle.zones.specs.declared.fraction.Fraction.{Fraction}
+use Rattle.zones.specs.declared.pair.Pair.{Pair}
+use Rattle.zones.specs.declared.reduction.Diagonal.{Diagonal}
 use Rattle.zones.specs.declared.reduction.Reduced.{Reduced}
 use Rattle.zones.specs.declared.zone.Work.{Work}
-use Rattle.zones.specs.Pairs.{sumOf}
+use Rattle.zones.specs.Fractions.{noLimit, loweredBy}
+use Rattle.zones.specs.Pairs.{zeroPair, sumOf, thresholdOf}
 use Rattle.zones.specs.Zones.{entry, lowerAt}
 
 -- entry (i, j) by the middle index k
@@ -29,13 +33,33 @@ unfoldable pub emptyIn : ℕ → Work → Bool
 emptyIn zero w = false
 emptyIn (suc i) w = cond (ltZ (entry w i i .m) (pos 0)) true (emptyIn i w)
 
+-- Document 02: "at each diagonal pair of the round where this is seen with m below 0, the threshold of its final pair against (0, 0)": the lowest
+-- of these, among the first i. It is what the safe fraction is lowered by; at every error below it the zone has no valuation
+unfoldable pub emptyBelow : ℕ → Work → Fraction
+emptyBelow zero w = noLimit
+emptyBelow (suc i) w =
+    cond (ltZ (entry w i i .m) (pos 0)) (loweredBy (emptyBelow i w) (thresholdOf (entry w i i) zeroPair)) (emptyBelow i w)
+
+-- both, as the code has them: what a diagonal shows with one pair more
+unfoldable pub seenWith : Pair → Diagonal → Diagonal
+seenWith q s = cond (ltZ (q .m) (pos 0)) (record { empty = true; safe = loweredBy (s .safe) (thresholdOf q zeroPair) }) s
+
+-- a zone that is not empty
+abbrev pub nonEmpty : Work → Reduced
+nonEmpty w = record { work = w; empty = false; safe = noLimit }
+
 -- "After each middle index, if a diagonal entry has m below 0, the zone is empty and work on it stops."
 unfoldable pub afterMiddle : ℕ → ℕ → Reduced → Reduced
-afterMiddle n k r = cond (r .empty) r (record { work = roundSteps n k n (r .work); empty = emptyIn n (roundSteps n k n (r .work)) })
+afterMiddle n k r =
+    cond (r .empty) r (record {
+      work = roundSteps n k n (r .work);
+      empty = emptyIn n (roundSteps n k n (r .work));
+      safe = emptyBelow n (roundSteps n k n (r .work));
+    })
 
 -- the first k middle indices
 unfoldable pub reduceSteps : ℕ → ℕ → Work → Reduced
-reduceSteps n zero w = record { work = w; empty = false }
+reduceSteps n zero w = nonEmpty w
 reduceSteps n (suc k) w = afterMiddle n k (reduceSteps n k w)
 
 abbrev pub reduceOf : ℕ → Work → Reduced

@@ -8,7 +8,7 @@ use lib.ListN.{length}
 use lib.Signed.{_≤ℤ_}
 use Rattle.zones.specs.declared.zone.Work.{Work}
 use Rattle.zones.specs.Pairs.{zeroPair, sumOf, isLess}
-use Rattle.zones.specs.Reductions.{reduceSteps}
+use Rattle.zones.specs.Reductions.{nonEmpty, reduceSteps}
 use Rattle.zones.specs.Zones.{entry}
 use Rattle.zones.specs.Values.{valueOf, Below}
 use Rattle.zones.specs.Sets.{squareOf}
@@ -40,4 +40,4 @@ pub record Lifted (n : ℕ) (v : Work) : Type 0 where
 -- the middle indices before `first` leave the zone as it is
 pub record Begun (n first : ℕ) (w : Work) : Type 0 where
   pub most : first ≤ n
-  pub same : reduceSteps n first w ≡ record { work = w; empty = false }
+  pub same : reduceSteps n first w ≡ nonEmpty w

@@ -47,7 +47,7 @@ pub(crate) fn lower(f: &mut Fraction, o: Fraction)
 }
 
 // What f is after it was lent to be lowered.
-pub(crate) fn after_lowering(f: Fraction, o: Fraction) -> Fraction
+pub fn after_lowering(f: Fraction, o: Fraction) -> Fraction
     requires { ⌜ Fits32 f × Fits32 o ⌝ }
     ensures { λ r. ⌜ r ≡ loweredBy f o ⌝ }
 {

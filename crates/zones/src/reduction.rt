@@ -1,15 +1,40 @@
 // The reduction of a zone, and the comparisons that can be left out of it.
+use crate::fraction::Fraction;
 use crate::fraction::after_lowering;
+use crate::pair::Pair;
 use crate::zone::Work;
 ghost use mathlib.Core.Path.{_≡_};
-ghost use Rattle.zones.specs.Ranges.{Ready};
-ghost use Rattle.zones.specs.Reductions.{reduceOf};
+ghost use Rattle.zones.specs.Ranges.{Ready, DiagonalReady};
+ghost use Rattle.zones.specs.Reductions.{reduceOf, seenWith};
 ghost use Rattle.zones.specs.Settled.{Lifted, Begun};
 
-// What a reduction leaves; of an empty zone, where work on it stopped.
+// What a reduction leaves; of an empty zone, where work on it stopped. Below `safe`, which the safe fraction is lowered by, an empty
+// zone has no valuation; it is 1/0 of one that is not empty.
 pub struct Reduced {
     pub work: Work,
     pub empty: bool,
+    pub safe: Fraction,
+}
+
+// What the pairs of a diagonal show: whether one has m below 0, and the lowest of the thresholds of such pairs against (0, 0).
+pub(crate) struct Diagonal {
+    pub empty: bool,
+    pub safe: Fraction,
+}
+
+impl Diagonal {
+    // The same with one pair more.
+    fn with(self, q: Pair) -> Diagonal
+        requires { ⌜ DiagonalReady self q ⌝ }
+        ensures { λ r. ⌜ r ≡ seenWith q self ⌝ }
+    {
+        let m = q.m;
+        if m < 0 {
+            let safe = after_lowering(self.safe, q.threshold(Pair { m: 0, p: 0 }));
+            return Diagonal { empty: true, safe };
+        }
+        self
+    }
 }
 
 impl Work {
@@ -28,8 +53,12 @@ impl Work {
         ensures { λ r. ⌜ r ≡ reduceOf size self ⌝ }
     {
         let mut work = self;
+        let mut seen = Diagonal {
+            empty: false,
+            safe: Fraction { n: 1, d: 0 },
+        };
         let mut k = first;
-        while k < size {
+        while k < size && !seen.empty {
             let mut i = 0;
             while i < size {
                 if i != k {
@@ -50,18 +79,17 @@ impl Work {
                 }
                 i += 1;
             }
-            let mut d = size;
-            while 0 < d {
-                d -= 1;
-                let q = work.zone[d * 9 + d];
-                let m = q.m;
-                if m < 0 {
-                    return Reduced { work, empty: true };
-                }
+            for d in 0..size {
+                seen = seen.with(work.zone[d * 9 + d]);
             }
             k += 1;
         }
-        Reduced { work, empty: false }
+        let safe = seen.safe;
+        Reduced {
+            work,
+            empty: seen.empty,
+            safe,
+        }
     }
 
     // The same where column 0 of a settled zone was raised: no comparison changes anything else, and the zone is not empty.
@@ -89,6 +117,10 @@ impl Work {
             zone: z,
             fraction: f,
         };
-        Reduced { work, empty: false }
+        Reduced {
+            work,
+            empty: false,
+            safe: Fraction { n: 1, d: 0 },
+        }
     }
 }

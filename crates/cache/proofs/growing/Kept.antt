@@ -15,7 +15,7 @@ use Rattle.search.specs.declared.verdict.Answer.the-variants.{Found, Refused}
 use Rattle.search.specs.declared.verdict.Verdict.{Verdict}
 use Rattle.search.specs.Demands.{Robust}
 use Rattle.search.specs.Given.{Lasting}
-use Rattle.search.proofs.answers.Given.{promised}
+use Rattle.search.proofs.answers.Given.{lasting, promised}
 use Rattle.cache.specs.declared.lookup.Lookup.{Lookup}
 use Rattle.cache.specs.declared.lookup.Lookup.the-variants as lookup
 use Rattle.cache.specs.Layouts.{version1}
@@ -54,7 +54,7 @@ way-kept c b amount x h (stopped k a f) = h
 way-kept c b amount x h (filed v zones a f e) =
     let p = promised b amount in
     let old = lookUp version1 (recordsOf version1 c) x in
-    let new : Kept b (lookup.Filed v zones) = (subst (Robust b) e (p .robust), subst (Lasting b) e (p .lasting)) in
+    let new : Kept b (lookup.Filed v zones) = (subst (Robust b) e (p .robust), subst (Lasting b) e (lasting b amount)) in
     rw (filed-there laid c b amount v zones a f e x) (either x (isAbsent old) _ old (kept-under b x v zones new (sameBytes b x) refl) h)
 
 consult-kept : (c b : List ℕ) (room amount : ℕ) (x : List ℕ) → Kept x (lookUp version1 (recordsOf version1 c) x)
@@ -108,4 +108,4 @@ module _ (c b : List ℕ) (amount : ℕ) (g : Grown c) where
   way-lasting (told v zones a f) = grown-filed c b v zones g (a .there) .1
   way-lasting (turned-down k f) = tt
   way-lasting (stopped k a f) = tt
-  way-lasting (filed v zones a f e) = subst (Lasting b) e (promised b amount .lasting)
+  way-lasting (filed v zones a f e) = subst (Lasting b) e (lasting b amount)

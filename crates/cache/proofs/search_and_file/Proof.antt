@@ -1,9 +1,11 @@
 -- `search_and_file` meets its contract: 12 where there is no room, else the search and its verdict filed.
 use Prim.Native.Nat.{_+_}
-use mathlib.Core.Path.{refl, ap, _∙_}
+use mathlib.Core.Path.{refl, sym, ap, _∙_, subst}
 use lib.ListN.{length}
 use native.Mathlib.Omega.{arith}
 use borrow.Author.Needs.{needs}
+use Rattle.search.specs.Answers.{answerIn}
+use Rattle.search.specs.Given.{Given}
 use Rattle.cache.specs.Consulting.{Room, filing}
 use Rattle.cache.proofs.consulting.Asking.{full-short, full-long, roomy}
 use Rattle.cache.proofs.search_and_file.Statement.{statement}
@@ -31,22 +33,25 @@ room-at c = record { least = omega arith; lent = omega arith; bytes = omega arit
 
 file-requires : tie.Need-file-requires
 file-requires c κs =
-    let searched = c .before .before in
+    let answered = c .before in
+    let searched = answered .before .before in
     let passed = searched .before .before in
-    (start passed .pre .0, (room-at passed, searched .search .ensures .1 .1 .given))
+    (start passed .pre .0, (room-at passed, subst (Given _) (sym (answered .answer .ensures)) (searched .search .ensures .1 .1 .given)))
 
 returns-3 : tie.Need-returns-3
 returns-3 c =
     let filed = c .before .before in
-    let searched = filed .before .before .before in
+    let answered = filed .before .before in
+    let searched = answered .before .before in
     let passed = searched .before .before in
     let a = start passed .args in
     let found = searched .search .ensures in
+    let answer = answered .answer .ensures ∙ ap answerIn (found .0) in
     let room = room-at passed in
     let h = roomy (a .cache .now) (a .layout .head + length (a .automaton .now)) (room .lent) (room .bytes) in
     record {
-      answer = rw h (found .0);
-      cache = rw h (filed .file .ensures ∙ ap (filing (a .layout) (a .cache .now) (a .automaton .now)) (found .0));
+      answer = rw h answer;
+      cache = rw h (filed .file .ensures ∙ ap (filing (a .layout) (a .cache .now) (a .automaton .now)) answer);
       store = rw h (found .1 .0);
     }
 
@@ -54,5 +59,5 @@ pub search-and-file-spec : {M : Type 1} → statement M
 search-and-file-spec =
     tie.close
     (tie.spec (λ c κs. search needs) (λ c. search needs) (λ c. search needs) (λ c. search needs) (λ c. search needs) returns
-    (λ c. search needs) (λ c. search needs) returns-2 (λ c κs. search needs) file-requires (λ c. search needs) (λ c. search needs)
+    (λ c. search needs) (λ c. search needs) returns-2 (λ c κs. search needs) (λ c κs. search needs) file-requires (λ c. search needs) (λ c. search needs)
     returns-3)

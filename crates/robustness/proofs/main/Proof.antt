@@ -23,6 +23,7 @@ main-spec =
     (λ c. search needs)
     (λ c κs. search needs)
     (λ c κs. search needs)
+    (λ c κs. search needs)
     (λ c. search needs)
     slice-aggregate-write-all
     (λ c κs. search needs)

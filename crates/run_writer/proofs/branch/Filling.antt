@@ -42,11 +42,11 @@ module _ {b : List ℕ} {amount : ℕ} {s : List ℤ} (e : Ended b amount s) {o 
   abbrev ks : List ZoneNode
   ks = keptOf b amount
 
-  tights : All (Tight (systemOf b) (zonesOf b) (meaningOf b) (laws b (e .accepted) .one-sided) 1 0) (keptOf b amount)
+  tights : All (Tight (systemOf b) (zonesOf b) (meaningOf b) 1 0) (keptOf b amount)
   tights =
       let L = laws b (e .accepted) in
       let c = capacityOf (suc (clocks b)) amount in
-      all-tight (systemOf b) (zonesOf b) (meaningOf b) (L .one-sided) 1 0 1 0 (L .both) (L .exact 1 0) c
+      all-tight (systemOf b) (zonesOf b) (meaningOf b) 1 0 1 0 (L .shapes) (L .exact) (L .exact-falls 1 0) c
       (exact-there (systemOf b) (zonesOf b) (meaningOf b) 1 0 L c)
 
   -- ---- a zone that came along an edge

@@ -14,6 +14,7 @@ use Rattle.reachability.specs.Branches.{Branch, Branches, Jumps, pathOf}
 use Rattle.reachability.specs.Search.{Came, first-zone, by-edge, Nth}
 use Rattle.reachability.proofs.Branches.{path-is, branches}
 use Rattle.reachability.proofs.Lists.{nth-lt}
+use Rattle.reachability.proofs.Robust.{exact-there}
 use Rattle.runs.proofs.Contradictions.{true-false}
 use Rattle.search.specs.Answers.{stateOf}
 use Rattle.search.specs.Exploring.{SoundState}
@@ -65,7 +66,8 @@ module _ {b : List ℕ} {amount : ℕ} {s : List ℤ} (e : Ended b amount s) whe
   few = omega (arith, sound .most, capacity-small n amount)
 
   came : Branches (systemOf b) (zonesOf b) (λ f. meaningOf b .Exact f 1 0) ks
-  came = branches (systemOf b) (zonesOf b) (λ f. meaningOf b .Exact f 1 0) (laws b (e .accepted) .fine) capacity
+  came = branches (systemOf b) (zonesOf b) (λ f. meaningOf b .Exact f 1 0) (laws b (e .accepted) .exact-falls 1 0) capacity
+      (exact-there (systemOf b) (zonesOf b) (meaningOf b) 1 0 (laws b (e .accepted)) capacity)
 
   -- ---- the node at j, in its slot
   module _ (j : ℕ) (k : ZoneNode) (m : Nth (keptOf b amount) j k) where

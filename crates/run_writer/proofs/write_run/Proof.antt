@@ -1,18 +1,18 @@
--- The search's answer and store; and where it met the target, the run, if there is room for it.
+-- The search's findings and store; and where it met the target, the run, if there is room for it.
 use Prim.Native.Nat.{_≤_}
 use mathlib.Core.Path.{_≡_, sym, _∙_, subst}
 use lib.ListN.{length}
 use native.Mathlib.Omega.{arith}
 use Rattle.automata.specs.Refusals.{refusalOf}
 use Rattle.automata.proofs.accepting.Accepting.{accepted}
-use Rattle.search.proofs.answers.Answers.{refused-answer, refused-store, count-small, searched-answer, searched-store}
+use Rattle.search.proofs.answers.Answers.{refused-findings, refused-store, count-small, searched-findings, searched-store}
 use Rattle.search.specs.declared.outcome.Outcome.the-variants.{Reached}
 use Rattle.search.specs.Store.{mostSlots}
 use Rattle.run_writer.specs.Told.{Tells}
-use Rattle.run_writer.proofs.Answering.{refused-none, refused-tells, none-answer, none-buffer, going-none, going-tells}
+use Rattle.run_writer.proofs.Answering.{refused-none, refused-tells, none-findings, none-buffer, going-none, going-tells}
 use Rattle.run_writer.proofs.Answering.{ended-none, ended-tells}
 use Rattle.run_writer.proofs.branch.Stepping.{jumps-few}
-use Rattle.run_writer.proofs.Answering.{stored, stands, short-answer, short-buffer, room-answer, room-buffer, room-tells}
+use Rattle.run_writer.proofs.Answering.{stored, stands, short-findings, short-buffer, room-findings, room-buffer, room-tells}
 use borrow.Author.Needs.{needs}
 use Rattle.run_writer.proofs.write_run.Statement.{statement}
 use Rattle.run_writer.proofs.write_run.Tie as tie
@@ -22,7 +22,7 @@ returns c =
     let a = c .before .before .before .args in
     let e = c .before .refusal .ensures in
     let none = refused-none (a .automaton .now) (length (a .store .now)) e (c .if1 .taken) in (
-      refused-answer _ e (c .if1 .taken) _ ∙ none-answer _ _ none _,
+      refused-findings _ e (c .if1 .taken) _ ∙ none-findings _ _ none _,
       (refused-store _ e (c .if1 .taken) _, (none-buffer _ _ none _, refused-tells _ _ _ _)),
     )
 
@@ -43,8 +43,8 @@ module _ (c : tie.After-explore) where
   small : c .explore .result .count ≤ mostSlots
   small = count-small _ (ok passed) _ _ _ (c .explore .ensures)
 
-answer-requires : tie.Need-answer-requires
-answer-requires c κs = small (c .before .before .before)
+findings-requires : tie.Need-findings-requires
+findings-requires c κs = small (c .before .before .before)
 
 jumps-to-requires : tie.Need-jumps-to-requires
 jumps-to-requires c κs =
@@ -71,7 +71,7 @@ returns-2 c =
     let e = searched j in
     let h = e .explore .ensures in
     let o = ok (passed e) in (
-      short-answer _ o _ _ _ h (met j) (j .jumps-to .ensures) _ (c .if2 .taken),
+      short-findings _ o _ _ _ h (met j) (j .jumps-to .ensures) _ (c .if2 .taken),
       (searched-store _ o _ _ _ h, (short-buffer _ o _ _ _ h (met j) (j .jumps-to .ensures) _ (c .if2 .taken), refused-tells _ _ _ _)),
     )
 
@@ -86,11 +86,11 @@ write-back-requires c κs =
       (j .jumps-to .ensures, room .if2 .left),
     )
 
-answer-requires-2 : tie.Need-answer-requires-2
-answer-requires-2 c κs = small (c .before .before .before .before .before .before .before .before .before .before .before)
+findings-requires-2 : tie.Need-findings-requires-2
+findings-requires-2 c κs = small (c .before .before .before .before .before .before .before .before .before .before .before)
 
-answer-requires-3 : tie.Need-answer-requires-3
-answer-requires-3 c κs = small (c .before .before .before .before)
+findings-requires-3 : tie.Need-findings-requires-3
+findings-requires-3 c κs = small (c .before .before .before .before)
 
 returns-3 : tie.Need-returns-3
 returns-3 c =
@@ -98,8 +98,8 @@ returns-3 c =
     let h = e .explore .ensures in
     let g = c .before .enum-told .given .1 in
     let none = going-none _ (ok (passed e)) _ _ _ h g in
-    let found = searched-answer _ (ok (passed e)) _ _ _ h (c .answer .ensures) in (
-      found ∙ none-answer _ _ none _,
+    let found = searched-findings _ (ok (passed e)) _ _ _ h (c .findings .ensures) in (
+      found ∙ none-findings _ _ none _,
       (
         searched-store _ (ok (passed e)) _ _ _ h,
         (
@@ -117,8 +117,8 @@ returns-4 c =
     let h = e .explore .ensures in
     let o = ok (passed e) in
     let w = c .before .before .write-back .ensures in
-    let found = searched-answer _ o _ _ _ h (c .answer2 .ensures) in (
-      found ∙ room-answer _ o _ _ _ h (met j) (j .jumps-to .ensures) _ (room .if2 .left),
+    let found = searched-findings _ o _ _ _ h (c .findings2 .ensures) in (
+      found ∙ room-findings _ o _ _ _ h (met j) (j .jumps-to .ensures) _ (room .if2 .left),
       (
         searched-store _ o _ _ _ h,
         (
@@ -134,8 +134,8 @@ returns-5 c =
     let h = e .explore .ensures in
     let g = c .before .before .outcome2 .given .1 in
     let none = ended-none _ (ok (passed e)) _ _ _ h g in
-    let found = searched-answer _ (ok (passed e)) _ _ _ h (c .answer3 .ensures) in (
-      found ∙ none-answer _ _ none _,
+    let found = searched-findings _ (ok (passed e)) _ _ _ h (c .findings3 .ensures) in (
+      found ∙ none-findings _ _ none _,
       (
         searched-store _ (ok (passed e)) _ _ _ h,
         (
@@ -153,7 +153,7 @@ write-run-spec =
     returns
     explore-requires
     (λ c. search needs)
-    answer-requires
+    findings-requires
     (λ c. search needs)
     jumps-to-requires
     (λ c. omega (arith, few c))
@@ -161,9 +161,9 @@ write-run-spec =
     (λ c. search needs)
     returns-2
     write-back-requires
-    answer-requires-2
+    findings-requires-2
     (λ c. search needs)
-    answer-requires-3
+    findings-requires-3
     (λ c. search needs)
     returns-3
     (λ c. search needs)

@@ -1,4 +1,4 @@
--- The answer of the search from where the code's search stopped.
+-- What the search finds, from where the code's search stopped.
 -- Assumes nothing.
 use Prim.Native.Nat.{ℕ, suc, _≤_, _<_}
 use mathlib.Core.Path.{_≡_, refl, sym, ap, _∙_}
@@ -11,18 +11,27 @@ use native.Mathlib.Nat.{eq-zero-or-pos}
 use native.Mathlib.Omega.{arith}
 use Rattle.zones.specs.declared.fraction.Fraction.{Fraction}
 use Rattle.search.specs.declared.outcome.Turn.{Turn}
-use Rattle.search.specs.declared.verdict.Answer.{Answer}
-use Rattle.search.specs.declared.verdict.Answer.the-variants.{Refused}
+use Rattle.search.specs.declared.verdict.Findings.{Findings}
+use Rattle.search.specs.declared.verdict.Findings.the-variants.{Found, Refused}
+use Rattle.search.specs.declared.verdict.Figures.{Figures}
+use Rattle.search.specs.declared.verdict.Holding.{Holding}
+use Rattle.search.specs.declared.verdict.Verdict.the-variants.{Holds}
+use Rattle.search.specs.declared.verdict.Verdict.the-variants as verdict
+use Rattle.search.specs.declared.outcome.Outcome.{Outcome}
+use Rattle.search.specs.declared.outcome.Outcome.the-variants.{Going, Reached}
+use Rattle.search.specs.declared.outcome.Outcome.the-variants as outcome
+use Rattle.slots.specs.declared.slot.Origin.{Origin}
 use Rattle.search.specs.declared.verdict.Holding.the-variants.{AnyError, Below}
 use Rattle.automata.specs.Automata.{clocks}
 use Rattle.automata.specs.Refusals.{refusalOf}
 use Rattle.search.specs.Exploring.{Shown}
 use Rattle.search.specs.Outcomes.{outcomeOf}
-use Rattle.search.specs.Instance.{zonesOf}
+use Rattle.search.specs.Instance.{fractionsOf, zonesOf}
 use Rattle.automata.specs.Semantics.{systemOf}
 use Rattle.search.specs.Store.{mostSlots, capacityOf}
 use Rattle.search.specs.Verdicts.{holdingOf}
-use Rattle.search.specs.Answers.{answerOf, stateAnswer, stateOf, searchAnswer, searchStore}
+use Rattle.zones.specs.Fractions.{lowestTerms}
+use Rattle.search.specs.Answers.{figuresOf, findingsOf, stateFindings, stateOf, searchFindings, searchStore}
 use Rattle.reachability.proofs.Keeps.{search-room}
 use Rattle.search.proofs.exploration.Stores.{capacity-small}
 
@@ -34,24 +43,40 @@ pub holding-below : (f : Fraction) → (f .d ≡ 0 → ⊥) → Below f ≡ hold
 unfolding holdingOf
 holding-below f e = rw (holdingOf, ne-eqb (f .d) 0 e) refl
 
--- ---- the answer, by whether the bytes are refused
+-- ---- what is found, by the outcome x with which the search stopped
+module _ {x : Outcome} (exact safe : Fraction) (zones : ℕ) where
+  pub finds-holding : x ≡ Going → {h : Holding} {y : Figures} → h ≡ holdingOf (lowestTerms safe) → y ≡ figuresOf exact zones →
+      Found (Holds h) y ≡ findingsOf (outcomeOf x) (fractionsOf exact safe) zones
+  unfolding outcomeOf findingsOf
+  finds-holding e f g = rw e (λ i. Found (Holds (f i)) (g i))
+
+  pub finds-reached : {o : Origin} → x ≡ Reached o → {y : Figures} → y ≡ figuresOf exact zones →
+      Found verdict.Reached y ≡ findingsOf (outcomeOf x) (fractionsOf exact safe) zones
+  unfolding outcomeOf findingsOf
+  finds-reached e g = rw e (ap (Found verdict.Reached) g)
+
+  pub finds-refused : {k : ℕ} → x ≡ outcome.Refused k → Refused k ≡ findingsOf (outcomeOf x) (fractionsOf exact safe) zones
+  unfolding outcomeOf findingsOf
+  finds-refused e = rw e refl
+
+-- ---- what is found, by whether the bytes are refused
 module _ (b : List ℕ) where
-  pub answer-accepted : refusalOf b ≡ 0 → (amount : ℕ) → searchAnswer b amount ≡ stateAnswer (stateOf b amount)
-  unfolding searchAnswer
-  answer-accepted e amount = rw (searchAnswer, eq-eqb (refusalOf b) 0 e) refl
+  pub found-accepted : refusalOf b ≡ 0 → (amount : ℕ) → searchFindings b amount ≡ stateFindings (stateOf b amount)
+  unfolding searchFindings
+  found-accepted e amount = rw (searchFindings, eq-eqb (refusalOf b) 0 e) refl
 
-  pub answer-refused : 0 < refusalOf b → (amount : ℕ) → searchAnswer b amount ≡ Refused (refusalOf b)
-  unfolding searchAnswer
-  answer-refused p amount = rw (searchAnswer, ne-eqb (refusalOf b) 0 (λ e. absurd (omega arith))) refl
+  pub found-refused : 0 < refusalOf b → (amount : ℕ) → searchFindings b amount ≡ Refused (refusalOf b)
+  unfolding searchFindings
+  found-refused p amount = rw (searchFindings, ne-eqb (refusalOf b) 0 (λ e. absurd (omega arith))) refl
 
-  pub by-refusal : (amount : ℕ) (P : Answer → Type 0) → (refusalOf b ≡ 0 → P (stateAnswer (stateOf b amount))) →
-      (0 < refusalOf b → P (Refused (refusalOf b))) → P (searchAnswer b amount)
-  by-refusal amount P f g = ⊎-elim (λ e. rw (answer-accepted e amount) (f e)) (λ p. rw (answer-refused p amount) (g p)) (eq-zero-or-pos (refusalOf b))
+  pub by-refusal : (amount : ℕ) (P : Findings → Type 0) → (refusalOf b ≡ 0 → P (stateFindings (stateOf b amount))) →
+      (0 < refusalOf b → P (Refused (refusalOf b))) → P (searchFindings b amount)
+  by-refusal amount P f g = ⊎-elim (λ e. rw (found-accepted e amount) (f e)) (λ p. rw (found-refused p amount) (g p)) (eq-zero-or-pos (refusalOf b))
 
 -- ---- refused at reading
 module _ (b : List ℕ) {k : ℕ} (e : k ≡ refusalOf b) (h : k ≡ 0 → ⊥) where
-  pub refused-answer : (amount : ℕ) → Refused k ≡ searchAnswer b amount
-  refused-answer amount = ap Refused e ∙ sym (answer-refused b (omega arith) amount)
+  pub refused-findings : (amount : ℕ) → Refused k ≡ searchFindings b amount
+  refused-findings amount = ap Refused e ∙ sym (found-refused b (omega arith) amount)
 
   pub refused-store : (s : List ℤ) → s ≡ searchStore b s
   unfolding searchStore
@@ -64,9 +89,11 @@ module _ (b : List ℕ) (ok : refusalOf b ≡ 0) (s s′ : List ℤ) (t : Turn) 
       let c = capacityOf (suc (clocks b)) (length s) in
       omega (arith, h .number, search-room (systemOf b) (zonesOf b) c, capacity-small (suc (clocks b)) (length s))
 
-  pub searched-answer : {r : Answer} → r ≡ answerOf (outcomeOf (t .outcome)) (t .fraction) (t .count) → r ≡ searchAnswer b (length s)
-  unfolding stateAnswer
-  searched-answer e = e ∙ (λ i. answerOf (h .outcome i) (h .fraction i) (h .number i)) ∙ sym (answer-accepted b ok (length s))
+  pub searched-findings : {r : Findings} → r ≡ findingsOf (outcomeOf (t .outcome)) (fractionsOf (t .exact) (t .safe)) (t .count) →
+      r ≡ searchFindings b (length s)
+  unfolding stateFindings
+  searched-findings e =
+      e ∙ (λ i. findingsOf (h .outcome i) (fractionsOf (h .exact i) (h .safe i)) (h .number i)) ∙ sym (found-accepted b ok (length s))
 
   pub searched-store : s′ ≡ searchStore b s
   unfolding searchStore

@@ -12,6 +12,8 @@ use Rattle.zones.specs.declared.zone.Work.{Work}
 use Rattle.zones.specs.Ranges.{Fits32, Sized, counts}
 use Rattle.zones.specs.Settled.{Settled}
 use Rattle.zones.specs.Successors.{meetOf}
+use Rattle.zones.specs.declared.fraction.Fraction.{Fraction}
+use Rattle.zones.specs.Fractions.{loweredBy}
 use Rattle.zones.specs.Zones.{setOf}
 use Rattle.automata.specs.declared.fields.Edge.{Edge}
 use Rattle.search.specs.declared.outcome.Outcome.the-variants.{Going}
@@ -23,7 +25,7 @@ use Rattle.automata.specs.Opened.{edgeOf}
 use Rattle.slots.specs.declared.slot.Origin.{Origin}
 use Rattle.search.proofs.exploration.Judging.{gives-empty}
 use Rattle.search.proofs.exploration.Sounding.{node-sized, follow-sound}
-use Rattle.search.proofs.successor.Stepping.{followed-none, followed, guard-scale, met-sized, met-settled, resets-are}
+use Rattle.search.proofs.successor.Stepping.{followed-none, followed, guard-scale, met-safe, met-sized, met-settled, resets-are}
 
 -- an offer gives the same, by whatever name its location and its zone go
 pub gives-of : (b : List ℕ) (capacity : ℕ) (s : List ℤ) (turn : Turn) (s′ : List ℤ) (t : Turn) {l l′ : ℕ} {o : Origin} {r r′ : Reduced} →
@@ -36,12 +38,18 @@ module _ (b : List ℕ) (a : Accepted b) (i : ℕ) (hi : i < edges b) (w : Work)
 
   -- r is what the guard leaves
   module _ {r : Reduced} (e : r ≡ meetOf (clocks b) (guardOf b i) w) where
+    -- what the safe fraction is then lowered by is in range
+    pub emptied-fits : Fits32 (r .safe)
+    emptied-fits =
+        met-safe (clocks b) (a .complete .clocks≤) w refl counts (omega arith) (omega arith) (guardOf b i) (guard-scale b a i hi) taken-sized e
+
     pub follows-none : r .empty ≡ true → (capacity : ℕ) (s : List ℤ) (turn : Turn) (o : Origin) →
-        Offers b capacity s turn (to b i) o (successorOf b i w) s (record { count = turn .count; fraction = r .work .fraction; outcome = Going })
-    follows-none f capacity s turn o =
-        gives-of b capacity s turn s (record { count = turn .count; fraction = r .work .fraction; outcome = Going }) refl
+        {safe : Fraction} → safe ≡ loweredBy (turn .safe) (r .safe) → Offers b capacity s turn (to b i) o (successorOf b i w) s
+        (record { count = turn .count; exact = r .work .fraction; safe = safe; outcome = Going })
+    follows-none f capacity s turn o {safe} g =
+        gives-of b capacity s turn s (record { count = turn .count; exact = r .work .fraction; safe = safe; outcome = Going }) refl
         (followed-none (clocks b) (a .complete .clocks≤) w refl (guardOf b i) (resetsOf b i) (invariantOf b (to b i)) e f)
-        (λ p. gives-empty b capacity s turn (to b i) r p f)
+        (λ p. gives-empty b capacity s turn (to b i) r p f g)
 
     module _ (live : r .empty ≡ false) where
       pub arrives : Sized (10 * counts) (suc (clocks b)) (r .work) × Settled (suc (clocks b)) (r .work)

@@ -17,7 +17,7 @@ use Rattle.automata.specs.Accepted.{Accepted}
 use Rattle.automata.specs.Automata.{clocks, start, invariantOf}
 use Rattle.search.specs.Exploring.{Shown, Live, Offers, Continues}
 use Rattle.search.specs.Exploring as exploring
-use Rattle.search.specs.Instance.{ZoneState, zonesOf, resultOf, entering, searchOf}
+use Rattle.search.specs.Instance.{ZoneState, fractionsOf, zonesOf, resultOf, entering, searchOf}
 use Rattle.reachability.specs.Search.{first-zone, nothing, begin, take-from, search}
 use Rattle.automata.specs.Semantics.{systemOf}
 use Rattle.slots.specs.declared.slot.Origin.{Origin}
@@ -43,12 +43,12 @@ module _ {b : List ℕ} (a : Accepted b) (s : List ℤ) {capacity : ℕ} (es : c
 
   -- the turn that the search begins with
   abbrev first-turn : Turn
-  first-turn = record { count = 0; fraction = noLimit; outcome = Going }
+  first-turn = record { count = 0; exact = noLimit; safe = noLimit; outcome = Going }
 
   blank-live : Live b capacity s blank s first-turn
   unfolding storeOf slotsOf outcomeOf
   blank-live = record {
-    shown = record { number = refl; store = refl; fraction = refl; outcome = refl; honest = tt };
+    shown = record { number = refl; store = refl; exact = refl; safe = refl; outcome = refl; honest = tt };
     sound = nothing-sound b a capacity;
     goes = refl;
   }
@@ -71,9 +71,9 @@ module _ {b : List ℕ} (a : Accepted b) (s : List ℤ) {capacity : ℕ} (es : c
     abbrev state : ZoneState
     state = begin (systemOf b) (zonesOf b) capacity
 
-    entered : resultOf r ≡ entering b noLimit
+    entered : resultOf noLimit r ≡ entering b (fractionsOf noLimit noLimit)
     unfolding entering firstWork
-    entered = ap resultOf er
+    entered = ap (resultOf noLimit) er
 
     shown : Shown (suc (clocks b)) s state s′ t′
     shown = rw entered at (g (record { came = first-zone; path = []; told = none ∙ sym eo }) .shows s blank blank-live)

@@ -6,14 +6,13 @@ use mathlib.Core.Bool.{true, false}
 use mathlib.Core.List.{List}
 use lib.IntN.{ℤ}
 use Rattle.runs.proofs.Contradictions.{true-false}
-use Rattle.zones.specs.declared.fraction.Fraction.{Fraction}
 use Rattle.zones.specs.declared.pair.Pair.{Pair}
 use Rattle.reachability.specs.Search.{Zones, Outcome, going, ended}
 use Rattle.reachability.proofs.Later.{Later}
 use Rattle.search.specs.declared.outcome.Turn.{Turn}
 use Rattle.automata.specs.Automata.{clocks}
 use Rattle.search.specs.Exploring.{SoundState, Shown, Live}
-use Rattle.search.specs.Instance.{ZoneState}
+use Rattle.search.specs.Instance.{Fractions, ZoneState}
 use Rattle.search.specs.Outcomes.{outcomeOf, hasEnded}
 
 -- one that goes on
@@ -27,7 +26,7 @@ still {q = q} h o e = record { shown = h; sound = o; goes = go (q .outcome) refl
     go (ended x) f = true-false (sym (ap hasEnded (h .outcome ∙ f)) ∙ e)
 
 -- one that has stopped is where the search ends
-pub stays : {O : Zones (List Pair) Fraction} {n : ℕ} {s₀ : List ℤ} {q q′ last : ZoneState} {s : List ℤ} {t : Turn} → Later O q q′ → q′ ≡ last →
+pub stays : {O : Zones (List Pair) Fractions} {n : ℕ} {s₀ : List ℤ} {q q′ last : ZoneState} {s : List ℤ} {t : Turn} → Later O q q′ → q′ ≡ last →
     Shown n s₀ q s t → hasEnded (outcomeOf (t .outcome)) ≡ true → Shown n s₀ last s t
 unfolding hasEnded
 stays {n = n} {s₀} {q} {last = last} {s} {t} l r h e = go (q .outcome) refl

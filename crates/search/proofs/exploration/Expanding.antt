@@ -84,9 +84,12 @@ module _ {b : List ℕ} {capacity j l : ℕ} {z : List Pair} {c : Came} {p : Lis
     }
 
     -- an edge of this one: v is the zone with the running fraction
-    module _ (a : Accepted b) (sz : SoundZone b z) {v : Work} (e : v ≡ workOf z (t .fraction)) where
+    module _ (a : Accepted b) (sz : SoundZone b z) {v : Work} (e : v ≡ workOf z (t .exact)) where
       pub taken-fits : Fits32 (v .fraction)
-      taken-fits = subst Fits32 (sym (ap (λ (x : Work). x .fraction) e ∙ w .live .shown .fraction)) (w .live .sound .fraction)
+      taken-fits = subst Fits32 (sym (ap (λ (x : Work). x .fraction) e ∙ w .live .shown .exact)) (w .live .sound .exact)
+
+      taken-safe : Fits32 (t .safe)
+      taken-safe = subst Fits32 (sym (w .live .shown .safe)) (w .live .sound .safe)
 
       pub taken-sound : SoundZone b (v .zone)
       taken-sound = subst (λ (x : Work). SoundZone b (x .zone)) (sym e) sz
@@ -98,9 +101,11 @@ module _ {b : List ℕ} {capacity j l : ℕ} {z : List Pair} {c : Came} {p : Lis
         next = followed (systemOf b) (zonesOf b) capacity j (nodeAt l c p z) i (w .state)
 
         -- the definition's successor is what was offered
-        offered : resultOf (successorOf b i v) ≡ zonesOf b .succ i z (w .state .frac)
+        offered : resultOf (t .safe) (successorOf b i v) ≡ zonesOf b .succ i z (w .state .frac)
         unfolding following
-        offered = ap (λ (x : Work). resultOf (successorOf b i x)) (e ∙ ap (workOf z) (w .live .shown .fraction))
+        offered =
+            let f = e ∙ ap (workOf z) (w .live .shown .exact) in
+            λ k. resultOf (w .live .shown .safe k) (successorOf b i (f k))
 
         shown : Shown (suc (clocks b)) s₀ next s′ t′
         shown = rw offered at (g (record { came = by-edge j i; path = p ++ (i ∷ []); told = along j i ∙ sym eo }) .shows s₀ (w .state) (w .live))
@@ -108,7 +113,7 @@ module _ {b : List ℕ} {capacity j l : ℕ} {z : List Pair} {c : Came} {p : Lis
         sound : SoundState b capacity next
         sound =
             rw (← offered)
-            (offer-sound b a capacity (to b i) (a .to< i hi) (by-edge j i) (p ++ (i ∷ [])) (w .state) (w .live .sound) _
+            (offer-sound b a capacity (to b i) (a .to< i hi) (by-edge j i) (p ++ (i ∷ [])) (w .state) (w .live .sound) (t .safe) taken-safe _
             (follow-sound b a i hi (v .zone) (v .fraction) (taken-sound .ranged) (taken-sound .framed) taken-fits))
 
         rest : opened b capacity j l z c p (edges b - (i + 1)) (i + 1) next ≡ opened b capacity j l z c p (edges b) 0 q₀

@@ -15,7 +15,8 @@ use Rattle.zones.specs.declared.fraction.Fraction.{Fraction}
 use Rattle.zones.specs.declared.reduction.Reduced.{Reduced}
 use Rattle.zones.specs.declared.zone.Work.{Work}
 use Rattle.zones.specs.Containment.{largestCount}
-use Rattle.zones.specs.Ranges.{AllBounded, Sized, counts, lastCounts}
+use Rattle.zones.specs.Fractions.{loweredBy}
+use Rattle.zones.specs.Ranges.{AllBounded, Sized, Fits32, counts, lastCounts}
 use Rattle.runs.specs.Limits.{scale}
 use Rattle.search.specs.declared.outcome.Outcome.{Outcome}
 use Rattle.search.specs.declared.outcome.Outcome.the-variants.{Going, Reached, Refused}
@@ -25,17 +26,18 @@ use Rattle.automata.specs.Accepted.{Accepted}
 use Rattle.automata.specs.Automata.{clocks, locations, target}
 use Rattle.search.specs.Exploring.{FirstHit, SoundNode, SoundState, Shown, Live, Continues, Led, nodeAt}
 use Rattle.search.specs.Exploring as exploring
-use Rattle.search.specs.Instance.{ZoneState, ZoneNode, resultOf, overcounted, zonesOf}
+use Rattle.search.specs.Instance.{Fractions, fractionsOf, ZoneState, ZoneNode, resultOf, loweredInside, overcounted, zonesOf}
 use Rattle.reachability.specs.Search as defined
 use Rattle.reachability.specs.Search.{Came, first-zone, by-edge, reached, ended, Nth, none, found, find, judge, offer}
 use Rattle.automata.specs.Semantics.{systemOf}
 use Rattle.slots.specs.Slots.{slotLength, spare, pAt, headOf, slotOf, zoneOf}
-use Rattle.slots.specs.Containing.{loweredSlots, largestSlot, Readable, ComparableSlots}
+use Rattle.slots.specs.Containing.{insideSlots, largestSlot, Readable, ComparableSlots}
 use Rattle.slots.specs.declared.slot.Origin.{Origin}
 use Rattle.search.specs.Store.{originOf, storeOf}
 use Rattle.reachability.proofs.Judged.{Judged, was-target, was-inside, was-big, was-kept, was-full, computes}
-use Rattle.slots.proofs.slot.Codec.{head-size, slot-taken, slot-counts, slot-readable, slot-bounded, zone-of-slot, lowered-slots}
+use Rattle.slots.proofs.slot.Codec.{head-size, slot-taken, slot-counts, slot-readable, slot-bounded, zone-of-slot, inside-slots}
 use Rattle.slots.proofs.slot.Codec.{largest-slot}
+use Rattle.slots.proofs.slot.Loops.{slots-fit}
 use Rattle.search.proofs.exploration.Stores.{slotAs, SlotAt, slot-at, store-length, store-more, hit-none, hit-first, slot-fits, lent-part}
 
 -- the outcome that tells the origin is the definition's
@@ -95,6 +97,9 @@ module _ (b : List ℕ) (a : Accepted b) where
     going-count : turn .count ≤ capacity
     going-count = omega (arith, i .live .shown .number, i .live .sound .most)
 
+    pub going-safe : Fits32 (turn .safe)
+    going-safe = subst Fits32 (sym (i .live .shown .safe)) (i .live .sound .safe)
+
     pub going-slots : turn .count * slotLength n ≤ length s
     going-slots = live-slots (i .long) (i .live)
 
@@ -126,33 +131,35 @@ module _ (b : List ℕ) (a : Accepted b) where
     to-judge = nodeAt l (p .came) (p .path) (w .zone)
 
     abbrev after : ZoneState
-    after = judge (systemOf b) (zonesOf b) capacity q to-judge (w .fraction)
+    after = judge (systemOf b) (zonesOf b) capacity q to-judge (fractionsOf (w .fraction) (turn .safe))
 
     off : eqb l (target b) ≡ false
     off = ne-eqb l (target b) away
 
     -- it comes to q′, which the turn r and the store s′ show
-    shows : {s′ : List ℤ} {r : Turn} {q′ : ZoneState} → Judged (systemOf b) (zonesOf b) capacity q to-judge (w .fraction) q′ →
+    shows : {s′ : List ℤ} {r : Turn} {q′ : ZoneState} → Judged (systemOf b) (zonesOf b) capacity q to-judge (fractionsOf (w .fraction) (turn .safe)) q′ →
         Shown n s₀ q′ s′ r → Shown n s₀ after s′ r
     shows {s′} {r} was e = subst (λ (x : ZoneState). Shown n s₀ x s′ r) (sym (computes (systemOf b) (zonesOf b) was)) e
 
     -- a state with the same zones
-    unmoved : {x : Outcome} {y : defined.Outcome} {g f : Fraction} → outcomeOf x ≡ y → Honest x → g ≡ f →
-        Shown n s₀ (record { kept = q .kept; frac = f; outcome = y }) s (record { count = turn .count; fraction = g; outcome = x })
-    unmoved e h f = record { number = d .shown .number; store = d .shown .store; fraction = f; outcome = e; honest = h }
+    unmoved : {x : Outcome} {y : defined.Outcome} {exact safe : Fraction} {f : Fractions} → outcomeOf x ≡ y → Honest x → exact ≡ f .exact →
+        safe ≡ f .safe →
+        Shown n s₀ (record { kept = q .kept; frac = f; outcome = y }) s (record { count = turn .count; exact = exact; safe = safe; outcome = x })
+    unmoved e h f g = record { number = d .shown .number; store = d .shown .store; exact = f; safe = g; outcome = e; honest = h }
 
     -- it is inside a kept one: the oldest such counts
-    judged-inside : j < turn .count → {at : ℕ} → at ≡ j * slotLength n → {g : Fraction} →
-        g ≡ loweredSlots (slotOf n (headOf l o) (w .zone) ++ rest) (take (length s - at) (drop at s)) (n * n) (w .fraction) →
-        Shown n s₀ after s (record { count = turn .count; fraction = g; outcome = Going })
-    unfolding outcomeOf
-    judged-inside hj {at} e g =
+    judged-inside : j < turn .count → {at : ℕ} → at ≡ j * slotLength n → {below exact safe : Fraction} →
+        below ≡ insideSlots (slotOf n (headOf l o) (w .zone) ++ rest) (take (length s - at) (drop at s)) (n * n) →
+        exact ≡ loweredBy (w .fraction) below → safe ≡ loweredBy (turn .safe) below →
+        Shown n s₀ after s (record { count = turn .count; exact = exact; safe = safe; outcome = Going })
+    unfolding outcomeOf loweredInside
+    judged-inside hj {at} e g x y =
         let m = nth-at (q .kept) j (omega (arith, d .shown .number)) in
         let t = stored-slot (d .shown) j (m .node) (m .nth) in
         shows (was-inside (m .node) off (hit-first b n≤ l o (w .zone) (q .kept) s₀ rest j first (m .node) (m .nth)))
-        (unmoved refl tt (g ∙ rw (part s j at (m .node) e t)
-        (lowered-slots n (headOf l o) (head-size l o) (w .zone) rest _
-        (head-size (m .node .at) (originOf (m .node .came))) _ (t .rest) (w .fraction) n≤)))
+        (let f = g ∙ rw (part s j at (m .node) e t) (inside-slots n (headOf l o) (head-size l o) (w .zone) rest _
+        (head-size (m .node .at) (originOf (m .node .came))) _ (t .rest) n≤) in
+        unmoved refl tt (x ∙ ap (loweredBy (w .fraction)) f) (y ∙ ap (loweredBy (turn .safe)) f))
 
     -- no kept one contains it
     module _ (out : turn .count ≤ j) where
@@ -160,22 +167,22 @@ module _ (b : List ℕ) (a : Accepted b) where
       alone = hit-none b n≤ l o (w .zone) (q .kept) s₀ rest j first (omega (arith, d .shown .number))
 
       judged-big : counts < largestCount n (w .zone) →
-          Shown n s₀ after s (record { count = turn .count; fraction = w .fraction; outcome = Refused 9 })
+          Shown n s₀ after s (record { count = turn .count; exact = w .fraction; safe = turn .safe; outcome = Refused 9 })
       unfolding outcomeOf overcounted
-      judged-big g = shows (was-big off alone (lt-ltb counts (largestCount n (w .zone)) g)) (unmoved refl tt refl)
+      judged-big g = shows (was-big off alone (lt-ltb counts (largestCount n (w .zone)) g)) (unmoved refl tt refl refl)
 
       module _ (small : largestCount n (w .zone) ≤ counts) where
         counted : overcounted b (w .zone) ≡ false
         unfolding overcounted
         counted = le-ltb counts (largestCount n (w .zone)) small
 
-        judged-full : capacity ≤ turn .count → Shown n s₀ after s (record { count = turn .count; fraction = w .fraction; outcome = Refused 10 })
+        judged-full : capacity ≤ turn .count → Shown n s₀ after s (record { count = turn .count; exact = w .fraction; safe = turn .safe; outcome = Refused 10 })
         unfolding outcomeOf
-        judged-full r = shows (was-full off alone counted (omega (arith, d .shown .number))) (unmoved refl tt refl)
+        judged-full r = shows (was-full off alone counted (omega (arith, d .shown .number))) (unmoved refl tt refl refl)
 
         judged-kept : turn .count < capacity → {at : ℕ} {s′ : List ℤ} → at ≡ turn .count * slotLength n →
             s′ ≡ take at s ++ (take (slotLength n) (slotOf n (headOf l o) (w .zone) ++ rest) ++ drop (at + slotLength n) s) →
-            Shown n s₀ after s′ (record { count = turn .count + 1; fraction = w .fraction; outcome = Going })
+            Shown n s₀ after s′ (record { count = turn .count + 1; exact = w .fraction; safe = turn .safe; outcome = Going })
         unfolding outcomeOf
         judged-kept r {at} e f =
             let t = slot-taken n (headOf l o) (head-size l o) (w .zone) rest n≤ in
@@ -184,7 +191,8 @@ module _ (b : List ℕ) (a : Accepted b) where
             shows (was-kept off alone counted (omega (arith, d .shown .number))) (record {
               number = omega (arith, d .shown .number, length-append (q .kept) (to-judge ∷ []));
               store = f ∙ (λ i. take at (d .shown .store i) ++ ((t ∙ told) i ++ drop (at + slotLength n) (d .shown .store i))) ∙ m;
-              fraction = refl;
+              exact = refl;
+              safe = refl;
               outcome = refl;
               honest = tt;
             })
@@ -237,14 +245,14 @@ module _ {b : List ℕ} {l : ℕ} {o : Origin} {w : Work} {capacity : ℕ} {turn
     hits = rw (es, new≡) at h
 
     abbrev op : Led o → ZoneState → ZoneState
-    op p q = judge (systemOf b) (zonesOf b) capacity q (nodeAt l (p .came) (p .path) (w .zone)) (w .fraction)
+    op p q = judge (systemOf b) (zonesOf b) capacity q (nodeAt l (p .came) (p .path) (w .zone)) (fractionsOf (w .fraction) (turn .safe))
 
     module _ (hj : j < turn .count) {at : ℕ} (e : at ≡ j * slotLength size) where
       here : at ≡ j * slotLength (n b a)
       here = e ∙ ap (λ (k : ℕ). j * slotLength k) es
 
-      pub asks-lowered : ComparableSlots new (take (length s - at) (drop at s)) (size * size) (w .fraction)
-      asks-lowered =
+      pub asks-inside : ComparableSlots new (take (length s - at) (drop at s)) (size * size)
+      asks-inside =
           let d = i .live .shown in
           let m = nth-at (i .state .kept) j (omega (arith, d .number)) in
           let k = m .node in
@@ -257,31 +265,34 @@ module _ {b : List ℕ} {l : ℕ} {o : Origin} {w : Work} {capacity : ℕ} {turn
                 scale lastCounts (n≤ b a)
                 (node-bounded b a k (i .live .sound .nodes j k (m .nth)));
             inside = rw (t .same) at (hits .found hj .inside);
-            fraction = entered .sized .narrow;
           })
 
-      pub gives-inside : {g : Fraction} → g ≡ loweredSlots new (take (length s - at) (drop at s)) (size * size) (w .fraction) →
-          (p : Led o) → Continues b capacity s turn (op p) s (record { count = turn .count; fraction = g; outcome = Going })
-      gives-inside g p = record {
-        shows = λ s₀ q d. judged-inside b a d (entered .away) w p _ hits hj here
-            (g ∙ (λ i. loweredSlots (new≡ i) (take (length s - at) (drop at s)) (es i * es i) (w .fraction)));
-      }
+      module _ {below : Fraction} (g : below ≡ insideSlots new (take (length s - at) (drop at s)) (size * size)) where
+        pub asks-lowered : Fits32 (w .fraction) × Fits32 (turn .safe) × Fits32 below
+        asks-lowered = (entered .sized .narrow, going-safe b a i, rw g (slots-fit _ _ (size * size) asks-inside))
+
+        pub gives-inside : {exact safe : Fraction} → exact ≡ loweredBy (w .fraction) below → safe ≡ loweredBy (turn .safe) below →
+            (p : Led o) → Continues b capacity s turn (op p) s (record { count = turn .count; exact = exact; safe = safe; outcome = Going })
+        gives-inside x y p = record {
+          shows = λ s₀ q d. judged-inside b a d (entered .away) w p _ hits hj here
+              (g ∙ (λ i. insideSlots (new≡ i) (take (length s - at) (drop at s)) (es i * es i))) x y;
+        }
 
     module _ (out : turn .count ≤ j) {most : ℕ} (em : most ≡ largestSlot new (size * size)) where
       largest : most ≡ largestCount (n b a) (w .zone)
       largest = em ∙ (λ i. largestSlot (new≡ i) (es i * es i)) ∙ largest-slot _ (headOf l o) (head-size l o) (w .zone) _ (n≤ b a)
 
       pub gives-big : counts < most → (p : Led o) →
-          Continues b capacity s turn (op p) s (record { count = turn .count; fraction = w .fraction; outcome = Refused 9 })
+          Continues b capacity s turn (op p) s (record { count = turn .count; exact = w .fraction; safe = turn .safe; outcome = Refused 9 })
       gives-big g p = record { shows = λ s₀ q d. judged-big b a d (entered .away) w p _ hits out (rw largest at g) }
 
       pub gives-full : most ≤ counts → capacity ≤ turn .count → (p : Led o) →
-          Continues b capacity s turn (op p) s (record { count = turn .count; fraction = w .fraction; outcome = Refused 10 })
+          Continues b capacity s turn (op p) s (record { count = turn .count; exact = w .fraction; safe = turn .safe; outcome = Refused 10 })
       gives-full g r p = record { shows = λ s₀ q d. judged-full b a d (entered .away) w p _ hits out (rw largest at g) r }
 
       pub gives-kept : most ≤ counts → turn .count < capacity → {per-slot : ℕ} {s′ : List ℤ} → per-slot ≡ slotLength size →
           s′ ≡ take (turn .count * per-slot) s ++ (take per-slot new ++ drop (turn .count * per-slot + per-slot) s) → (p : Led o) →
-          Continues b capacity s turn (op p) s′ (record { count = turn .count + 1; fraction = w .fraction; outcome = Going })
+          Continues b capacity s turn (op p) s′ (record { count = turn .count + 1; exact = w .fraction; safe = turn .safe; outcome = Going })
       gives-kept g r {per-slot} e f p =
           let k = e ∙ ap slotLength es in
           record {
@@ -292,27 +303,29 @@ module _ {b : List ℕ} {l : ℕ} {o : Origin} {w : Work} {capacity : ℕ} {turn
 -- ---- the whole offer
 module _ (b : List ℕ) (capacity : ℕ) (s : List ℤ) (turn : Turn) (l : ℕ) {o : Origin} (r : Reduced) (p : Led o) where
   abbrev offers : ZoneState → ZoneState
-  offers q = offer (systemOf b) (zonesOf b) capacity q (nodeAt l (p .came) (p .path)) (resultOf r)
+  offers q = offer (systemOf b) (zonesOf b) capacity q (nodeAt l (p .came) (p .path)) (resultOf (turn .safe) r)
 
-  pub gives-empty : r .empty ≡ true →
-      Continues b capacity s turn offers s (record { count = turn .count; fraction = r .work .fraction; outcome = Going })
+  pub gives-empty : r .empty ≡ true → {safe : Fraction} → safe ≡ loweredBy (turn .safe) (r .safe) →
+      Continues b capacity s turn offers s (record { count = turn .count; exact = r .work .fraction; safe = safe; outcome = Going })
   unfolding resultOf offer outcomeOf
-  gives-empty e = record {
-    shows = λ s₀ q d. rw e (record { number = d .shown .number; store = d .shown .store; fraction = refl; outcome = refl; honest = tt });
+  gives-empty e f = record {
+    shows = λ s₀ q d. rw e (record { number = d .shown .number; store = d .shown .store; exact = refl; safe = f; outcome = refl; honest = tt });
   }
 
   pub gives-target : r .empty ≡ false → l ≡ target b →
-      Continues b capacity s turn offers s (record { count = turn .count; fraction = r .work .fraction; outcome = Reached o })
+      Continues b capacity s turn offers s (record { count = turn .count; exact = r .work .fraction; safe = turn .safe; outcome = Reached o })
   unfolding resultOf offer outcomeOf
   gives-target e g = record {
     shows =
         λ s₀ q d. rw e
-        (subst (λ (x : ZoneState). Shown (suc (clocks b)) s₀ x s (record { count = turn .count; fraction = r .work .fraction; outcome = Reached o }))
+        (subst (λ (x : ZoneState). Shown (suc (clocks b)) s₀ x s
+        (record { count = turn .count; exact = r .work .fraction; safe = turn .safe; outcome = Reached o }))
         (sym (computes (systemOf b) (zonesOf b) (was-target (eq-eqb l (target b) g))))
         (record {
           number = d .shown .number;
           store = d .shown .store;
-          fraction = refl;
+          exact = refl;
+          safe = refl;
           outcome = met-by (p .told);
           honest = well-told (p .came) (p .told);
         }));
@@ -320,7 +333,8 @@ module _ (b : List ℕ) (capacity : ℕ) (s : List ℤ) (turn : Turn) (l : ℕ) 
 
   pub gives-judged : r .empty ≡ false → {s′ : List ℤ} {t : Turn} →
       ((p : Led o) → Continues b capacity s turn
-      (λ q. judge (systemOf b) (zonesOf b) capacity q (nodeAt l (p .came) (p .path) (r .work .zone)) (r .work .fraction)) s′ t) →
+      (λ q. judge (systemOf b) (zonesOf b) capacity q (nodeAt l (p .came) (p .path) (r .work .zone))
+      (fractionsOf (r .work .fraction) (turn .safe))) s′ t) →
       Continues b capacity s turn offers s′ t
   unfolding resultOf offer
   gives-judged e h = rw e (h p)

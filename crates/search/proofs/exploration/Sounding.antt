@@ -10,30 +10,31 @@ use Rattle.zones.specs.declared.fraction.Fraction.{Fraction}
 use Rattle.zones.specs.declared.pair.Pair.{Pair}
 use Rattle.zones.specs.declared.reduction.Reduced.{Reduced}
 use Rattle.zones.specs.declared.zone.Work.{Work}
-use Rattle.zones.specs.Containment.{largestCount}
-use Rattle.zones.specs.Fractions.{noLimit}
-use Rattle.zones.specs.Ranges.{Ranged, Sized, OnScale, Fits32, counts, stepCounts, lastCounts}
+use Rattle.zones.specs.Containment.{insideBelow, largestCount}
+use Rattle.zones.specs.Fractions.{noLimit, loweredBy}
+use Rattle.zones.specs.Ranges.{Ranged, Sized, OnScale, Fits32, counts, stepCounts, lastCounts, widest}
 use Rattle.runs.specs.Limits.{scale, Limits}
 use Rattle.zones.specs.Reductions.{reduceOf}
 use Rattle.zones.specs.Successors.{andThen, meetOf, enterOf, followOf}
 use Rattle.zones.specs.Zones.{firstWork, meetLimits, raiseLimits, resetOf}
-use Rattle.zones.proofs.ranges.Bounding.{first-sized, sized-more, sized-meet, sized-reset, sized-raise, reduced-fits, sized-reduce}
+use Rattle.zones.proofs.ranges.Bounding.{first-sized, sized-more, sized-meet, sized-reset, sized-raise, reduced-fits, safe-fits, sized-reduce}
+use Rattle.zones.proofs.ranges.Ranges.{lowered-narrow}
 use Rattle.runs.proofs.Contradictions.{true-false}
-use Rattle.zones.proofs.places.Inside.{largest-most, lowered-fits}
+use Rattle.zones.proofs.places.Inside.{largest-most, inside-fits}
 use Rattle.zones.proofs.sets.Moving.{then-empty, then-live}
 use Rattle.automata.specs.Accepted.{Accepted}
 use Rattle.automata.specs.Automata.{clocks, locations, edges, start, to, invariantOf, guardOf, resetsOf}
 use Rattle.search.specs.Exploring.{SoundNode, SoundState, SoundResult, nodeAt}
-use Rattle.search.specs.Instance.{ZoneState, workOf, resultOf, entering, overcounted, zonesOf}
-use Rattle.reachability.specs.Search.{Came, first-zone, zone, offer, nothing, begin}
+use Rattle.search.specs.Instance.{Fractions, ZoneNode, ZoneState, workOf, resultOf, entering, loweredInside, overcounted, zonesOf}
+use Rattle.reachability.specs.Search.{Result, fracOf, Came, first-zone, zone, offer, nothing, begin}
 use Rattle.automata.specs.Semantics.{systemOf}
 use Rattle.slots.specs.Slots.{Framed}
-use Rattle.reachability.proofs.Judged.{offer-kept, offer-frac}
+use Rattle.reachability.proofs.Judged.{Inside, offer-kept, offer-frac}
 use Rattle.reachability.proofs.Keeps.{offer-room}
 use Rattle.automata.proofs.accepting.Accepting.{unreset}
 use Rattle.search.proofs.exploration.Judging.{node-bounded}
 use Rattle.reachability.proofs.Lists.{All, all-snoc}
-use Rattle.search.proofs.instance.Results.{result-fraction, was-zone}
+use Rattle.search.proofs.instance.Results.{result-exact, result-safe, was-zone}
 use Rattle.slots.proofs.slot.Frames.{framed-first, framed-meet, framed-reduce, framed-raise, framed-reset}
 use Rattle.search.proofs.successor.Stepping.{invariant-scale, guard-scale}
 
@@ -44,19 +45,21 @@ record Fit (P n : ℕ) (w : Work) : Type 0 where
 
 record Left (P n : ℕ) (r : Reduced) : Type 0 where
   fraction : Fits32 (r .work .fraction)
+  safe : Fits32 (r .safe)
   fit : r .empty ≡ false → Fit P n (r .work)
 
 left-then : (P Q n : ℕ) (r : Reduced) (f : Work → Reduced) → Left P n r → (Fit P n (r .work) → Left Q n (f (r .work))) → Left Q n (andThen r f)
 left-then P Q n r f l k = go (r .empty) refl
   where
     go : (t : Bool) → r .empty ≡ t → Left Q n (andThen r f)
-    go true e = rw (then-empty r f e) (record { fraction = l .fraction; fit = λ g. true-false (sym e ∙ g) })
+    go true e = rw (then-empty r f e) (record { fraction = l .fraction; safe = l .safe; fit = λ g. true-false (sym e ∙ g) })
     go false e = rw (then-live r f e) (k (l .fit e))
 
 module _ (c : ℕ) (n≤ : suc c ≤ 9) (P : ℕ) (P> : 0 < P) (P≤ : P ≤ stepCounts) (w : Work) (h : Fit P (suc c) w) where
   reduce-left : Left (10 * P) (suc c) (reduceOf (suc c) w)
   reduce-left = record {
     fraction = reduced-fits P (suc c) P> P≤ n≤ w (h .sized) (omega arith);
+    safe = safe-fits P (suc c) P> P≤ n≤ w (h .sized) (omega arith);
     fit = λ l. record {
       sized = sized-reduce P (suc c) P> P≤ n≤ w (h .sized) (omega arith) l;
       framed = framed-reduce (suc c) n≤ w (h .framed) (h .sized .ranged .size);
@@ -105,6 +108,7 @@ module _ (b : List ℕ) (a : Accepted b) where
   result : (P : ℕ) → P ≤ lastCounts → (r : Reduced) → Left P n r → SoundResult b r
   result P h r l = record {
     fraction = l .fraction;
+    safe = l .safe;
     sized = λ e. sized-more P lastCounts n (r .work) h (l .fit e .sized);
     framed = λ e. l .fit e .framed;
   }
@@ -157,32 +161,52 @@ module _ (b : List ℕ) (a : Accepted b) where
   }
 
   -- what a result that is a zone has
-  zone-fit : (r : Reduced) (z : List Pair) (f : Fraction) → SoundResult b r → resultOf r ≡ zone z f → Sized lastCounts n (workOf z f) × Framed n z
-  zone-fit r z f h e =
-      let w = was-zone r e in (
-        subst (Sized lastCounts n) (λ i. workOf (w .square i) (w .fraction i)) (h .sized (w .live)),
+  zone-fit : (safe : Fraction) (r : Reduced) (z : List Pair) (f : Fractions) → SoundResult b r → resultOf safe r ≡ zone z f →
+      Sized lastCounts n (workOf z (f .exact)) × Framed n z
+  zone-fit safe r z f h e =
+      let w = was-zone safe r e in (
+        subst (Sized lastCounts n) (λ i. workOf (w .square i) (w .exact i)) (h .sized (w .live)),
         subst (Framed n) (w .square) (h .framed (w .live)),
       )
 
   module _ (capacity : ℕ) (l : ℕ) (hl : l < locations b) (c : Came) (p : List ℕ) (q : ZoneState)
-      (sound : SoundState b capacity q) (r : Reduced) (h : SoundResult b r) where
-    pub offer-sound : SoundState b capacity (offer (systemOf b) (zonesOf b) capacity q (nodeAt l c p) (resultOf r))
+      (sound : SoundState b capacity q) (safe : Fraction) (fits : Fits32 safe) (r : Reduced) (h : SoundResult b r) where
+    abbrev made : Result (List Pair) Fractions
+    made = resultOf safe r
+
+    -- what a containment test that holds lowers both by
+    inside : (z : List Pair) (f : Fractions) (k : ZoneNode) → made ≡ zone z f → Inside (systemOf b) (zonesOf b) (q .kept) l z k →
+        Fits32 (insideBelow n z (k .zone))
+    inside z f k e i =
+        inside-fits z (k .zone) n (zone-fit safe r z f h e .0 .ranged .bounded)
+        (node-bounded b a k (sound .nodes (i .place) k (i .kept))) (i .holds)
+
+    -- each of the two fractions, by what has become of it
+    offer-fits : (g : Fractions → Fraction) → ((z y : List Pair) (f : Fractions) → g (loweredInside b z y f) ≡ loweredBy (g f) (insideBelow n z y)) →
+        Fits32 (g (fracOf made)) → Fits32 (g (offer (systemOf b) (zonesOf b) capacity q (nodeAt l c p) made .frac))
+    offer-fits g lowers m =
+        offer-frac (systemOf b) (zonesOf b) capacity (λ f. Fits32 (g f)) q (nodeAt l c p) made m
+        (λ z f k e i. subst Fits32 (sym (lowers z (k .zone) f))
+        (lowered-narrow widest widest _ _ (subst (λ x. Fits32 (g (fracOf x))) e m) (inside z f k e i)))
+
+    pub offer-sound : SoundState b capacity (offer (systemOf b) (zonesOf b) capacity q (nodeAt l c p) (resultOf safe r))
+    unfolding loweredInside
     offer-sound = record {
-      nodes = offer-kept (systemOf b) (zonesOf b) capacity (All (SoundNode b)) q (nodeAt l c p) (resultOf r) (sound .nodes)
-          (λ z f e away small room. let o = zone-fit r z f h e in
-          all-snoc (q .kept) (nodeAt l c p z) (sound .nodes) (kept-sound l hl z f c p (o .0) (o .1) small));
-      most = offer-room (systemOf b) (zonesOf b) capacity q (nodeAt l c p) (resultOf r) (sound .most);
-      fraction = offer-frac (systemOf b) (zonesOf b) capacity Fits32 q (nodeAt l c p) (resultOf r)
-          (subst Fits32 (sym (result-fraction r)) (h .fraction))
-          (λ z f k e i. let o = zone-fit r z f h e in
-          lowered-fits z (k .zone) n (o .0 .ranged .bounded) (node-bounded b a k (sound .nodes (i .place) k (i .kept))) (i .holds) f
-          (o .0 .narrow) (n * 9) (omega arith));
+      nodes = offer-kept (systemOf b) (zonesOf b) capacity (All (SoundNode b)) q (nodeAt l c p) made (sound .nodes)
+          (λ z f e away small room. let o = zone-fit safe r z f h e in
+          all-snoc (q .kept) (nodeAt l c p z) (sound .nodes) (kept-sound l hl z (f .exact) c p (o .0) (o .1) small));
+      most = offer-room (systemOf b) (zonesOf b) capacity q (nodeAt l c p) made (sound .most);
+      exact = offer-fits (λ f. f .exact) (λ z y f. refl) (subst Fits32 (sym (result-exact safe r)) (h .fraction));
+      safe = offer-fits (λ f. f .safe) (λ z y f. refl) (result-safe safe r Fits32 fits (lowered-narrow widest widest safe (r .safe) fits (h .safe)));
     }
 
   -- ---- the states that a search begins with
+  unlimited : Fits32 noLimit
+  unlimited = record { n = omega arith; d = omega arith }
+
   pub nothing-sound : (capacity : ℕ) → SoundState b capacity (nothing (systemOf b) (zonesOf b) capacity)
-  nothing-sound capacity = record { nodes = λ j k h. absurd h; most = omega arith; fraction = record { n = omega arith; d = omega arith } }
+  nothing-sound capacity = record { nodes = λ j k h. absurd h; most = omega arith; exact = unlimited; safe = unlimited }
 
   pub begin-sound : (capacity : ℕ) → SoundState b capacity (begin (systemOf b) (zonesOf b) capacity)
   unfolding entering firstWork
-  begin-sound capacity = offer-sound capacity (start b) (a .start<) first-zone [] _ (nothing-sound capacity) _ start-sound
+  begin-sound capacity = offer-sound capacity (start b) (a .start<) first-zone [] _ (nothing-sound capacity) noLimit unlimited _ start-sound

@@ -78,8 +78,8 @@ module _ (b : List ℕ) (a : Accepted b) (capacity : ℕ) where
   steady-sound = record {
     edge = λ q j k i e m hi f o.
         let s = o .nodes j k m in
-        offer-sound b a capacity (to b i) (a .to< i hi) (by-edge j i) (k .path ++ (i ∷ [])) q o _
-        (follow-sound b a i hi (k .zone) (q .frac) (s .ranged) (s .framed) (o .fraction));
+        offer-sound b a capacity (to b i) (a .to< i hi) (by-edge j i) (k .path ++ (i ∷ [])) q o (q .frac .safe) (o .safe) _
+        (follow-sound b a i hi (k .zone) (q .frac .exact) (s .ranged) (s .framed) (o .exact));
   }
 
   expand-sound : (j : ℕ) (k : ZoneNode) (q : ZoneState) → Nth (q .kept) j k → SoundState b capacity q →

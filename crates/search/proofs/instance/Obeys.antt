@@ -10,6 +10,7 @@ use Rattle.zones.specs.declared.fraction.Fraction.{Fraction}
 use Rattle.zones.specs.declared.pair.Pair.{Pair}
 use Rattle.zones.specs.declared.reduction.Reduced.{Reduced}
 use Rattle.zones.specs.declared.zone.Work.{Work}
+use Rattle.zones.specs.Containment.{insideBelow}
 use Rattle.zones.specs.Fractions.{noLimit}
 use Rattle.zones.specs.Moves.{Closed, Shaped, Includes, Exact}
 use Rattle.zones.specs.Sets.{squareOf, Has, Waits, Enters, Follows}
@@ -21,46 +22,60 @@ use Rattle.runs.proofs.Contradictions.{true-false}
 use Rattle.zones.proofs.sets.Squares.{in-same}
 use Rattle.zones.proofs.sets.Entering.{enter-includes, enter-exact, follow-includes, follow-exact, closed-point}
 use Rattle.zones.proofs.places.Places.{home-below}
-use Rattle.zones.proofs.sets.Starts.{first-shaped, first-low, first-has, lowered-falls, inside-has, inside-proper}
+use Rattle.zones.proofs.sets.Starts.{first-shaped, first-low, first-has, inside-has, inside-proper}
 use Rattle.zones.proofs.fractions.Fractional.{enter-before, follow-before, enter-proper, follow-proper}
-use Rattle.zones.proofs.fractions.Thresholds.{proper-below}
+use Rattle.zones.proofs.fractions.Thresholds.{proper-below, lowered-n, lowered-before, lowered-sound, lowered-below}
 use Rattle.automata.specs.Accepted.{Accepted}
 use Rattle.automata.specs.Automata.{clocks, locations, edges, start, to, invariantOf, guardOf, resetsOf}
-use Rattle.search.specs.Instance.{workOf, resultOf, entering, following, zonesOf, Inside, meaningOf}
-use Rattle.reachability.specs.Laws.{Falls, Stays, OneSided, ExactLaws, FromStart, FromZone, Laws}
+use Rattle.search.specs.Instance.{Fractions, fractionsOf, workOf, resultOf, entering, following, loweredInside, zonesOf, Inside, meaningOf}
+use Rattle.reachability.specs.Laws.{Falls, Stays, Shapes, Inclusion, SafeLaws, ExactLaws, FromStart, FromZone, Laws}
 use Rattle.reachability.specs.Search.{empty, zone, fracOf}
 use Rattle.runs.specs.Timed.{Valuation, ticks, listed, later, zeroed}
 use Rattle.automata.specs.Semantics.{systemOf}
 use Rattle.automata.proofs.fields.Resets.{reset-zero}
 use Rattle.runs.proofs.Valuations.{later-none, later-more, later-length, zeroed-length, listed-length, ticks-listed, same-ticks, origin-ticks}
-use Rattle.search.proofs.instance.Results.{WasZone, result-fraction, was-zone, was-empty}
+use Rattle.search.proofs.instance.Results.{WasZone, result-exact, result-safe, was-zone, was-empty}
 use Rattle.search.proofs.instance.Valuations.{ticks-wait, ticks-put}
 
 -- ---- a step S from w to r, by the result that the search sees
-module _ {c s e : ℕ} {S : (ℕ → ℕ) → (ℕ → ℕ) → Type 0} {w : Work} {r : Reduced} (i : Includes s e c S w r) where
-  step-shape : {z : List Pair} {g : Fraction} → resultOf r ≡ zone z g → Shaped c (workOf z noLimit)
+module _ {c s e : ℕ} {S : (ℕ → ℕ) → (ℕ → ℕ) → Type 0} {w : Work} {r : Reduced} (safe : Fraction) (i : Includes s e c S w r) where
+  step-shape : {z : List Pair} {g : Fractions} → resultOf safe r ≡ zone z g → Shaped c (workOf z noLimit)
   step-shape j =
-      let k = was-zone r j in
+      let k = was-zone safe r j in
       let h = i .shaped (k .live) in
       subst (λ (x : List Pair). Shaped c (workOf x noLimit)) (k .square) (record { size = h .size; diagonal = h .diagonal })
 
-  step-in : {z : List Pair} {g : Fraction} → resultOf r ≡ zone z g → (v v′ : ℕ → ℕ) → Has s e c w v → S v v′ → Has s e c (workOf z noLimit) v′
+  step-in : {z : List Pair} {g : Fractions} → resultOf safe r ≡ zone z g → (v v′ : ℕ → ℕ) → Has s e c w v → S v v′ →
+      Has s e c (workOf z noLimit) v′
   step-in j v v′ h n =
-      let k = was-zone r j in
+      let k = was-zone safe r j in
       subst (λ (x : List Pair). Has s e c (workOf x noLimit) v′) (k .square) (i .into (k .live) v v′ h n)
 
-  step-none : {g : Fraction} → resultOf r ≡ empty g → Below s e g → (v v′ : ℕ → ℕ) → Has s e c w v → S v v′ → ⊥
-  step-none j p v v′ h n =
-      let k = was-empty r j in
-      true-false (sym (k .0) ∙ i .live (subst (Below s e) (sym (k .1)) p) v v′ h n)
+  -- below the safe fraction after it
+  step-none : 0 < s → {g : Fractions} → resultOf safe r ≡ empty g → Below s e (g .safe) → (v v′ : ℕ → ℕ) → Has s e c w v → S v v′ → ⊥
+  step-none s> j p v v′ h n =
+      let k = was-empty safe r j in
+      let l = lowered-sound s e safe (r .safe) s> (i .some) (subst (Below s e) (sym (k .lowered)) p) in
+      true-false (sym (k .none) ∙ i .live (l .1) v v′ h n)
 
-module _ {c s e : ℕ} {S : (ℕ → ℕ) → (ℕ → ℕ) → Type 0} {w : Work} {r : Reduced} (x : Exact s e c S w r)
-    {z : List Pair} {g : Fraction} (j : resultOf r ≡ zone z g) (p : Below s e g) where
-  was : WasZone r z g
-  was = was-zone r j
+-- what is below the exact fraction is below the safe one, after a step as before it
+abbrev pub Tight : Fractions → Type 0
+Tight f = (s e : ℕ) → 0 < s → Below s e (f .exact) → Below s e (f .safe)
+
+step-tight : {c : ℕ} {S : ℕ → ℕ → (ℕ → ℕ) → (ℕ → ℕ) → Type 0} {w : Work} {r : Reduced} (safe : Fraction) →
+    ((s e : ℕ) → 0 < s → Includes s e c (S s e) w r) → Tight (fractionsOf (w .fraction) safe) → Tight (fracOf (resultOf safe r))
+step-tight {r = r} safe i h s e s> b =
+    let q = subst (Below s e) (result-exact safe r) b in
+    let o = h s e s> (i s e s> .before q) in
+    result-safe safe r (Below s e) o (lowered-below s e safe (r .safe) o (i s e s> .tighter q))
+
+module _ {c s e : ℕ} {S : (ℕ → ℕ) → (ℕ → ℕ) → Type 0} {w : Work} {r : Reduced} (safe : Fraction) (x : Exact s e c S w r)
+    {z : List Pair} {g : Fractions} (j : resultOf safe r ≡ zone z g) (p : Below s e (g .exact)) where
+  was : WasZone safe r z g
+  was = was-zone safe r j
 
   below : Below s e (r .work .fraction)
-  below = subst (Below s e) (sym (was .fraction)) p
+  below = subst (Below s e) (sym (was .exact)) p
 
   step-fit : Closed (suc c) (squareOf s e (workOf z noLimit))
   step-fit = subst (λ (y : List Pair). Closed (suc c) (squareOf s e (workOf y noLimit))) (was .square) (x .closed (was .live) below)
@@ -144,62 +159,105 @@ module _ (b : List ℕ) (a : Accepted b) where
     }
 
     -- a state of the successor comes from one of the zone
-    pub came-from : (s e : ℕ) → 0 < s → (y z : List Pair) (f g : Fraction) → Shaped c (workOf y noLimit) →
+    pub came-from : (s e : ℕ) → 0 < s → (y z : List Pair) (f g : Fractions) → Shaped c (workOf y noLimit) →
         Closed (suc c) (squareOf s e (workOf y noLimit)) →
-        following b i y f ≡ zone z g → Below s e g → (v : ℕ → ℕ) → Has s e c (workOf z noLimit) v →
-        (u : ℕ → ℕ) × Has s e c (workOf y f) u × Follows s e c G R I u v
+        following b i y f ≡ zone z g → Below s e (g .exact) → (v : ℕ → ℕ) → Has s e c (workOf z noLimit) v →
+        (u : ℕ → ℕ) × Has s e c (workOf y (f .exact)) u × Follows s e c G R I u v
     unfolding following
-    came-from s e h y z f g p k j q v n = step-from (follows-exactly s e h y f p k) j q v n
+    came-from s e h y z f g p k j q v n = step-from (f .safe) (follows-exactly s e h y (f .exact) p k) j q v n
 
-  -- ---- the fraction
-  falls : (s e : ℕ) → Falls (zonesOf b) (λ f. (1 ≤ s) × Below s e f)
-  unfolding entering following
-  falls s e = record {
-    enter = λ f p. (p .0, enter-before s e (p .0) c I₀ (first f) (subst (Below s e) (result-fraction _) (p .1)));
+  -- ---- the fractions only fall
+  exact-falls : (s e : ℕ) → Falls (zonesOf b) (λ f. (1 ≤ s) × Below s e (f .exact))
+  unfolding entering following loweredInside
+  exact-falls s e = record {
+    enter = λ f p. (p .0, enter-before s e (p .0) c I₀ (first (f .exact)) (subst (Below s e) (result-exact _ _) (p .1)));
     succ = λ i z f p. (
       p .0,
-      follow-before s e (p .0) c (guardOf b i) (resetsOf b i) (invariantOf b (to b i)) (workOf z f) (subst (Below s e) (result-fraction _) (p .1)),
+      follow-before s e (p .0) c (guardOf b i) (resetsOf b i) (invariantOf b (to b i)) (workOf z (f .exact))
+          (subst (Below s e) (result-exact _ _) (p .1)),
     );
-    lowered = λ z y f p. (p .0, lowered-falls (suc c) z y s e (p .0) f (p .1));
+    lowered = λ z y f p. (p .0, lowered-before s e (f .exact) (insideBelow (suc c) z y) (p .0) (p .1));
   }
 
-  proper : (r : Reduced) → 0 < r .work .fraction .n → Below 1 0 (fracOf (resultOf r))
-  proper r h = subst (Below 1 0) (sym (result-fraction r)) (proper-below _ h)
+  safe-before : (s e : ℕ) → 0 < s → (safe : Fraction) (r : Reduced) → Below s e (fracOf (resultOf safe r) .safe) → Below s e safe
+  safe-before s e s> safe r = result-safe safe r (λ f. Below s e f → Below s e safe) (λ p. p) (lowered-before s e safe (r .safe) s>)
 
-  fine : Stays (zonesOf b) (λ f. (1 ≤ 1) × Below 1 0 f)
-  unfolding entering following
-  fine = record {
+  safe-falls : (s e : ℕ) → Falls (zonesOf b) (λ f. (1 ≤ s) × Below s e (f .safe))
+  unfolding entering following loweredInside
+  safe-falls s e = record {
+    enter = λ f p. (p .0, safe-before s e (p .0) (f .safe) _ (p .1));
+    succ = λ i z f p. (p .0, safe-before s e (p .0) (f .safe) _ (p .1));
+    lowered = λ z y f p. (p .0, lowered-before s e (f .safe) (insideBelow (suc c) z y) (p .0) (p .1));
+  }
+
+  -- ---- no error at all is always below the exact one
+  proper : (safe : Fraction) (r : Reduced) → 0 < r .work .fraction .n → Below 1 0 (fracOf (resultOf safe r) .exact)
+  proper safe r h = subst (Below 1 0) (sym (result-exact safe r)) (proper-below _ h)
+
+  exact-stays : Stays (systemOf b) (zonesOf b) (meaningOf b) (λ f. (1 ≤ 1) × Below 1 0 (f .exact))
+  unfolding entering following loweredInside
+  exact-stays = record {
     top = (omega arith, omega arith);
-    enter = λ f p. (p .0, proper _ (enter-proper c I₀ (first f) (omega (arith, p .1))));
-    succ = λ i z f p. (
+    enter = λ f p. (p .0, proper (f .safe) _ (enter-proper c I₀ (first (f .exact)) (omega (arith, p .1))));
+    succ = λ i z f l h p. (
       p .0,
-      proper _ (follow-proper c (guardOf b i) (resetsOf b i) (invariantOf b (to b i)) (workOf z f) (omega (arith, p .1))),
+      proper (f .safe) _
+          (follow-proper c (guardOf b i) (resetsOf b i) (invariantOf b (to b i)) (workOf z (f .exact)) (omega (arith, p .1))),
     );
-    lowered = λ z y f h p. (p .0, proper-below _ (inside-proper (suc c) z y h f (omega (arith, p .1))));
+    lowered = λ z y f h k j p. (
+      p .0,
+      proper-below _ (lowered-n (f .exact) (insideBelow (suc c) z y) (omega (arith, p .1)) (inside-proper (suc c) z y j)),
+    );
   }
 
-  -- ---- the one-sided laws
-  one-sided : OneSided (systemOf b) (zonesOf b) (meaningOf b)
+  -- ---- and what is below the exact one is below the safe one
+  pub tight-stays : Stays (systemOf b) (zonesOf b) (meaningOf b) Tight
+  unfolding entering following loweredInside
+  tight-stays = record {
+    top = λ s e s> p. p;
+    enter = λ f h. step-tight (f .safe) (λ s e s>. enters s e s> (f .exact)) h;
+    succ = λ i z f l g h. step-tight (f .safe) (λ s e s>. follows i l s e s> z (f .exact) g) h;
+    lowered = λ z y f g k j h s e s> p.
+        let t = insideBelow (suc c) z y in
+        let l = lowered-sound s e (f .exact) t s> (inside-proper (suc c) z y j) p in
+        lowered-below s e (f .safe) t (h s e s> (l .0)) (l .1);
+  }
+
+  -- ---- the laws of inclusion, at every error
+  shapes : Shapes (systemOf b) (zonesOf b) (meaningOf b)
   unfolding entering following
-  one-sided = record {
-    enter-shape = λ f g z j. step-shape (enters 1 0 (omega arith) f) j;
-    succ-shape = λ i y z f g l h j. step-shape (follows i l 1 0 (omega arith) y f h) j;
-    enter-in = λ s e f g z t j p h k. record {
+  shapes = record {
+    enter = λ f g z j. step-shape (f .safe) (enters 1 0 (omega arith) (f .exact)) j;
+    succ = λ i y z f g l h j. step-shape (f .safe) (follows i l 1 0 (omega arith) y (f .exact) h) j;
+  }
+
+  inclusion : Inclusion (systemOf b) (zonesOf b) (meaningOf b)
+  unfolding entering following
+  inclusion = record {
+    enter = λ s e f g z t p j h k. record {
       all = later-length t v₀ ∙ length-replicate c 0;
-      has = step-in (enters s e (p .0) f) j (ticks v₀) _ (origin-in s e (p .0) f) (waits s e t I₀ v₀ (length-replicate c 0) h k);
+      has = step-in (f .safe) (enters s e p (f .exact)) j (ticks v₀) _ (origin-in s e p (f .exact)) (waits s e t I₀ v₀ (length-replicate c 0) h k);
     };
-    enter-none = λ s e f g j p h. step-none (enters s e (p .0) f) j (p .1) (ticks v₀) _ (origin-in s e (p .0) f)
-        (waits s e 0 I₀ v₀ (length-replicate c 0) h (unwaited s e I₀ v₀ h));
-    succ-in = λ s e i y z f g v t l h j p n q r k. record {
+    succ = λ s e i y z f g v t p l h j n q r k. record {
       all = later-length t (zeroed (resetsOf b i) 1 v) ∙ zeroed-length (resetsOf b i) 1 v ∙ n .all;
-      has = step-in (follows i l s e (p .0) y f h) j (ticks v) _ (n .has) (jumps-on i l s e t v (n .all) q r k);
+      has = step-in (f .safe) (follows i l s e p y (f .exact) h) j (ticks v) _ (n .has) (jumps-on i l s e t v (n .all) q r k);
     };
-    succ-none = λ s e i y f g v l h j p n q r. step-none (follows i l s e (p .0) y f h) j (p .1) (ticks v) _ (n .has)
+  }
+
+  -- ---- those below the safe fraction
+  safe-laws : SafeLaws (systemOf b) (zonesOf b) (meaningOf b)
+  unfolding entering following loweredInside
+  safe-laws = record {
+    enter-none = λ s e f g j p h. step-none (f .safe) (enters s e (p .0) (f .exact)) (p .0) j (p .1) (ticks v₀) _ (origin-in s e (p .0) (f .exact))
+        (waits s e 0 I₀ v₀ (length-replicate c 0) h (unwaited s e I₀ v₀ h));
+    succ-none = λ s e i y f g v l h j p n q r. step-none (f .safe) (follows i l s e (p .0) y (f .exact) h) (p .0) j (p .1) (ticks v) _ (n .has)
         (jumps-on i l s e 0 v (n .all) q r (unwaited s e (invariantOf b (to b i)) (zeroed (resetsOf b i) 1 v) r));
-    within-in = λ s e z y f v h k j p n. record {
-      all = n .all;
-      has = inside-has s e (p .0) c n≤ (workOf z noLimit) (workOf y noLimit) f j (p .1) (ticks v) (n .has);
-    };
+    within-in = λ s e z y f v h k j p n.
+        let l = lowered-sound s e (f .safe) (insideBelow (suc c) z y) (p .0) (inside-proper (suc c) z y j) (p .1) in
+        record {
+          all = n .all;
+          has = inside-has s e (p .0) c n≤ (workOf z noLimit) (workOf y noLimit) j (l .1) (ticks v) (n .has);
+        };
   }
 
   -- ---- a function on the indices as a valuation
@@ -274,27 +332,29 @@ module _ (b : List ℕ) (a : Accepted b) where
         same = j .same;
       }
 
-  both : ExactLaws (systemOf b) (zonesOf b) (meaningOf b) 1 0
+  exact-laws : ExactLaws (systemOf b) (zonesOf b) (meaningOf b) 1 0
   unfolding entering following
-  both = record {
-    enter-fit = λ s e f g z j p. step-fit (enters-exactly s e (p .0) f) j (p .1);
-    succ-fit = λ s e i y z f g l h k j p. step-fit (follows-exactly i l s e (p .0) y f h k) j (p .1);
+  exact-laws = record {
+    enter-fit = λ s e f g z j p. step-fit (f .safe) (enters-exactly s e (p .0) (f .exact)) j (p .1);
+    succ-fit = λ s e i y z f g l h k j p. step-fit (f .safe) (follows-exactly i l s e (p .0) y (f .exact) h k) j (p .1);
     enter-from = λ s e f g z v j p n.
-        let x = step-from (enters-exactly s e (p .0) f) j (p .1) (ticks v) (n .has) in
+        let x = step-from (f .safe) (enters-exactly s e (p .0) (f .exact)) j (p .1) (ticks v) (n .has) in
         from-start s e (x .0) v (n .all) (first-has s e (p .0) c n≤ (x .0) .0 (x .1)) (x .2);
     succ-from = λ s e i y z f g v l h k j p n.
         let x = came-from i l s e (p .0) y z f g h k j (p .1) (ticks v) (n .has) in
-        from-zone s e i y f (x .0) v (n .all) (x .1) (x .2);
+        from-zone s e i y (f .exact) (x .0) v (n .all) (x .1) (x .2);
     point = λ z h k. let x = closed-point 1 0 c (workOf z noLimit) k in (listed c (x .0), listed-in 1 0 z noLimit (x .0) (x .1));
   }
 
   pub laws : Laws (systemOf b) (zonesOf b) (meaningOf b) 1 0
   laws = record {
     clocks = record { none = later-none; more = later-more };
-    tighter = λ f s e p. p;
-    safe = falls;
-    exact = falls;
-    fine = fine;
-    one-sided = one-sided;
-    both = both;
+    error = omega arith;
+    shapes = shapes;
+    inclusion = inclusion;
+    safe-falls = safe-falls;
+    safe = safe-laws;
+    exact-falls = exact-falls;
+    exact-stays = exact-stays;
+    exact = exact-laws;
   }

@@ -1,10 +1,10 @@
--- The answer and the store are the definition's, and the answer has what is promised of it.
+-- What is found and the store are the definition's, and it has what is promised.
 -- Assumes nothing.
 use mathlib.Core.Path.{_≡_, sym, _∙_, subst}
 use Rattle.automata.specs.Refusals.{refusalOf}
 use Rattle.search.specs.Promised.{Promised}
 use Rattle.automata.proofs.accepting.Accepting.{accepted}
-use Rattle.search.proofs.answers.Answers.{refused-answer, refused-store, count-small, searched-answer, searched-store}
+use Rattle.search.proofs.answers.Answers.{refused-findings, refused-store, count-small, searched-findings, searched-store}
 use Rattle.search.proofs.answers.Given.{promised}
 use borrow.Author.Needs.{needs}
 use Rattle.search.proofs.search.Statement.{statement}
@@ -12,8 +12,8 @@ use Rattle.search.proofs.search.Tie as tie
 
 returns : tie.Need-returns
 returns c =
-    let answer = refused-answer _ (c .before .refusal .ensures) (c .if1 .taken) _ in
-    (answer, (refused-store _ (c .before .refusal .ensures) (c .if1 .taken) _, subst (Promised _ _) (sym answer) (promised _ _)))
+    let found = refused-findings _ (c .before .refusal .ensures) (c .if1 .taken) _ in
+    (found, (refused-store _ (c .before .refusal .ensures) (c .if1 .taken) _, subst (Promised _ _) (sym found) (promised _ _)))
 
 ok : (c : tie.Else1) → refusalOf (c .before .before .before .args .automaton .now) ≡ 0
 ok c = sym (c .before .refusal .ensures) ∙ c .if1 .left
@@ -21,15 +21,15 @@ ok c = sym (c .before .refusal .ensures) ∙ c .if1 .left
 explore-requires : tie.Need-explore-requires
 explore-requires c κs = accepted _ (ok (c .before))
 
-answer-requires : tie.Need-answer-requires
-answer-requires c κs = count-small _ (ok (c .before .before .before)) _ _ _ (c .before .explore .ensures)
+findings-requires : tie.Need-findings-requires
+findings-requires c κs = count-small _ (ok (c .before .before .before)) _ _ _ (c .before .explore .ensures)
 
 returns-2 : tie.Need-returns-2
 returns-2 c =
     let ok = ok (c .before .before .before .before) in
     let shown = c .before .before .explore .ensures in
-    let answer = searched-answer _ ok _ _ _ shown (c .answer .ensures) in
-    (answer, (searched-store _ ok _ _ _ shown, subst (Promised _ _) (sym answer) (promised _ _)))
+    let found = searched-findings _ ok _ _ _ shown (c .findings .ensures) in
+    (found, (searched-store _ ok _ _ _ shown, subst (Promised _ _) (sym found) (promised _ _)))
 
 pub search-spec : {M : Type 1} → statement M
-search-spec = tie.close (tie.spec (λ c κs. search needs) returns explore-requires answer-requires (λ c. search needs) returns-2)
+search-spec = tie.close (tie.spec (λ c κs. search needs) returns explore-requires findings-requires (λ c. search needs) returns-2)

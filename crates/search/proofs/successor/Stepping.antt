@@ -15,14 +15,14 @@ use Rattle.zones.specs.declared.reduction.Reduced.{Reduced}
 use Rattle.zones.specs.declared.zone.Bounds.{Bounds}
 use Rattle.zones.specs.declared.zone.Work.{Work}
 use Rattle.zones.specs.Pairs.{zeroPair}
-use Rattle.zones.specs.Ranges.{Sized, OnScale, LimitsReady, Ready, counts, stepCounts}
+use Rattle.zones.specs.Ranges.{Sized, OnScale, LimitsReady, Ready, Fits32, counts, stepCounts}
 use Rattle.runs.specs.Limits.{scale, Limits}
 use Rattle.zones.specs.Reductions.{reduceSteps, reduceOf}
 use Rattle.zones.specs.Moves.{Shaped}
 use Rattle.zones.specs.Settled.{Settled, Lifted, Begun}
 use Rattle.zones.specs.Successors.{andThen, meetOf, enterOf, followOf}
 use Rattle.zones.specs.Zones.{pairAt, boundsMet, boundsBelow, meetLimits, raiseLimits, setOf, resetOf}
-use Rattle.zones.proofs.ranges.Bounding.{sized-more, sized-ready, sized-limits, sized-meet, sized-reset, sized-raise, sized-reduce}
+use Rattle.zones.proofs.ranges.Bounding.{safe-fits, sized-more, sized-ready, sized-limits, sized-meet, sized-reset, sized-raise, sized-reduce}
 use Rattle.zones.proofs.places.Limits.{met-unlowered, limits-more}
 use Rattle.zones.proofs.sets.Meeting.{meet-shaped}
 use Rattle.zones.proofs.settled.Raising.{raise-lifted}
@@ -120,6 +120,14 @@ module _ (c : ℕ) (c≤ : c ≤ 8) (w : Work) {k : ℕ} (k≡ : k ≡ suc c) wh
     most = omega arith;
     same = settled-reduced (suc c) (meetLimits L c w) (limits-settled c (omega arith) L w h z) (suc c) (omega arith);
   })
+
+  -- what lowers the safe fraction is in range, too
+  pub met-safe : (P : ℕ) → 0 < P → P ≤ 10 * counts → (L : Limits) → OnScale scale c L → Sized P (suc c) w → {m : Reduced} → m ≡ meetOf c L w →
+      Fits32 (m .safe)
+  unfolding meetOf
+  met-safe P P> P≤ L o r e =
+      rw e (safe-fits P (suc c) P> (omega arith) (omega arith) (meetLimits L c w)
+      (sized-meet P (suc c) P> (omega arith) (omega arith) w r c (omega arith) L o c (omega arith)) (omega arith))
 
   -- after the guard or the invariant, error counts are ten times larger
   module _ (P : ℕ) (P> : 0 < P) (P≤ : P ≤ 10 * counts) (L : Limits) (o : OnScale scale c L)

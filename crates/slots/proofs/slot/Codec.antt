@@ -16,7 +16,7 @@ use native.Mathlib.Nat.{not-suc-le-zero}
 use native.Mathlib.Omega.{arith}
 use Rattle.zones.specs.declared.fraction.Fraction.{Fraction}
 use Rattle.zones.specs.declared.pair.Pair.{Pair}
-use Rattle.zones.specs.Containment.{placeOf, withinTo, within, loweredTo, loweredWithin, countTo, largestCount}
+use Rattle.zones.specs.Containment.{placeOf, withinTo, within, insideTo, insideBelow, countTo, largestCount}
 use Rattle.zones.specs.Integers.{up}
 use Rattle.zones.proofs.pairs.Integers.{le-make}
 use Rattle.zones.specs.Fractions.{loweredBy}
@@ -27,7 +27,7 @@ use Rattle.zones.proofs.sets.Squares.{up-to}
 use Rattle.slots.specs.Slots.{fields, slotLength, mAt, pAt, pairsTo, pairsOf, flat, headOf, slotOf, slotLocation, slotPair, counted, squareTo}
 use Rattle.slots.specs.Slots.{slotOrigin, zoneOf, Framed}
 use Rattle.slots.specs.declared.slot.Origin.{Origin}
-use Rattle.slots.specs.Containing.{lessAt, withinSlots, loweredSlots, largestSlot, Readable}
+use Rattle.slots.specs.Containing.{lessAt, withinSlots, insideSlots, largestSlot, Readable}
 
 -- ---- how many places count
 module _ (n : ℕ) where
@@ -301,11 +301,11 @@ module _ (n : ℕ) (hd : List ℤ) (hd≡ : length hd ≡ fields) (z : List Pair
       counted-ind n (λ k t. withinSlots new old t ≡ withinTo n k z y) refl
       (λ k h c ih. rw (lt-ltb (k % 9) n c, less-slots k h c, ih)) (λ k c ih. rw (le-ltb (k % 9) n c) ih)
 
-  -- and so is the fraction after it
-  pub lowered-slots : (f : Fraction) → n ≤ 9 → loweredSlots new old (n * n) f ≡ loweredWithin n z y f
-  unfolding loweredSlots loweredTo
-  lowered-slots f =
-      counted-ind n (λ k t. loweredSlots new old t f ≡ loweredTo n k z y f) refl
+  -- and so is its lowest threshold
+  pub inside-slots : n ≤ 9 → insideSlots new old (n * n) ≡ insideBelow n z y
+  unfolding insideSlots insideTo
+  inside-slots =
+      counted-ind n (λ k t. insideSlots new old t ≡ insideTo n k z y) refl
       (λ k h c ih. let x = slot-pair-at n hd hd≡ z rest k h c in let o = slot-pair-at n hd′ hd′≡ y rest′ k h c in
       rw (lt-ltb (k % 9) n c) (λ i. loweredBy (ih i) (thresholdOf (x i) (o i))))
       (λ k c ih. rw (le-ltb (k % 9) n c) ih)

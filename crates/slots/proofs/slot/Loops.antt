@@ -29,7 +29,7 @@ use Rattle.runs.proofs.Contradictions.{true-false}
 use Rattle.zones.proofs.ranges.Ranges.{lowered-narrow, chosen-narrow, last-here}
 use Rattle.slots.specs.declared.slot.Origin.{Origin}
 use Rattle.slots.specs.Slots.{fields, longest, spare, mAt, pAt, pairsTo, flat, headOf, slotOf, slotPair, counted, squareTo, zoneOf}
-use Rattle.slots.specs.Containing.{lessAt, withinSlots, loweredSlots, largestSlot, ComparableSlots}
+use Rattle.slots.specs.Containing.{lessAt, withinSlots, insideSlots, largestSlot, ComparableSlots}
 use Rattle.slots.proofs.slot.Codec.{counted-in, counted-out, counted-all, counted-below, pairs-in, pairs-out, pairs-length, head-size}
 use Rattle.slots.proofs.slot.Codec.{flat-length, flat-append, square-in, square-out}
 
@@ -96,7 +96,7 @@ module _ (new old : List ℤ) (t : ℕ) where
             let q : oldM ≡ newM = omega (arith, int, ltZ-false oldM newM (tested ho hn false e), ltZ-false newM oldM g) in
             absurd (d (ap (ofZ w32) q))
 
-  -- ---- `lowered_within`: where the test holds, the new pair's m is not above the old one's
+  -- ---- `inside_below`: where the test holds, the new pair's m is not above the old one's
   not-above : (pairs : ℕ) → t < pairs → withinSlots new old pairs ≡ true → newM ≤ℤ oldM
   not-above pairs h w = go (ltZ oldM newM) refl
     where
@@ -105,12 +105,12 @@ module _ (new old : List ℤ) (t : ℕ) where
       go false e = ltZ-false oldM newM e
 
   -- a turn, x and y being the pairs that it read
-  module _ (f₀ : Fraction) {x y : Pair} (ex : x ≡ slotPair new t) (ey : y ≡ slotPair old t) where
-    pub turn-lowers : {f : Fraction} → f ≡ loweredSlots new old t f₀ → loweredBy f (thresholdOf x y) ≡ loweredSlots new old (t + 1) f₀
-    unfolding loweredSlots
+  module _ {x y : Pair} (ex : x ≡ slotPair new t) (ey : y ≡ slotPair old t) where
+    pub turn-lowers : {f : Fraction} → f ≡ insideSlots new old t → loweredBy f (thresholdOf x y) ≡ insideSlots new old (t + 1)
+    unfolding insideSlots
     turn-lowers e = rw add-one (λ i. loweredBy (e i) (thresholdOf (ex i) (ey i)))
 
-    module _ {pairs : ℕ} (c : ComparableSlots new old pairs f₀) (h : t < pairs) where
+    module _ {pairs : ℕ} (c : ComparableSlots new old pairs) (h : t < pairs) where
       pub turn-ready : ChoiceReady x y
       turn-ready = rw (ex, ey) (record { chosen = c .new-bounded t h; other = c .old-bounded t h; order = not-above pairs h (c .inside) })
 
@@ -118,6 +118,15 @@ module _ (new old : List ℤ) (t : ℕ) where
       turn-fits {f} k =
           let r = turn-ready in
           lowered-narrow widest widest f _ k (chosen-narrow widest widest scale lastCounts last-here _ _ (r .chosen) (r .other) (r .order))
+
+-- the lowest threshold of a test that holds is in range
+pub slots-fit : (new old : List ℤ) (pairs : ℕ) → ComparableSlots new old pairs → Fits32 (insideSlots new old pairs)
+unfolding insideSlots
+slots-fit new old pairs c = go pairs (omega arith)
+  where
+    go : (t : ℕ) → t ≤ pairs → Fits32 (insideSlots new old t)
+    go zero h = record { n = omega arith; d = omega arith }
+    go (suc t) h = turn-fits new old t refl refl c h (go t (omega arith))
 
 -- ---- `largest_count`
 module _ (s : List ℤ) (t : ℕ) {most p : ℕ} (e : most ≡ largestSlot s t) (ep : p ≡ slotPair s t .p) where

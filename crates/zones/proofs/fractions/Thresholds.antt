@@ -13,13 +13,13 @@ use Rattle.zones.specs.declared.fraction.Fraction.{Fraction}
 use Rattle.zones.specs.declared.pair.Pair.{Pair}
 use Rattle.zones.specs.Integers.{up, down}
 use Rattle.zones.proofs.pairs.Integers.{int, le-read, lt-read, sum-law, times-law, abs-gap}
-use Rattle.zones.specs.Fractions.{loweredBy}
+use Rattle.zones.specs.Fractions.{loweredBy, AtMost}
 use Rattle.zones.specs.Pairs.{zeroPair, sumOf, isLess, thresholdOf, smallerOf}
 use Rattle.zones.specs.Values.{valueOf, Below}
 use Rattle.zones.proofs.pairs.Choices.{less-shows, not-less-shows, threshold-cases, smaller-cases, lowered-cases}
 
 -- ---- numerators
-threshold-n : (a b : Pair) → (b .p < a .p → a .m <ℤ b .m) → 0 < thresholdOf a b .n
+pub threshold-n : (a b : Pair) → (b .p < a .p → a .m <ℤ b .m) → 0 < thresholdOf a b .n
 threshold-n a b h =
     threshold-cases a b (λ f. 0 < f .n) (λ t. let l = h t in omega (arith, lt-read l, abs-gap (a .m) (b .m) (omega (arith, int)))) (λ t. omega arith)
 
@@ -83,6 +83,16 @@ module _ (s e : ℕ) where
       threshold-cases a b (λ f. Below s e f → valueOf s e a <ℤ valueOf s e b) (λ l t. above a b l (omega (arith, int)) t)
       (λ l t. omega (arith, int, value-law a, value-law b, mul-lt-mul-of-pos-right (lt-read h) s>, mul-le-mul-right e l))
 
+  -- and where it has, the error is below the threshold
+  back-gap : (a b : Pair) (d n : ℕ) → d + b .p ≡ a .p → n + (up (a .m) + down (b .m)) ≡ up (b .m) + down (a .m) →
+      valueOf s e a <ℤ valueOf s e b → e * d < n * s
+  back-gap a b d n g f v = omega (arith, int, value-law a, value-law b, ap (λ (x : ℕ). x * s) f, ap (λ (x : ℕ). x * e) g)
+
+  pub threshold-back : 0 < s → (a b : Pair) → a .m ≤ℤ b .m → valueOf s e a <ℤ valueOf s e b → Below s e (thresholdOf a b)
+  threshold-back s> a b h v =
+      threshold-cases a b (Below s e) (λ l. back-gap a b (a .p - b .p) (natAbs (b .m -ℤ a .m)) (omega arith) (abs-gap (a .m) (b .m) h) v)
+      (λ l. omega arith)
+
   -- and the smaller of two pairs the smaller of their values
   pub smaller-sound : (a b : Pair) → Below s e (smallerOf a b .threshold) →
       (valueOf s e (smallerOf a b .pair) ≤ℤ valueOf s e a) × (valueOf s e (smallerOf a b .pair) ≤ℤ valueOf s e b)
@@ -129,3 +139,16 @@ module _ (s e : ℕ) where
   -- and below both is below the lower
   pub lowered-below : (f g : Fraction) → Below s e f → Below s e g → Below s e (loweredBy f g)
   lowered-below f g h k = lowered-cases f g (Below s e) (λ l. k) (λ l. h)
+
+  -- what is below a fraction is below one that it is not above
+  pub at-most-below : (f g : Fraction) → 0 < s → 0 < g .n → AtMost f g → Below s e f → Below s e g
+  at-most-below f g h k = other-of f g h (omega arith)
+
+-- and where every error below f is below g, f is not above g: at g itself no error is below it
+pub below-at-most : (f g : Fraction) → ((s e : ℕ) → 0 < s → Below s e f → Below s e g) → AtMost f g
+below-at-most f g h = go (decLt 0 (g .d)) (decLt (g .n * f .d) (f .n * g .d))
+  where
+    go : Dec (0 < g .d) → Dec (g .n * f .d < f .n * g .d) → f .n * g .d ≤ g .n * f .d
+    go (yes p) (yes q) = absurd (omega (arith, h (g .d) (g .n) p q))
+    go (yes p) (no q) = omega arith
+    go (no p) q = let z : g .d ≡ 0 = omega arith in rw z (omega arith)

@@ -11,10 +11,10 @@ use native.Mathlib.Decide.{ℕ-discrete}
 use native.Mathlib.Nat.{not-suc-le-zero}
 use Rattle.zones.specs.declared.fraction.Fraction.{Fraction}
 use Rattle.zones.specs.declared.pair.Pair.{Pair}
-use Rattle.zones.specs.Fractions.{loweredBy}
+use Rattle.zones.specs.Fractions.{noLimit, loweredBy}
 use Rattle.zones.specs.Pairs.{isLess, thresholdOf}
 use Rattle.zones.specs.Zones.{pairAt}
-use Rattle.zones.specs.Containment.{placeOf, withinTo, within, loweredTo, larger, countTo, largestCount}
+use Rattle.zones.specs.Containment.{placeOf, withinTo, within, insideTo, insideBelow, larger, countTo, largestCount}
 use Rattle.zones.specs.Ranges.{Bounded, AllBounded, Fits32, lastCounts, widest}
 use Rattle.runs.specs.Limits.{scale}
 use Rattle.runs.proofs.Contradictions.{true-false}
@@ -46,16 +46,16 @@ module _ (n : ℕ) (z y : List Pair) where
       next-shows k (within-shows k) (ltb (k % 9) n) (isLess (placeOf y k) (placeOf z k)) refl refl e m hm c (ℕ-discrete m k)
 
   -- what each lowering keeps, they all keep
-  pub lowered-ind : (P : Fraction → Type 0) (f : Fraction) (K : ℕ) →
-      ((k : ℕ) (g : Fraction) → k < K → k % 9 < n → P g → P (loweredBy g (thresholdOf (placeOf z k) (placeOf y k)))) → P f → (k : ℕ) → k ≤ K →
-      P (loweredTo n k z y f)
-  unfolding loweredTo
-  lowered-ind P f K s p zero h = p
-  lowered-ind P f K s p (suc k) h = go (lowered-ind P f K s p k (omega arith)) (ltb (k % 9) n) refl
+  pub inside-ind : (P : Fraction → Type 0) (K : ℕ) →
+      ((k : ℕ) (g : Fraction) → k < K → k % 9 < n → P g → P (loweredBy g (thresholdOf (placeOf z k) (placeOf y k)))) → P noLimit → (k : ℕ) → k ≤ K →
+      P (insideTo n k z y)
+  unfolding insideTo
+  inside-ind P K s p zero h = p
+  inside-ind P K s p (suc k) h = go (inside-ind P K s p k (omega arith)) (ltb (k % 9) n) refl
     where
-      go : P (loweredTo n k z y f) → (t : Bool) → ltb (k % 9) n ≡ t →
-          P (cond t (loweredBy (loweredTo n k z y f) (thresholdOf (placeOf z k) (placeOf y k))) (loweredTo n k z y f))
-      go q true e = s k (loweredTo n k z y f) h (ltb-true (k % 9) n e) q
+      go : P (insideTo n k z y) → (t : Bool) → ltb (k % 9) n ≡ t →
+          P (cond t (loweredBy (insideTo n k z y) (thresholdOf (placeOf z k) (placeOf y k))) (insideTo n k z y))
+      go q true e = s k (insideTo n k z y) h (ltb-true (k % 9) n e) q
       go q false e = q
 
 -- ---- the largest count
@@ -97,7 +97,8 @@ module _ (z y : List Pair) (n : ℕ) (new : AllBounded scale lastCounts n z) (ol
       chosen-narrow widest widest scale lastCounts last-here (placeOf z k) (placeOf y k)
       (bounded-place scale lastCounts n z k new hk hc) (bounded-place scale lastCounts n y k old hk hc) least
 
-  pub lowered-fits : (f : Fraction) → Fits32 f → (k : ℕ) → k ≤ n * 9 → Fits32 (loweredTo n k z y f)
-  lowered-fits f p k hk =
-      lowered-ind n z y Fits32 f (n * 9)
-      (λ k g hk hc q. lowered-narrow widest widest g (thresholdOf (placeOf z k) (placeOf y k)) q (threshold-fits k hk hc)) p k hk
+  pub inside-fits : Fits32 (insideBelow n z y)
+  inside-fits =
+      inside-ind n z y Fits32 (n * 9)
+      (λ k g hk hc q. lowered-narrow widest widest g (thresholdOf (placeOf z k) (placeOf y k)) q (threshold-fits k hk hc))
+      (record { n = omega arith; d = omega arith }) (n * 9) (omega arith)

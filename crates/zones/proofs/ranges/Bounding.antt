@@ -26,7 +26,7 @@ use Rattle.zones.proofs.sets.Meeting.{met-ind}
 use Rattle.zones.proofs.pairs.Order.{_≼_, ≼-refl, ≼-trans, smaller-left}
 use Rattle.zones.proofs.places.Places.{first-at, first-size, lower-size, lower-place, RaisedBy, raised-by, reset-by, home-zero, home-below}
 use Rattle.zones.proofs.reductions.Progress.{Alive, along}
-use Rattle.zones.proofs.ranges.Ranges.{lowered-narrow, smaller-bounded, both-narrow, bounded-spread, reduce-narrow}
+use Rattle.zones.proofs.ranges.Ranges.{lowered-narrow, smaller-bounded, both-narrow, bounded-spread, reduce-narrow, reduce-safe}
 use Rattle.zones.proofs.ranges.Size.{reduce-spread}
 use Rattle.zones.proofs.sets.Steps.{reduce-ind, reduce-size, reduce-signs}
 
@@ -142,6 +142,10 @@ module _ (N D C P n : ℕ) (enough : Suffices N D C P) (n≤ : n ≤ 9) (n> : 0 
   pub reduced-narrow : Narrow N D (reduceOf n w .work .fraction)
   reduced-narrow = reduce-narrow N D C P enough n w n≤ alive (r .ranged .bounded) (r .narrow) n (omega arith)
 
+  -- and so is what the safe one is lowered by
+  pub reduced-safe : Narrow N D (reduceOf n w .safe)
+  reduced-safe = reduce-safe N D C P enough n w n≤ alive (r .ranged .bounded) n (omega arith)
+
   pub reduced-ranged : reduceOf n w .empty ≡ false → Ranged C (10 * P) n (reduceOf n w .work)
   reduced-ranged live = record {
     size = reduce-size 1 0 (omega arith) n n≤ w (r .ranged .size);
@@ -227,6 +231,9 @@ module _ (P n : ℕ) (P> : 0 < P) (P≤ : P ≤ stepCounts) (n≤ : n ≤ 9) (w 
 
   pub reduced-fits : 0 < n → Fits32 (reduceOf n w .work .fraction)
   reduced-fits n> = reduced-narrow widest widest scale P n (fewer-suffice P P> P≤) n≤ n> w r
+
+  pub safe-fits : 0 < n → Fits32 (reduceOf n w .safe)
+  safe-fits n> = reduced-safe widest widest scale P n (fewer-suffice P P> P≤) n≤ n> w r
 
   pub sized-reduce : 0 < n → reduceOf n w .empty ≡ false → Sized (10 * P) n (reduceOf n w .work)
   sized-reduce n> live = record { ranged = reduced-ranged widest widest scale P n (fewer-suffice P P> P≤) n≤ n> w r live; narrow = reduced-fits n> }

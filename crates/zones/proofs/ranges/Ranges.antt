@@ -2,28 +2,30 @@
 -- Assumes nothing.
 use Prim.Native.Nat.{ℕ, zero, suc, _+_, _<_, _≤_}
 use mathlib.Core.Path.{_≡_, refl, sym, ap, _∙_, subst}
-use mathlib.Core.Bool.{Bool, true, false}
+use mathlib.Core.Bool.{Bool, true, false, cond}
+use mathlib.Core.Logic.{⊎-elim}
 use lib.ListN.{length}
 use lib.IntN.{pos, negℤ}
-use lib.Signed.{_≤ℤ_}
+use lib.Signed.{_≤ℤ_, ltZ}
 use native.Mathlib.Omega.{arith}
 use native.Mathlib.Nat.{mul-le-mul-right}
 use Rattle.zones.specs.declared.fraction.Fraction.{Fraction}
 use Rattle.zones.specs.declared.pair.Pair.{Pair}
+use Rattle.zones.specs.declared.reduction.Diagonal.{Diagonal}
 use Rattle.zones.specs.declared.reduction.Reduced.{Reduced}
 use Rattle.zones.specs.declared.zone.Bounds.{Bounds}
 use Rattle.zones.specs.declared.zone.Work.{Work}
 use Rattle.zones.specs.Integers.{up, down}
-use Rattle.zones.proofs.pairs.Integers.{abs-law, abs-gap, neg-law}
+use Rattle.zones.proofs.pairs.Integers.{int, one-side, ltZ-true, abs-law, abs-gap, neg-law}
 use Rattle.zones.specs.Fractions.{loweredBy}
-use Rattle.zones.specs.Pairs.{atMost, atLeast, sumOf, smallerOf, thresholdOf}
+use Rattle.zones.specs.Pairs.{zeroPair, atMost, atLeast, sumOf, smallerOf, thresholdOf}
 use Rattle.zones.specs.Zones.{entry, lowerAt, upperMet}
-use Rattle.zones.specs.Reductions.{relaxed, rowSteps, roundSteps, afterMiddle, reduceSteps}
-use Rattle.zones.specs.Ranges.{Bounded, Narrow, Small, Fits32, Spread, Suffices, stepCounts, lastCounts, widest, Ready, RoundReady, LimitsReady}
+use Rattle.zones.specs.Reductions.{relaxed, rowSteps, roundSteps, emptyBelow, afterMiddle, reduceSteps}
+use Rattle.zones.specs.Ranges.{Bounded, Narrow, Small, Fits32, Spread, Suffices, stepCounts, lastCounts, widest, Ready, RoundReady, DiagonalReady, LimitsReady}
 use Rattle.runs.specs.Limits.{scale}
 use Rattle.zones.proofs.pairs.Choices.{less-shows, not-less-shows, threshold-cases, smaller-cases, lowered-cases}
-use Rattle.zones.proofs.reductions.Rounds.{RowDone, row-done, reads-at, reads-to, reads-from, RoundDone, round-done, middle, still, row-skip}
-use Rattle.zones.proofs.reductions.Progress.{Alive, along, after-live, after-empty}
+use Rattle.zones.proofs.reductions.Rounds.{chosen, RowDone, row-done, reads-at, reads-to, reads-from, RoundDone, round-done, middle, still, row-skip}
+use Rattle.zones.proofs.reductions.Progress.{Alive, along, seenIn, leaves, after-live, after-empty}
 use Rattle.zones.proofs.pairs.Order.{sum-p}
 use Rattle.zones.proofs.ranges.Size.{sum-up, sum-down, reduce-spread}
 
@@ -60,11 +62,42 @@ module _ (N D C P : ℕ) (enough : Suffices N D C P) where
       (λ e. threshold-narrow N D a (sumOf x y) (omega (arith, enough .n, enough .one))
       (not-less-shows a (sumOf x y) e .0) (omega (arith, enough .n)) (omega (arith, enough .d)))
 
+  chosen-spread : (a x y : Pair) → Spread C P 9 a → Spread C P 9 x → Spread C P 9 y → Spread C P 18 (smallerOf a (sumOf x y) .pair)
+  chosen-spread a x y h k l =
+      let v = sum-down x y in
+      let c = sum-p x y in
+      smaller-cases a (sumOf x y) (λ c. Spread C P 18 (c .pair))
+      (λ e.
+      let m = less-shows (sumOf x y) a e .0 in
+      record {
+        high = ⊎-elim (λ z. omega arith) (λ z. omega (arith, int, h .high)) (one-side (sumOf x y .m));
+        deep = omega (arith, k .deep, l .deep);
+        p = omega (arith, k .p, l .p);
+      })
+      (λ e. record { high = h .high; deep = omega (arith, h .deep); p = omega (arith, h .p) })
+
   -- two pairs of a square, or a limit
   pub both-narrow : (a b : Pair) → Bounded C P a → Bounded C P b → Narrow N D (smallerOf a b .threshold)
   both-narrow a b h k =
       smaller-cases a b (λ c. Narrow N D (c .threshold)) (λ e. chosen-narrow b a k h (less-shows b a e .0))
       (λ e. chosen-narrow a b h k (not-less-shows a b e .0))
+
+  -- ---- the diagonal after a round
+  pub diagonal-narrow : (q : Pair) → Spread C P 18 q → q .m ≤ℤ pos 0 → Narrow N D (thresholdOf q zeroPair)
+  diagonal-narrow q h l =
+      threshold-narrow N D q zeroPair (omega (arith, enough .n, enough .one)) l (omega (arith, enough .n, h .deep)) (omega (arith, enough .d, h .p))
+
+  pub safe-narrow : (i : ℕ) (w : Work) → ((a : ℕ) → a < i → Spread C P 18 (entry w a a)) → Narrow N D (emptyBelow i w)
+  unfolding emptyBelow
+  safe-narrow zero w h = record { n = omega (arith, enough .n, enough .one); d = omega arith }
+  safe-narrow (suc i) w h = go (safe-narrow i w (λ a ha. h a (omega arith))) (ltZ (entry w i i .m) (pos 0)) refl
+    where
+      go : Narrow N D (emptyBelow i w) → (t : Bool) → ltZ (entry w i i .m) (pos 0) ≡ t →
+          Narrow N D (cond t (loweredBy (emptyBelow i w) (thresholdOf (entry w i i) zeroPair)) (emptyBelow i w))
+      go k true e =
+          let l = ltZ-true (entry w i i .m) (pos 0) e in
+          lowered-narrow N D _ _ k (diagonal-narrow (entry w i i) (h i (omega arith)) (omega (arith, int)))
+      go k false e = k
 
   -- ---- a round: what its steps read is as it was when it began
   module _ (n k : ℕ) (w : Work) (size : length (w .zone) ≡ 81) (n≤ : n ≤ 9) (k< : k < n) (diagonal : pos 0 ≤ℤ entry w k k .m)
@@ -119,6 +152,13 @@ module _ (N D C P : ℕ) (enough : Suffices N D C P) where
     round-narrow h zero hi = h
     round-narrow h (suc i) hi = row-narrow i hi (round-narrow h i (omega arith)) n (omega arith)
 
+    -- every entry after it
+    pub after-spread : (a b : ℕ) → a < n → b < n → Spread C P 18 (entry (roundSteps n k n w) a b)
+    unfolding chosen
+    after-spread a b ha hb =
+        let d = round-done w n k n≤ k< diagonal size n (omega arith) in
+        rw (d .done a b ha hb) (chosen-spread (entry w a b) (entry w a k) (entry w k b) (spread a b ha hb) (spread a k ha k<) (spread k b k< hb))
+
     -- the running fraction inside the round
     pub inside-narrow : Narrow N D (w .fraction) → (i j : ℕ) → i < n → j ≤ n → Narrow N D (rowSteps k i j (roundSteps n k i w) .fraction)
     inside-narrow h i j hi hj = row-narrow i hi (round-narrow h i (omega arith)) j hj
@@ -153,7 +193,27 @@ module _ (N D C P : ℕ) (enough : Suffices N D C P) where
             let a = alive-at k (omega arith) e in
             rw (after-live n k r e) (whole-narrow n k (r .work) (a .size) n≤ h (a .diagonal k h) (spread-at k h e) q)
 
+    -- and what the safe fraction is lowered by
+    pub reduce-safe : (k : ℕ) → k ≤ n → Narrow N D (reduceSteps n k w .safe)
+    unfolding reduceSteps
+    reduce-safe zero h = record { n = omega (arith, enough .n, enough .one); d = omega arith }
+    reduce-safe (suc k) h = go (reduceSteps n k w .empty) refl (reduce-safe k (omega arith))
+      where
+        r : Reduced
+        r = reduceSteps n k w
+
+        go : (t : Bool) → reduceSteps n k w .empty ≡ t → Narrow N D (reduceSteps n k w .safe) →
+            Narrow N D (afterMiddle n k (reduceSteps n k w) .safe)
+        go true e q = rw (after-empty n k r e) q
+        go false e q =
+            let a = alive-at k (omega arith) e in
+            rw (after-live n k r e) (safe-narrow n (roundSteps n k n (r .work))
+            (λ b hb. after-spread n k (r .work) (a .size) n≤ h (a .diagonal k h) (spread-at k h e) b b hb hb))
+
 -- ---- what the code asks
+pub diagonal-small : {a : Pair} → Spread scale stepCounts 18 a → Small a
+diagonal-small {a} h = record { m = omega (arith, h .high, h .deep, abs-law (a .m)); p = omega (arith, h .p) }
+
 pub bounded-small : {a : Pair} → Bounded scale lastCounts a → Small a
 bounded-small h = record { m = omega (arith, h .m); p = omega (arith, h .p) }
 
@@ -198,9 +258,9 @@ module _ (n : ℕ) (w : Work) (size : length (w .zone) ≡ 81) (r : Ready w n) w
   alive : Alive n w
   alive = record { size = size; diagonal = r .diagonal }
 
-  pub round-ready : (k : ℕ) (v : Work) → k < n → reduceSteps n k w ≡ record { work = v; empty = false } → RoundReady v n k
-  round-ready k v h e =
-      let f = ap (λ (x : Reduced). x .empty) e in
+  pub round-ready : (k : ℕ) (v : Work) {d : Diagonal} → k < n → reduceSteps n k w ≡ leaves v d → d .empty ≡ false → RoundReady v n k
+  round-ready k v h e g =
+      let f = ap (λ (x : Reduced). x .empty) e ∙ g in
       subst (λ (x : Reduced). RoundReady (x .work) n k) e (record {
         n≤ = r .n≤;
         k< = h;
@@ -231,18 +291,29 @@ pub turn-narrow : (s : Work) (k i j : ℕ) → TurnReady s k i j → Fits32 (sma
 turn-narrow s k i j t = choice-narrow widest widest scale stepCounts here _ _ _ (t .at) (t .to) (t .from)
 
 -- ---- in the reduction of w: what its loops ask, v being the zone after k middle indices
-module _ (n : ℕ) (w : Work) (size : length (w .zone) ≡ 81) (r : Ready w n) (k : ℕ) (v : Work) (k< : k < n)
-    (e : reduceSteps n k w ≡ record { work = v; empty = false }) where
+module _ (n : ℕ) (w : Work) (size : length (w .zone) ≡ 81) (r : Ready w n) (k : ℕ) (v : Work) {d : Diagonal} (k< : k < n)
+    (e : reduceSteps n k w ≡ leaves v d) (g : d .empty ≡ false) where
   ready : RoundReady v n k
-  ready = round-ready n w size r k v k< e
+  ready = round-ready n w size r k v k< e g
 
   long : length (v .zone) ≡ 81
   long = subst (λ (x : Reduced). length (x .work .zone) ≡ 81) e
       (alive-at widest widest scale stepCounts here n w (r .n≤)
-      (record { size = size; diagonal = r .diagonal }) (r .bounded) k (omega arith) (ap (λ (x : Reduced). x .empty) e) .size)
+      (record { size = size; diagonal = r .diagonal }) (r .bounded) k (omega arith) (ap (λ (x : Reduced). x .empty) e ∙ g) .size)
 
   pub turn-of : (i j : ℕ) → i < n → j < n → (u s : Work) → u ≡ roundSteps n k i v → s ≡ rowSteps k i j u → TurnReady s k i j
   turn-of = turn-ready n k v long ready
 
   pub skip-of : {u : Work} (i : ℕ) → i ≡ k → u ≡ roundSteps n k i v → u ≡ roundSteps n k (i + 1) v
   skip-of i f = row-skip n k i v (r .n≤) k< f (ready .diagonal) long
+
+  -- the diagonal of u, the zone after this round
+  diagonal-spread : (u : Work) → u ≡ roundSteps n k n v → (a : ℕ) → a < n → Spread scale stepCounts 18 (entry u a a)
+  diagonal-spread u f a ha =
+      rw f (after-spread widest widest scale stepCounts here n k v long (r .n≤) k< (ready .diagonal) (ready .spread) a a ha ha)
+
+  pub diagonal-of : (u : Work) → u ≡ roundSteps n k n v → (a : ℕ) → a < n → {s : Diagonal} → s ≡ seenIn a u → DiagonalReady s (entry u a a)
+  diagonal-of u f a ha g = record {
+    safe = rw g (safe-narrow widest widest scale stepCounts here a u (λ b hb. diagonal-spread u f b (omega arith)));
+    spread = diagonal-spread u f a ha;
+  }

@@ -10,29 +10,62 @@ use native.Mathlib.Numerals.{add-one}
 use native.Mathlib.Omega.{arith}
 use native.Mathlib.Decide.{ℕ-discrete, le-ind}
 use native.Mathlib.Nat.{not-suc-le-zero}
+use Rattle.zones.specs.declared.fraction.Fraction.{Fraction}
+use Rattle.zones.specs.declared.pair.Pair.{Pair}
+use Rattle.zones.specs.declared.reduction.Diagonal.{Diagonal}
 use Rattle.zones.specs.declared.reduction.Reduced.{Reduced}
 use Rattle.zones.specs.declared.zone.Work.{Work}
 use Rattle.zones.proofs.pairs.Integers.{ltZ-false, le-ltZ}
+use Rattle.zones.specs.Fractions.{noLimit, loweredBy}
+use Rattle.zones.specs.Pairs.{zeroPair, thresholdOf}
 use Rattle.zones.specs.Zones.{entry}
-use Rattle.zones.specs.Reductions.{roundSteps, emptyIn, afterMiddle, reduceSteps}
+use Rattle.zones.specs.Reductions.{roundSteps, emptyIn, emptyBelow, seenWith, nonEmpty, afterMiddle, reduceSteps}
 use Rattle.runs.proofs.Contradictions.{true-false}
 use Rattle.zones.proofs.reductions.Rounds.{RoundDone, round-done}
 
--- ---- the test of the diagonal
-pub empty-yes : (i : ℕ) (w : Work) → 0 < i → ltZ (entry w (i - 1) (i - 1) .m) (pos 0) ≡ true → emptyIn i w ≡ true
-unfolding emptyIn
-empty-yes zero w h e = absurd (not-suc-le-zero h)
-empty-yes (suc i) w h e = let f : suc i - 1 ≡ i = omega arith in rw (rw f at e)
+-- ---- what the diagonal shows
+-- of the first i pairs
+abbrev pub seenIn : ℕ → Work → Diagonal
+seenIn i w = record { empty = emptyIn i w; safe = emptyBelow i w }
 
-pub empty-no : (i : ℕ) (w : Work) → 0 < i → ltZ (entry w (i - 1) (i - 1) .m) (pos 0) ≡ false → emptyIn i w ≡ emptyIn (i - 1) w
-unfolding emptyIn
-empty-no zero w h e = absurd (not-suc-le-zero h)
-empty-no (suc i) w h e = let f : suc i - 1 ≡ i = omega arith in rw (rw f at e) (ap (λ (n : ℕ). emptyIn n w) (sym f))
+-- a zone whose diagonal shows d
+abbrev pub leaves : Work → Diagonal → Reduced
+leaves w d = record { work = w; empty = d .empty; safe = d .safe }
 
-pub empty-none : (i : ℕ) (w : Work) → i ≤ 0 → emptyIn i w ≡ false
-unfolding emptyIn
-empty-none zero w h = refl
-empty-none (suc i) w h = absurd (not-suc-le-zero h)
+-- nothing below 0
+abbrev pub unseen : Diagonal
+unseen = record { empty = false; safe = noLimit }
+
+pub seen-none : (w : Work) → unseen ≡ seenIn 0 w
+unfolding emptyIn emptyBelow
+seen-none w = refl
+
+pub seen-first : (w v : Work) → seenIn 0 w ≡ seenIn 0 v
+unfolding emptyIn emptyBelow
+seen-first w v = refl
+
+pub seen-next : (i : ℕ) (w : Work) → seenWith (entry w i i) (seenIn i w) ≡ seenIn (suc i) w
+unfolding emptyIn emptyBelow seenWith
+seen-next i w = go (ltZ (entry w i i .m) (pos 0))
+  where
+    go : (t : Bool) → cond t (record { empty = true; safe = loweredBy (emptyBelow i w) (thresholdOf (entry w i i) zeroPair) }) (seenIn i w)
+        ≡ record {
+          empty = cond t true (emptyIn i w);
+          safe = cond t (loweredBy (emptyBelow i w) (thresholdOf (entry w i i) zeroPair)) (emptyBelow i w);
+        }
+    go true = refl
+    go false = refl
+
+-- one pair more, as the code has it
+module _ (q : Pair) (d : Diagonal) where
+  pub seen-below : ltZ (q .m) (pos 0) ≡ true → {t f : Fraction} → t ≡ thresholdOf q zeroPair → f ≡ loweredBy (d .safe) t →
+      record { empty = true; safe = f } ≡ seenWith q d
+  unfolding seenWith
+  seen-below e g h = rw e (λ i. record { empty = true; safe = (h ∙ ap (loweredBy (d .safe)) g) i })
+
+  pub seen-above : ltZ (q .m) (pos 0) ≡ false → d ≡ seenWith q d
+  unfolding seenWith
+  seen-above e = rw e refl
 
 -- a zone that is not empty has no diagonal entry below 0
 pub diagonals : (n : ℕ) (w : Work) → emptyIn n w ≡ false → (a : ℕ) → a < n → pos 0 ≤ℤ entry w a a .m
@@ -51,9 +84,19 @@ unfolding emptyIn
 live-all zero w h = refl
 live-all (suc n) w h = rw (le-ltZ (entry w n n .m) (pos 0) (h n (omega arith))) (live-all n w (λ a ha. h a (omega arith)))
 
+-- and nothing lowers the safe fraction
+pub safe-all : (n : ℕ) (w : Work) → ((a : ℕ) → a < n → pos 0 ≤ℤ entry w a a .m) → emptyBelow n w ≡ noLimit
+unfolding emptyBelow
+safe-all zero w h = refl
+safe-all (suc n) w h = rw (le-ltZ (entry w n n .m) (pos 0) (h n (omega arith))) (safe-all n w (λ a ha. h a (omega arith)))
+
+-- what the diagonal of such a zone shows
+pub seen-all : (n : ℕ) (w : Work) → ((a : ℕ) → a < n → pos 0 ≤ℤ entry w a a .m) → seenIn n w ≡ unseen
+seen-all n w h = λ i. record { empty = live-all n w h i; safe = safe-all n w h i }
+
 -- ---- where it stops
 pub after-live : (n k : ℕ) (r : Reduced) → r .empty ≡ false →
-    afterMiddle n k r ≡ record { work = roundSteps n k n (r .work); empty = emptyIn n (roundSteps n k n (r .work)) }
+    afterMiddle n k r ≡ leaves (roundSteps n k n (r .work)) (seenIn n (roundSteps n k n (r .work)))
 unfolding afterMiddle
 after-live n k r e = rw e
 
@@ -72,6 +115,16 @@ pub stays : (n k : ℕ) (w : Work) → reduceSteps n k w .empty ≡ true → (j 
 unfolding reduceSteps
 stays n k w e = le-ind (λ (j : ℕ). reduceSteps n j w ≡ reduceSteps n k w) refl
     (λ j h q. after-empty n j (reduceSteps n j w) (ap (λ (x : Reduced). x .empty) q ∙ e) ∙ q)
+
+-- while it is not empty, nothing lowers the safe fraction
+pub live-safe : (n k : ℕ) (w : Work) → reduceSteps n k w .empty ≡ false → reduceSteps n k w .safe ≡ noLimit
+unfolding reduceSteps
+live-safe n zero w e = refl
+live-safe n (suc k) w e =
+    let r = reduceSteps n k w in
+    let v = roundSteps n k n (r .work) in
+    let a = after-live n k r (live-before n k r e) in
+    ap (λ (x : Reduced). x .safe) a ∙ safe-all n v (diagonals n v (sym (ap (λ (x : Reduced). x .empty) a) ∙ e))
 
 -- ---- the zone while it is not empty
 pub record Alive (n : ℕ) (w : Work) : Type 0 where
@@ -99,23 +152,23 @@ module _ (n : ℕ) (w : Work) (n≤ : n ≤ 9) (start : Alive n w) where
       record { size = d .size; diagonal = diagonals n (roundSteps n k n (r .work)) (sym (ap (λ (x : Reduced). x .empty) a) ∙ e) } in
       subst (λ (x : Reduced). Alive n (x .work) × Q (suc k) (x .work)) (sym a) (z, f k (r .work) h (i .0) z d (i .1))
 
--- ---- as the code counts: w is the zone after k middle indices
-module _ (n k : ℕ) (w₀ w : Work) where
-  pub reduced-end : reduceSteps n k w₀ ≡ record { work = w; empty = false } → k ≡ n → record { work = w; empty = false } ≡ reduceSteps n n w₀
-  reduced-end e h = sym e ∙ ap (λ (x : ℕ). reduceSteps n x w₀) h
+-- ---- as the code counts: w is the zone after k middle indices, and d what its diagonal shows
+module _ (n k : ℕ) (w₀ w : Work) (d : Diagonal) (e : reduceSteps n k w₀ ≡ leaves w d) where
+  pub reduced-end : k ≡ n → leaves w d ≡ reduceSteps n n w₀
+  reduced-end h = sym e ∙ ap (λ (x : ℕ). reduceSteps n x w₀) h
 
-  module _ (v : Work) (e : reduceSteps n k w₀ ≡ record { work = w; empty = false }) (f : v ≡ roundSteps n k n w) where
-    next : (t : Bool) → emptyIn n v ≡ t → reduceSteps n (suc k) w₀ ≡ record { work = v; empty = t }
+  pub reduced-stop : d .empty ≡ true → k ≤ n → leaves w d ≡ reduceSteps n n w₀
+  reduced-stop f h = sym (stays n k w₀ (ap (λ (x : Reduced). x .empty) e ∙ f) n h ∙ e)
+
+  module _ (f : d .empty ≡ false) where
+    -- the diagonal is looked at anew from what a zone that is not empty shows
+    pub seen-live : d ≡ seenIn 0 w
+    seen-live =
+        let g = ap (λ (x : Reduced). x .empty) e ∙ f in
+        let h = sym (ap (λ (x : Reduced). x .safe) e) ∙ live-safe n k w₀ g in
+        (λ i. record { empty = f i; safe = h i }) ∙ seen-none w
+
+    pub reduced-next : (v : Work) → v ≡ roundSteps n k n w → {s : Diagonal} → s ≡ seenIn n v → reduceSteps n (k + 1) w₀ ≡ leaves v s
     unfolding reduceSteps
-    next t g =
-        let a : emptyIn n (roundSteps n k n w) ≡ t = ap (emptyIn n) (sym f) ∙ g in
-        let b = sym f in
-        ap (afterMiddle n k) e ∙ after-live n k (record { work = w; empty = false }) refl ∙ (λ i. record { work = b i; empty = a i })
-
-    pub reduced-next : emptyIn n v ≡ false → reduceSteps n (k + 1) w₀ ≡ record { work = v; empty = false }
-    reduced-next g = rw add-one (next false g)
-
-    pub reduced-stop : emptyIn n v ≡ true → k < n → record { work = v; empty = true } ≡ reduceSteps n n w₀
-    reduced-stop g h =
-        let q = next true g in
-        sym (stays n (suc k) w₀ (ap (λ (x : Reduced). x .empty) q) n h ∙ q)
+    reduced-next v g {s} h =
+        rw add-one (ap (afterMiddle n k) e ∙ after-live n k (leaves w d) f ∙ ap (λ (u : Work). leaves u (seenIn n u)) (sym g) ∙ ap (leaves v) (sym h))

@@ -9,22 +9,24 @@ use lib.IntN.{pos}
 use lib.Signed.{_≤ℤ_, _<ℤ_, ltZ}
 use native.Mathlib.Omega.{arith}
 use native.Mathlib.Nat.{not-suc-le-zero}
+use Rattle.zones.specs.declared.fraction.Fraction.{Fraction}
 use Rattle.zones.specs.declared.pair.Pair.{Pair}
 use Rattle.zones.specs.declared.pair.Choice.{Choice}
 use Rattle.zones.specs.declared.reduction.Reduced.{Reduced}
 use Rattle.zones.specs.declared.zone.Work.{Work}
 use Rattle.zones.proofs.pairs.Integers.{int, ltZ-true}
+use Rattle.zones.specs.Fractions.{noLimit}
 use Rattle.zones.specs.Pairs.{sumOf}
 use Rattle.zones.specs.Zones.{entry}
-use Rattle.zones.specs.Reductions.{relaxed, rowSteps, roundSteps, emptyIn, afterMiddle, reduceSteps}
+use Rattle.zones.specs.Reductions.{relaxed, rowSteps, roundSteps, emptyIn, emptyBelow, afterMiddle, reduceSteps}
 use Rattle.zones.specs.Values.{valueOf, Below}
 use Rattle.zones.specs.Sets.{In, squareOf}
 use Rattle.zones.specs.Moves.{Closed, Shaped, Low}
 use Rattle.runs.proofs.Contradictions.{true-false}
-use Rattle.zones.proofs.sets.Diagonals.{Signs, negative-none, sign-zero}
+use Rattle.zones.proofs.sets.Diagonals.{Signs, safe-n, negative-none, signs-below, sign-zero}
 use Rattle.zones.proofs.sets.Lowering.{lower-limits, falls-in}
 use Rattle.zones.proofs.pairs.Order.{smaller-or}
-use Rattle.zones.proofs.reductions.Progress.{after-live, after-empty, Alive, along}
+use Rattle.zones.proofs.reductions.Progress.{after-live, after-empty, live-safe, Alive, along}
 use Rattle.zones.proofs.reductions.Rounds.{chosen, row-done, row-same, RoundDone, round-done, round-same, still}
 use Rattle.zones.proofs.sets.Squares.{up-to, Round, Through, round-through}
 use Rattle.zones.proofs.sets.Steps.{row-falls, reduce-size, reduce-falls, reduce-signs, reduce-keeps}
@@ -54,13 +56,44 @@ empty-shows n w (suc k) e = go (empty-shows n w k) (reduceSteps n k w .empty) re
     go ih true f g = subst (λ (x : Reduced). emptyIn n (x .work) ≡ true) (sym (after-empty n k r f)) (ih f)
     go ih false f g = subst (λ (x : Reduced). x .empty ≡ true → emptyIn n (x .work) ≡ true) (sym (after-live n k r f)) (λ q. q) g
 
+-- what the safe fraction is lowered by, of a zone that is empty
+safe-shows : (n : ℕ) (w : Work) (k : ℕ) → reduceSteps n k w .empty ≡ true → reduceSteps n k w .safe ≡ emptyBelow n (reduceSteps n k w .work)
+unfolding reduceSteps
+safe-shows n w zero e = true-false (sym e)
+safe-shows n w (suc k) e = go (safe-shows n w k) (reduceSteps n k w .empty) refl
+  where
+    r : Reduced
+    r = reduceSteps n k w
+
+    go : (r .empty ≡ true → r .safe ≡ emptyBelow n (r .work)) → (t : Bool) → r .empty ≡ t →
+        afterMiddle n k r .safe ≡ emptyBelow n (afterMiddle n k r .work)
+    go ih true f = subst (λ (x : Reduced). x .safe ≡ emptyBelow n (x .work)) (sym (after-empty n k r f)) (ih f)
+    go ih false f = subst (λ (x : Reduced). x .safe ≡ emptyBelow n (x .work)) (sym (after-live n k r f)) refl
+
+-- by cases: it is not empty, or it is
+safe-cases : (n : ℕ) (w : Work) (P : Fraction → Type 0) → (reduceSteps n n w .empty ≡ false → P noLimit) →
+    (reduceSteps n n w .empty ≡ true → P (emptyBelow n (reduceSteps n n w .work))) → P (reduceSteps n n w .safe)
+safe-cases n w P f g = go (reduceSteps n n w .empty) refl
+  where
+    go : (t : Bool) → reduceSteps n n w .empty ≡ t → P (reduceSteps n n w .safe)
+    go true e = subst P (sym (safe-shows n w n e)) (g e)
+    go false e = subst P (sym (live-safe n n w e)) (f e)
+
+pub reduce-some : (n : ℕ) (w : Work) → 0 < reduceSteps n n w .safe .n
+reduce-some n w = safe-cases n w (λ f. 0 < f .n) (λ e. omega arith) (λ e. safe-n n (reduceSteps n n w .work))
+
 module _ (s e : ℕ) (s> : 0 < s) (n : ℕ) (n≤ : n ≤ 9) where
-  pub reduce-none : (w : Work) → length (w .zone) ≡ 81 → Signs s e s> n w → reduceSteps n n w .empty ≡ true →
-      Below s e (reduceSteps n n w .work .fraction) → (v : ℕ → ℕ) → In n (squareOf s e w) v → ⊥
-  reduce-none w size h q t v i =
+  pub reduce-none : (w : Work) → length (w .zone) ≡ 81 → reduceSteps n n w .empty ≡ true → Below s e (reduceSteps n n w .safe) →
+      (v : ℕ → ℕ) → In n (squareOf s e w) v → ⊥
+  reduce-none w size q t v i =
       let a = empty-at n (reduceSteps n n w .work) (empty-shows n w n q) in
-      negative-none s e s> n (reduceSteps n n w .work) (a .0) (a .1) (reduce-signs s e s> n n≤ w size h) (a .2) t v
+      negative-none s e s> n (reduceSteps n n w .work) (a .0) (a .1) (a .2) (subst (Below s e) (safe-shows n w n q) t) v
       (reduce-keeps s e s> n n≤ w size v i)
+
+  reduce-tight : (w : Work) → length (w .zone) ≡ 81 → Signs s e s> n w → Below s e (reduceSteps n n w .work .fraction) →
+      Below s e (reduceSteps n n w .safe)
+  reduce-tight w size h t = safe-cases n w (Below s e) (λ q. omega (arith, s>))
+      (λ q. signs-below s e s> n n (reduceSteps n n w .work) (omega arith) (reduce-signs s e s> n n≤ w size h) t)
 
   -- ---- the thresholds of a round
   limits : (w : Work) (k i j : ℕ) → Below s e (relaxed k i j w .fraction) → Below s e (w .fraction) × Below s e (chosen k i j w .threshold)
@@ -148,13 +181,17 @@ module _ (s e : ℕ) (s> : 0 < s) (c : ℕ) (n≤ : suc c ≤ 9) (w : Work) (g :
   pub reduce-before : Below s e (reduceSteps (suc c) (suc c) w .work .fraction) → Below s e (w .fraction)
   reduce-before = reduce-falls s e s> (suc c) n≤ w (g .size) .before
 
-  -- below the running fraction, a zone with a valuation is not declared empty
-  pub reduce-live : Below s e (reduceSteps (suc c) (suc c) w .work .fraction) → (v : ℕ → ℕ) → In (suc c) (squareOf s e w) v →
+  -- what is below the running fraction is below what the safe one is lowered by
+  pub reduce-tighter : Below s e (reduceSteps (suc c) (suc c) w .work .fraction) → Below s e (reduceSteps (suc c) (suc c) w .safe)
+  reduce-tighter = reduce-tight s e s> (suc c) n≤ w (g .size) signs
+
+  -- below that, a zone with a valuation is not declared empty
+  pub reduce-live : Below s e (reduceSteps (suc c) (suc c) w .safe) → (v : ℕ → ℕ) → In (suc c) (squareOf s e w) v →
       reduceSteps (suc c) (suc c) w .empty ≡ false
   reduce-live t v i = go (reduceSteps (suc c) (suc c) w .empty) refl
     where
       go : (b : Bool) → reduceSteps (suc c) (suc c) w .empty ≡ b → reduceSteps (suc c) (suc c) w .empty ≡ false
-      go true q = absurd (reduce-none s e s> (suc c) n≤ w (g .size) signs q t v i)
+      go true q = absurd (reduce-none s e s> (suc c) n≤ w (g .size) q t v i)
       go false q = q
 
   module _ (live : reduceSteps (suc c) (suc c) w .empty ≡ false) where

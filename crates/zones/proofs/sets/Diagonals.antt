@@ -1,10 +1,12 @@
--- The diagonal: an entry is (0, 0), or it has m below 0 and, below the running fraction, a value below 0.
+-- The diagonal: an entry is (0, 0), or it has m below 0 and, below the running fraction, a value below 0; and what the safe fraction is lowered by.
 -- Assumes nothing.
-use Prim.Native.Nat.{ℕ, _<_, _≤_}
+use Prim.Native.Nat.{ℕ, zero, suc, _<_, _≤_}
 use mathlib.Core.Path.{_≡_, refl, sym, ap, subst}
 use mathlib.Core.Bool.{Bool, true, false, cond}
 use mathlib.Core.Logic.{_⊎_, inl, inr, ⊎-elim}
 use borrow.Author.Tests.{ltb-true}
+use native.Mathlib.Decide.{ℕ-discrete}
+use native.Mathlib.Nat.{not-suc-le-zero}
 use lib.Dec.{ltb}
 use lib.ListN.{length}
 use lib.IntN.{pos}
@@ -14,8 +16,10 @@ use Rattle.zones.specs.declared.fraction.Fraction.{Fraction}
 use Rattle.zones.specs.declared.pair.Pair.{Pair}
 use Rattle.zones.specs.declared.zone.Work.{Work}
 use Rattle.zones.specs.Integers.{up, down}
-use Rattle.zones.proofs.pairs.Integers.{int, le-read, lt-read, ltZ-true}
+use Rattle.zones.proofs.pairs.Integers.{int, le-read, lt-read, eq-read, ltZ-true, ltZ-false}
+use Rattle.zones.specs.Fractions.{loweredBy}
 use Rattle.zones.specs.Pairs.{zeroPair, isLess, thresholdOf, smallerOf}
+use Rattle.zones.specs.Reductions.{emptyBelow}
 use Rattle.zones.specs.Zones.{entry, lowerAt}
 use Rattle.zones.specs.Values.{valueOf, Below}
 use Rattle.zones.specs.Sets.{In, squareOf}
@@ -23,7 +27,8 @@ use Rattle.runs.proofs.Contradictions.{true-false}
 use Rattle.zones.proofs.pairs.Choices.{less-shows, smaller-cases}
 use Rattle.zones.proofs.sets.Lowering.{lower-limits}
 use Rattle.zones.proofs.places.Places.{lower-place}
-use Rattle.zones.proofs.fractions.Thresholds.{zero-value, threshold-strict, smaller-sound}
+use Rattle.zones.proofs.fractions.Thresholds.{zero-value, threshold-n, threshold-strict, threshold-back, smaller-sound}
+use Rattle.zones.proofs.fractions.Thresholds.{lowered-n, lowered-sound, lowered-below}
 
 -- what is smaller than (0, 0) has m below 0
 less-zero : (q : Pair) → isLess q zeroPair ≡ true → q .m <ℤ pos 0
@@ -35,6 +40,20 @@ less-zero q e = go (ltZ (q .m) (pos 0)) (ltZ (pos 0) (q .m)) (ltb (q .p) 0) refl
     go false true c f g h = true-false (sym h)
     go false false true f g h = let z : ⊥ = omega (arith, ltb-true (q .p) 0 g) in absurd z
     go false false false f g h = true-false (sym h)
+
+-- the threshold of a pair with m below 0 against (0, 0) is not 0
+beside-zero : (q : Pair) → q .m <ℤ pos 0 → 0 < thresholdOf q zeroPair .n
+beside-zero q m = threshold-n q zeroPair (λ l. m)
+
+pub safe-n : (n : ℕ) (w : Work) → 0 < emptyBelow n w .n
+unfolding emptyBelow
+safe-n zero w = omega arith
+safe-n (suc n) w = go (safe-n n w) (ltZ (entry w n n .m) (pos 0)) refl
+  where
+    go : 0 < emptyBelow n w .n → (b : Bool) → ltZ (entry w n n .m) (pos 0) ≡ b →
+        0 < cond b (loweredBy (emptyBelow n w) (thresholdOf (entry w n n) zeroPair)) (emptyBelow n w) .n
+    go k true f = lowered-n (emptyBelow n w) (thresholdOf (entry w n n) zeroPair) k (beside-zero (entry w n n) (ltZ-true _ _ f))
+    go k false f = k
 
 new-threshold : (d q : Pair) → isLess q d ≡ true → smallerOf d q .threshold ≡ thresholdOf q d
 unfolding smallerOf
@@ -80,14 +99,47 @@ module _ (s e : ℕ) (s> : 0 < s) where
       (subst (λ (x : ℕ). Sign (w .fraction) (entry w i x)) g (h i i<)))
       a a (omega arith) (λ g. ⊎-elim inl (λ k. inr (record { m = k .m; value = λ t. k .value (lower-limits s e s> w i j q t .0) })) (h a ha)) refl
 
-  -- a zone with a negative diagonal has no valuation below the running fraction
-  pub negative-none : (n : ℕ) (w : Work) (a : ℕ) → a < n → Signs n w → entry w a a .m <ℤ pos 0 → Below s e (w .fraction) → (v : ℕ → ℕ) →
-      In n (squareOf s e w) v → ⊥
-  negative-none n w a ha h m t v i = go (h a ha)
+  -- ---- what the safe fraction is lowered by
+  -- each threshold against (0, 0) is one of them
+  below-each : (n : ℕ) (w : Work) → Below s e (emptyBelow n w) → (a : ℕ) → a < n → entry w a a .m <ℤ pos 0 →
+      Below s e (thresholdOf (entry w a a) zeroPair)
+  unfolding emptyBelow
+  below-each zero w t a ha m = absurd (not-suc-le-zero ha)
+  below-each (suc n) w t a ha m = go (below-each n w) (ltZ (entry w n n .m) (pos 0)) refl t (ℕ-discrete a n)
     where
-      go : Sign (w .fraction) (entry w a a) → ⊥
-      go (inl z) = omega (arith, lt-read m, ap (λ (q : Pair). up (q .m)) z, ap (λ (q : Pair). down (q .m)) z)
-      go (inr k) = omega (arith, lt-read (k .value t), i .gaps a a ha ha)
+      go : (Below s e (emptyBelow n w) → (a : ℕ) → a < n → entry w a a .m <ℤ pos 0 → Below s e (thresholdOf (entry w a a) zeroPair)) →
+          (b : Bool) → ltZ (entry w n n .m) (pos 0) ≡ b →
+          Below s e (cond b (loweredBy (emptyBelow n w) (thresholdOf (entry w n n) zeroPair)) (emptyBelow n w)) → Dec (a ≡ n) →
+          Below s e (thresholdOf (entry w a a) zeroPair)
+      go ih true f t d =
+          let l = lowered-sound s e (emptyBelow n w) (thresholdOf (entry w n n) zeroPair) s> (beside-zero (entry w n n) (ltZ-true _ _ f)) t in
+          elim d [ yes q ↦ rw q (l .1) | no q ↦ ih (l .0) a (omega arith) m ]
+      go ih false f t (yes q) = let z = ltZ-false (entry w n n .m) (pos 0) f in let k = subst (λ (x : ℕ). entry w x x .m <ℤ pos 0) q m in
+          absurd (omega (arith, le-read z, lt-read k))
+      go ih false f t (no q) = ih t a (omega arith) m
+
+  -- a zone with a diagonal pair below 0 has no valuation below them
+  pub negative-none : (n : ℕ) (w : Work) (a : ℕ) → a < n → entry w a a .m <ℤ pos 0 → Below s e (emptyBelow n w) → (v : ℕ → ℕ) →
+      In n (squareOf s e w) v → ⊥
+  negative-none n w a ha m t v i =
+      let k = threshold-strict s e s> (entry w a a) zeroPair m (below-each n w t a ha m) in
+      omega (arith, lt-read k, eq-read (zero-value s e), i .gaps a a ha ha)
+
+  -- and what is below the running fraction is below them: the comparison that made a diagonal pair lowered it by as much
+  pub signs-below : (n m : ℕ) (w : Work) → m ≤ n → Signs n w → Below s e (w .fraction) → Below s e (emptyBelow m w)
+  unfolding emptyBelow
+  signs-below n zero w hm h t = omega (arith, s>)
+  signs-below n (suc m) w hm h t = go (signs-below n m w (omega arith) h t) (ltZ (entry w m m .m) (pos 0)) refl (h m hm)
+    where
+      go : Below s e (emptyBelow m w) → (b : Bool) → ltZ (entry w m m .m) (pos 0) ≡ b → Sign (w .fraction) (entry w m m) →
+          Below s e (cond b (loweredBy (emptyBelow m w) (thresholdOf (entry w m m) zeroPair)) (emptyBelow m w))
+      go k false f d = k
+      go k true f (inl z) =
+          let l = ltZ-true (entry w m m .m) (pos 0) f in
+          absurd (omega (arith, lt-read l, ap (λ (q : Pair). up (q .m)) z, ap (λ (q : Pair). down (q .m)) z))
+      go k true f (inr d) = lowered-below s e (emptyBelow m w) (thresholdOf (entry w m m) zeroPair) k
+          (let a = d .m in let b = d .value t in let o = zero-value s e in
+          threshold-back s e s> (entry w m m) zeroPair (omega (arith, int)) (omega (arith, int)))
 
   -- a diagonal entry whose m is not below 0 is (0, 0)
   pub sign-zero : (f : Fraction) (q : Pair) → Sign f q → pos 0 ≤ℤ q .m → q ≡ zeroPair

@@ -7,7 +7,7 @@ use native.Mathlib.Omega.{arith}
 use Rattle.zones.specs.declared.zone.Work.{Work}
 use Rattle.runs.specs.Limits.{Limits, Within}
 use Rattle.zones.specs.Zones.{raiseLimits, resetOf}
-use Rattle.zones.specs.Reductions.{reduceSteps}
+use Rattle.zones.specs.Reductions.{nonEmpty, reduceSteps}
 use Rattle.zones.specs.Successors.{andThen, meetOf, enterOf, followOf}
 use Rattle.zones.specs.Sets.{squareOf, Has, Put, Waits, Enters, Follows}
 use Rattle.zones.specs.Moves.{Closed, Shaped, Low, Includes, Exact}
@@ -83,20 +83,20 @@ module _ (s e : ℕ) (s> : 0 < s) (c : ℕ) (n≤ : suc c ≤ 9) (I : Limits) (p
     follows-jump v v′ q = (v, (refl, q .guard), (q .after, q .put, q .enters))
 
     module _ (u : Work) (y : Shaped c u) where
-      put : Includes s e c (Put (suc c) R) u (record { work = resetOf (suc c) R u; empty = false })
+      put : Includes s e c (Put (suc c) R) u (nonEmpty (resetOf (suc c) R u))
       put = reset-includes s e s> c n≤ u y R R0 (resetOf (suc c) R u) (reset-by (suc c) n≤ R u (y .size))
 
       next-includes : Includes s e c (Then (Put (suc c) R) (Enters s e c I)) u (enterOf c I (resetOf (suc c) R u))
       unfolding andThen
       next-includes =
-          includes-then s e c (Put (suc c) R) (Enters s e c I) u (record { work = resetOf (suc c) R u; empty = false }) (enterOf c I) put
+          includes-then s e c (Put (suc c) R) (Enters s e c I) u (nonEmpty (resetOf (suc c) R u)) (enterOf c I) put
           (λ l. enter-includes (resetOf (suc c) R u) (put .shaped refl))
 
       next-exact : Closed (suc c) (squareOf s e u) → Exact s e c (Then (Put (suc c) R) (Enters s e c I)) u (enterOf c I (resetOf (suc c) R u))
       unfolding andThen
       next-exact z =
           let x = reset-exact s e s> c n≤ u y R R0 (resetOf (suc c) R u) (reset-by (suc c) n≤ R u (y .size)) z in
-          exact-then s e c (Put (suc c) R) (Enters s e c I) u (record { work = resetOf (suc c) R u; empty = false }) (enterOf c I) x
+          exact-then s e c (Put (suc c) R) (Enters s e c I) u (nonEmpty (resetOf (suc c) R u)) (enterOf c I) x
           (λ l. (
             enter-includes (resetOf (suc c) R u) (put .shaped refl) .before,
             λ t. enter-exact (resetOf (suc c) R u) (put .shaped refl) (x .closed refl t .low),

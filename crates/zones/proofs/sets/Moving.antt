@@ -14,13 +14,13 @@ use Rattle.zones.proofs.pairs.Integers.{int, le-read}
 use Rattle.zones.specs.Pairs.{atMost}
 use Rattle.runs.specs.Limits.{Limits, Within}
 use Rattle.zones.specs.Zones.{home, meetLimits}
-use Rattle.zones.specs.Reductions.{reduceSteps}
+use Rattle.zones.specs.Reductions.{nonEmpty, reduceSteps}
 use Rattle.zones.specs.Successors.{andThen, meetOf}
 use Rattle.zones.specs.Values.{valueOf, Below}
 use Rattle.zones.specs.Sets.{squareOf, Has, Put, Waits}
 use Rattle.zones.specs.Moves.{Closed, Shaped, Low, Includes, Exact}
 use Rattle.runs.proofs.Contradictions.{true-false}
-use Rattle.zones.proofs.sets.Closing.{reduce-into, reduce-from, reduce-before, reduce-live, reduce-shaped, reduce-closed}
+use Rattle.zones.proofs.sets.Closing.{reduce-some, reduce-into, reduce-from, reduce-before, reduce-tighter, reduce-live, reduce-shaped, reduce-closed}
 use Rattle.zones.proofs.sets.Meeting.{most-value, met-proper, meet-shaped, meet-before, meet-low, meet-into, meet-from}
 use Rattle.zones.proofs.places.Places.{ResetBy, RaisedBy, home-below}
 use Rattle.zones.proofs.sets.Squares.{Resets, Raises, reset-into, reset-from, reset-closed, wait-into, wait-from}
@@ -78,6 +78,8 @@ module _ (s e c : ℕ) where
         shaped = m .shaped;
         into = λ l v v′ h g. true-false (sym q ∙ l);
         live = λ t v v′ h g. m .live t v (g .0) h (g .1);
+        tighter = m .tighter;
+        some = m .some;
       })
       go false q =
           let n = k q in
@@ -87,6 +89,8 @@ module _ (s e c : ℕ) where
             shaped = n .shaped;
             into = λ l v v′ h g. n .into l (g .0) v′ (m .into q v (g .0) h (g .1)) (g .2);
             live = λ t v v′ h g. n .live t (g .0) v′ (m .into q v (g .0) h (g .1)) (g .2);
+            tighter = n .tighter;
+            some = n .some;
           })
 
   pub exact-then : (S T : Rel) (w : Work) (r : Reduced) (f : Work → Reduced) → Exact s e c S w r →
@@ -114,6 +118,8 @@ module _ (s e c : ℕ) where
     shaped = m .shaped;
     into = λ l v v′ h q. m .into l v v′ h (g v v′ q);
     live = λ t v v′ h q. m .live t v v′ h (g v v′ q);
+    tighter = m .tighter;
+    some = m .some;
   }
 
   pub exact-same : (S T : Rel) (w : Work) (r : Reduced) → ((v v′ : ℕ → ℕ) → S v v′ → T v v′) → Exact s e c S w r → Exact s e c T w r
@@ -136,6 +142,8 @@ module _ (s e : ℕ) (s> : 0 < s) (c : ℕ) (n≤ : suc c ≤ 9) (w : Work) (g :
         shaped = reduce-shaped s e s> c n≤ u m;
         into = λ l v v′ h q. rw (q .0) (reduce-into s e s> c n≤ u m v (meet-into s e s> c n≤ L w g v h (q .1)));
         live = λ t v v′ h q. reduce-live s e s> c n≤ u m t v (meet-into s e s> c n≤ L w g v h (q .1));
+        tighter = reduce-tighter s e s> c n≤ u m;
+        some = reduce-some (suc c) u;
       }
 
   pub meet-exact : (L : Limits) → Low (suc c) (squareOf s e w) → Exact s e c (Stays L) w (meetOf c L w)
@@ -152,16 +160,18 @@ module _ (s e : ℕ) (s> : 0 < s) (c : ℕ) (n≤ : suc c ≤ 9) (w : Work) (g :
 
   -- clocks are reset
   module _ (R : ℕ → Bool) (R0 : R 0 ≡ false) (w′ : Work) (b : ResetBy (suc c) R w w′) where
-    pub reset-includes : Includes s e c (Put (suc c) R) w (record { work = w′; empty = false })
+    pub reset-includes : Includes s e c (Put (suc c) R) w (nonEmpty w′)
     reset-includes = record {
       before = subst (Below s e) (b .fraction);
       proper = subst (λ (f : Fraction). 0 < f .n) (sym (b .fraction));
       shaped = λ l. reset-shaped s e c n≤ R w w′ b g;
       into = λ l v v′ h q. reset-into (suc c) R (omega arith) R0 (squareOf s e w) (squareOf s e w′) (reset-resets s e c n≤ R w w′ b) v v′ h q;
       live = λ t v v′ h q. refl;
+      tighter = λ t. omega (arith, s>);
+      some = omega arith;
     }
 
-    pub reset-exact : Closed (suc c) (squareOf s e w) → Exact s e c (Put (suc c) R) w (record { work = w′; empty = false })
+    pub reset-exact : Closed (suc c) (squareOf s e w) → Exact s e c (Put (suc c) R) w (nonEmpty w′)
     reset-exact z =
         let r = reset-resets s e c n≤ R w w′ b in
         record {
@@ -193,6 +203,8 @@ module _ (s e : ℕ) (s> : 0 < s) (c : ℕ) (n≤ : suc c ≤ 9) (w : Work) (g :
       shaped = reduce-shaped s e s> c n≤ u m;
       into = λ l v v′ i q. reduce-into s e s> c n≤ u m v′ (into v v′ i q);
       live = λ t v v′ i q. reduce-live s e s> c n≤ u m t v′ (into v v′ i q);
+      tighter = reduce-tighter s e s> c n≤ u m;
+      some = reduce-some (suc c) u;
     }
 
     pub raise-exact : Closed (suc c) (squareOf s e w) → Exact s e c (Later s e c L) w (reduceSteps (suc c) (suc c) u)

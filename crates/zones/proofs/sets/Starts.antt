@@ -18,15 +18,15 @@ use Rattle.zones.proofs.pairs.Integers.{int, eq-read}
 use Rattle.zones.specs.Fractions.{loweredBy}
 use Rattle.zones.specs.Pairs.{thresholdOf}
 use Rattle.zones.specs.Zones.{pairAt, entry, firstWork}
-use Rattle.zones.specs.Containment.{placeOf, within, loweredTo, loweredWithin}
+use Rattle.zones.specs.Containment.{placeOf, within, insideTo, insideBelow}
 use Rattle.zones.specs.Values.{valueOf, Below}
 use Rattle.zones.specs.Sets.{squareOf, Has}
 use Rattle.zones.specs.Moves.{Shaped, Low}
 use Rattle.zones.proofs.pairs.Choices.{not-less-shows}
-use Rattle.zones.proofs.places.Inside.{within-shows, lowered-ind}
+use Rattle.zones.proofs.places.Inside.{within-shows, inside-ind}
 use Rattle.zones.proofs.places.Places.{first-at, first-size}
 use Rattle.zones.proofs.sets.Squares.{in-above, up-to}
-use Rattle.zones.proofs.fractions.Thresholds.{zero-value, threshold-sound, lowered-before, lowered-sound, lowered-n, beside-n}
+use Rattle.zones.proofs.fractions.Thresholds.{zero-value, threshold-sound, lowered-sound, lowered-n, beside-n}
 
 -- ---- the first zone: all clocks at 0
 module _ (s e : ℕ) (s> : 0 < s) (c : ℕ) (n≤ : suc c ≤ 9) where
@@ -46,33 +46,28 @@ module _ (s e : ℕ) (s> : 0 < s) (c : ℕ) (n≤ : suc c ≤ 9) where
   )
 
 -- ---- a zone inside another: the thresholds of the test are all that is needed
-pub lowered-falls : (n : ℕ) (z y : List Pair) (s e : ℕ) → 0 < s → (f : Fraction) → Below s e (loweredWithin n z y f) → Below s e f
-lowered-falls n z y s e s> f =
-    lowered-ind n z y (λ g. Below s e g → Below s e f) f (n * 9)
-    (λ k g hk hc q b. q (lowered-before s e g (thresholdOf (placeOf z k) (placeOf y k)) s> b)) (λ b. b) (n * 9) (omega arith)
-
 module _ (n : ℕ) (z y : List Pair) (h : within n z y ≡ true) where
-  pub inside-proper : (f : Fraction) → 0 < f .n → 0 < loweredWithin n z y f .n
-  inside-proper f p =
-      lowered-ind n z y (λ g. 0 < g .n) f (n * 9)
+  pub inside-proper : 0 < insideBelow n z y .n
+  inside-proper =
+      inside-ind n z y (λ g. 0 < g .n) (n * 9)
       (λ k g hk hc q. lowered-n g (thresholdOf (placeOf z k) (placeOf y k)) q
-      (beside-n (placeOf z k) (placeOf y k) (within-shows n z y (n * 9) h k hk hc))) p (n * 9) (omega arith)
+      (beside-n (placeOf z k) (placeOf y k) (within-shows n z y (n * 9) h k hk hc))) (omega arith) (n * 9) (omega arith)
 
   module _ (s e : ℕ) (s> : 0 < s) where
     -- the thresholds of the first k places
     record Tested (k : ℕ) : Type 0 where
       each : (m : ℕ) → m < k → m % 9 < n → Below s e (thresholdOf (placeOf z m) (placeOf y m))
 
-    next-tested : (f : Fraction) (k : ℕ) → k < n * 9 → (Below s e (loweredTo n k z y f) → Tested k) → (t : Bool) → ltb (k % 9) n ≡ t →
-        Below s e (cond t (loweredBy (loweredTo n k z y f) (thresholdOf (placeOf z k) (placeOf y k))) (loweredTo n k z y f)) → Tested (suc k)
-    next-tested f k hk ih true q b =
+    next-tested : (k : ℕ) → k < n * 9 → (Below s e (insideTo n k z y) → Tested k) → (t : Bool) → ltb (k % 9) n ≡ t →
+        Below s e (cond t (loweredBy (insideTo n k z y) (thresholdOf (placeOf z k) (placeOf y k))) (insideTo n k z y)) → Tested (suc k)
+    next-tested k hk ih true q b =
         let c = ltb-true (k % 9) n q in
         let l =
-        lowered-sound s e (loweredTo n k z y f) (thresholdOf (placeOf z k) (placeOf y k)) s>
+        lowered-sound s e (insideTo n k z y) (thresholdOf (placeOf z k) (placeOf y k)) s>
         (beside-n (placeOf z k) (placeOf y k) (within-shows n z y (n * 9) h k hk c)) b in
         let i = ih (l .0) in
         record { each = up-to (λ m. m % 9 < n → Below s e (thresholdOf (placeOf z m) (placeOf y m))) k (i .each) (λ x. l .1) }
-    next-tested f k hk ih false q b =
+    next-tested k hk ih false q b =
         let i = ih b in
         record {
           each =
@@ -80,22 +75,22 @@ module _ (n : ℕ) (z y : List Pair) (h : within n z y ≡ true) where
               (λ x. absurd (omega (arith, ltb-false (k % 9) n q)));
         }
 
-    tested : (f : Fraction) (k : ℕ) → k ≤ n * 9 → Below s e (loweredTo n k z y f) → Tested k
-    unfolding loweredTo
-    tested f zero hk b = record { each = λ m hm. absurd (not-suc-le-zero hm) }
-    tested f (suc k) hk b = next-tested f k hk (tested f k (omega arith)) (ltb (k % 9) n) refl b
+    tested : (k : ℕ) → k ≤ n * 9 → Below s e (insideTo n k z y) → Tested k
+    unfolding insideTo
+    tested zero hk b = record { each = λ m hm. absurd (not-suc-le-zero hm) }
+    tested (suc k) hk b = next-tested k hk (tested k (omega arith)) (ltb (k % 9) n) refl b
 
     -- each value of z is no larger than y's
-    pub inside-values : n ≤ 9 → (f : Fraction) → Below s e (loweredWithin n z y f) → (a b : ℕ) → a < n → b < n →
+    pub inside-values : n ≤ 9 → Below s e (insideBelow n z y) → (a b : ℕ) → a < n → b < n →
         valueOf s e (pairAt z a b) ≤ℤ valueOf s e (pairAt y a b)
     unfolding pairAt
-    inside-values n≤ f b i j hi hj =
+    inside-values n≤ b i j hi hj =
         let k = i * 9 + j in
         let col : k % 9 ≡ j = omega arith in
         threshold-sound s e (placeOf z k) (placeOf y k)
         (not-less-shows (placeOf z k) (placeOf y k) (within-shows n z y (n * 9) h k (omega arith) (omega arith)) .0)
-        (tested f (n * 9) (omega arith) b .each k (omega arith) (omega arith))
+        (tested (n * 9) (omega arith) b .each k (omega arith) (omega arith))
 
-pub inside-has : (s e : ℕ) → 0 < s → (c : ℕ) → suc c ≤ 9 → (w u : Work) (f : Fraction) → within (suc c) (w .zone) (u .zone) ≡ true →
-    Below s e (loweredWithin (suc c) (w .zone) (u .zone) f) → (v : ℕ → ℕ) → Has s e c w v → Has s e c u v
-inside-has s e s> c n≤ w u f h b v = in-above (suc c) (squareOf s e w) (squareOf s e u) v (inside-values (suc c) (w .zone) (u .zone) h s e s> n≤ f b)
+pub inside-has : (s e : ℕ) → 0 < s → (c : ℕ) → suc c ≤ 9 → (w u : Work) → within (suc c) (w .zone) (u .zone) ≡ true →
+    Below s e (insideBelow (suc c) (w .zone) (u .zone)) → (v : ℕ → ℕ) → Has s e c w v → Has s e c u v
+inside-has s e s> c n≤ w u h b v = in-above (suc c) (squareOf s e w) (squareOf s e u) v (inside-values (suc c) (w .zone) (u .zone) h s e s> n≤ b)

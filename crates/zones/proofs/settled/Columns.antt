@@ -14,13 +14,13 @@ use Rattle.zones.specs.declared.zone.Work.{Work}
 use Rattle.zones.proofs.pairs.Integers.{int, eq-read, sum-law}
 use Rattle.zones.specs.Pairs.{sumOf, isLess}
 use Rattle.zones.specs.Zones.{entry, lowerAt}
-use Rattle.zones.specs.Reductions.{relaxed, rowSteps, roundSteps, emptyIn, reduceSteps}
+use Rattle.zones.specs.Reductions.{relaxed, rowSteps, roundSteps, nonEmpty, reduceSteps}
 use Rattle.zones.specs.Values.{valueOf, Below}
 use Rattle.zones.specs.Settled.{Settled, Raised}
 use Rattle.zones.proofs.sets.Lowering.{lower-limits}
 use Rattle.zones.proofs.pairs.Order.{_≼_, ≼-refl, ≼-trans, ≼-sum, smaller-or}
 use Rattle.zones.proofs.places.Places.{lower-size, lower-at, lower-off}
-use Rattle.zones.proofs.reductions.Progress.{live-all, after-live}
+use Rattle.zones.proofs.reductions.Progress.{seenIn, leaves, unseen, seen-all, after-live}
 use Rattle.zones.proofs.reductions.Rounds.{col-still}
 use Rattle.zones.proofs.settled.Settled.{way-at-most, relaxed-follows}
 use Rattle.zones.proofs.fractions.Thresholds.{value-sum}
@@ -130,16 +130,16 @@ module _ (n : ℕ) (n≤ : n ≤ 9) (w : Work) (h : Settled n w) where
   zero-row v r k hk = sym (whole-row v r k 0 hk (omega arith) ∙ stays v r k 0 0 hk (omega arith) (omega arith) (r .zero))
 
   -- ---- as the code counts
-  pub column-first : (v : Work) → Raised n w v → 0 < n → reduceSteps n 1 v ≡ record { work = v; empty = false }
+  pub column-first : (v : Work) → Raised n w v → 0 < n → reduceSteps n 1 v ≡ nonEmpty v
   unfolding reduceSteps
   column-first v r p =
       let e = zero-round v r p n (omega arith) in
-      after-live n 0 (record { work = v; empty = false }) refl
-      ∙ (λ t. record { work = e t; empty = (ap (emptyIn n) e ∙ live-all n v (column-diagonal v r)) t })
+      after-live n 0 (nonEmpty v) refl
+      ∙ ap (λ (u : Work). leaves u (seenIn n u)) e ∙ ap (leaves v) (seen-all n v (column-diagonal v r))
 
   pub column-next : (v u : Work) → Raised n w u → (k i : ℕ) → k < n → i < n → u ≡ roundSteps n k i v → relaxed k i 0 u ≡ roundSteps n k (i + 1) v
   unfolding roundSteps
   column-next v u r k i hk hi e = rw add-one (sym (whole-row u r k i hk hi) ∙ ap (rowSteps k i n) e)
 
-  pub column-live : (v : Work) → Raised n w v → emptyIn n v ≡ false
-  column-live v r = live-all n v (column-diagonal v r)
+  pub column-live : (v : Work) → Raised n w v → unseen ≡ seenIn n v
+  column-live v r = sym (seen-all n v (column-diagonal v r))

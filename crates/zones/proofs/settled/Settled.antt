@@ -3,7 +3,7 @@
 use Prim.Native.Nat.{ℕ, zero, suc, _+_, _-_, _*_, _<_, _≤_}
 use mathlib.Core.Path.{_≡_, refl, sym, ap, _∙_, subst}
 use mathlib.Core.Bool.{false}
-use lib.IntN.{_-ℤ_, natAbs}
+use lib.IntN.{pos, _-ℤ_, natAbs}
 use lib.Signed.{_≤ℤ_}
 use native.Mathlib.Omega.{arith}
 use native.Mathlib.Decide.{decLt}
@@ -15,14 +15,14 @@ use Rattle.zones.proofs.pairs.Integers.{int, le-read, eq-read, sum-law,
 use Rattle.zones.specs.Fractions.{loweredBy}
 use Rattle.zones.specs.Pairs.{sumOf, isLess, thresholdOf}
 use Rattle.zones.specs.Zones.{entry}
-use Rattle.zones.specs.Reductions.{relaxed, rowSteps, roundSteps, emptyIn, afterMiddle, reduceSteps}
+use Rattle.zones.specs.Reductions.{relaxed, rowSteps, roundSteps, nonEmpty, afterMiddle, reduceSteps}
 use Rattle.zones.specs.Values.{valueOf, Below}
 use Rattle.zones.specs.Moves.{Way}
 use Rattle.zones.specs.Settled.{Settled}
 use Rattle.zones.proofs.pairs.Choices.{not-less-shows, threshold-cases, lowered-old}
 use Rattle.zones.proofs.sets.Lowering.{Falls, falls-refl}
 use Rattle.zones.proofs.pairs.Order.{_≼_, ≼-refl, ≼-trans}
-use Rattle.zones.proofs.reductions.Progress.{live-all, after-live}
+use Rattle.zones.proofs.reductions.Progress.{seenIn, leaves, seen-all, after-live}
 use Rattle.zones.proofs.reductions.Rounds.{relaxed-old}
 use Rattle.zones.proofs.fractions.Thresholds.{value-law, value-sum}
 
@@ -103,16 +103,16 @@ module _ (n : ℕ) (w : Work) (h : Settled n w) where
   settled-round k hk zero hi = refl
   settled-round k hk (suc i) hi = ap (rowSteps k i n) (settled-round k hk i (omega arith)) ∙ settled-row k i hk hi n (omega arith)
 
-  settled-live : emptyIn n w ≡ false
-  settled-live = live-all n w (λ a ha. omega (arith, int, ap (λ (q : Pair). q .m) (h .diagonal a ha)))
+  settled-live : (a : ℕ) → a < n → pos 0 ≤ℤ entry w a a .m
+  settled-live a ha = omega (arith, int, ap (λ (q : Pair). q .m) (h .diagonal a ha))
 
   -- no middle index changes it
-  pub settled-reduced : (k : ℕ) → k ≤ n → reduceSteps n k w ≡ record { work = w; empty = false }
+  pub settled-reduced : (k : ℕ) → k ≤ n → reduceSteps n k w ≡ nonEmpty w
   unfolding reduceSteps
   settled-reduced zero hk = refl
   settled-reduced (suc k) hk =
-      ap (afterMiddle n k) (settled-reduced k (omega arith)) ∙ after-live n k (record { work = w; empty = false }) refl
-      ∙ (λ t. record { work = settled-round k hk n (omega arith) t; empty = (ap (emptyIn n) (settled-round k hk n (omega arith)) ∙ settled-live) t })
+      ap (afterMiddle n k) (settled-reduced k (omega arith)) ∙ after-live n k (nonEmpty w) refl
+      ∙ ap (λ (v : Work). leaves v (seenIn n v)) (settled-round k hk n (omega arith)) ∙ ap (leaves w) (seen-all n w settled-live)
 
   -- at a lower running fraction it is settled too
   pub settled-later : (f : Fraction) → ((s e : ℕ) → 0 < s → Below s e f → Below s e (w .fraction)) →

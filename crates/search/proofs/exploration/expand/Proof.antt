@@ -51,10 +51,10 @@ module _ (c : tie.After-edge-of Inv-loop μ-loop) where
 
   -- the zone with the running fraction
   abbrev taken : Work
-  taken = record { zone = loop .loop .w .zone; fraction = loop .loop .t .fraction }
+  taken = record { zone = loop .loop .w .zone; fraction = loop .loop .t .exact }
 
-  taken-is : taken ≡ workOf (start .args .z) (loop .loop .t .fraction)
-  taken-is = λ k. record { zone = loop .loop .inv .2 k; fraction = loop .loop .t .fraction }
+  taken-is : taken ≡ workOf (start .args .z) (loop .loop .t .exact)
+  taken-is = λ k. record { zone = loop .loop .inv .2 k; fraction = loop .loop .t .exact }
 
   leaves : c .edge-of .result .from ≡ start .args .l → from (start .args .automaton .now) (loop .loop .i) ≡ start .args .l
   leaves e = sym (ap (λ (e : Edge). e .from) (c .edge-of .ensures)) ∙ e

@@ -7,7 +7,8 @@ use native.Mathlib.Omega.{arith}
 use Rattle.zones.specs.Successors.{meetOf}
 use Rattle.runs.proofs.Contradictions.{true-false}
 use Rattle.automata.specs.Automata.{clocks, edgeAt, guardOf}
-use Rattle.search.proofs.exploration.Arriving.{gives-of, taken-sized, follows-none, arrives, edge-to, follows, arrives-sound, arrives-at}
+use Rattle.search.proofs.exploration.Arriving.{gives-of, taken-sized, emptied-fits, follows-none, arrives, edge-to, follows, arrives-sound, arrives-at}
+use Rattle.search.proofs.exploration.Judging.{going-safe}
 use Rattle.automata.proofs.fields.Counting.{clocks≡, edge≡, asks-edge}
 use Rattle.automata.proofs.fields.Places.{edge-within}
 use Rattle.search.proofs.successor.Stepping.{meets, asks-limits, guard-scale}
@@ -58,11 +59,18 @@ module _ (c : tie.After-narrow) where
   unfolding guardOf
   met = meets _ _ (ap (λ x. x + 3) (place≡ (c .before))) (size≡ (c .before)) (c .narrow .ensures)
 
-returns : tie.Need-returns
-returns c =
+after-lowering-requires : tie.Need-after-lowering-requires
+after-lowering-requires c κs =
     let guard = c .before .before .before in
     let pre = start guard .pre in
-    follows-none _ (pre .0 .0) _ (pre .0 .1) _ (pre .1 .1) (pre .1 .2) (met guard) (c .before .before .if1 .taken) _ _ _ _
+    (going-safe _ (pre .0 .0) (pre .1 .0), emptied-fits _ (pre .0 .0) _ (pre .0 .1) _ (pre .1 .1) (pre .1 .2) (met guard))
+
+returns : tie.Need-returns
+returns c =
+    let none = c .before .before .before in
+    let guard = none .before in
+    let pre = start guard .pre in
+    follows-none _ (pre .0 .0) _ (pre .0 .1) _ (pre .1 .1) (pre .1 .2) (met guard) (none .if1 .taken) _ _ _ _ (c .after-lowering .ensures)
 
 arrive-requires : tie.Need-arrive-requires
 arrive-requires c κs =
@@ -86,4 +94,4 @@ returns-2 c =
     (follows _ a _ hi _ (pre .1 .1) (pre .1 .2) (met guard) live (pre .0 .2)) (c .before .arrive .ensures)
 
 pub follow-spec : {M : Type 1} → statement M
-follow-spec = tie.close (tie.spec counts-of-requires edge-at-requires add-at narrow-requires returns arrive-requires (λ c. search needs) returns-2)
+follow-spec = tie.close (tie.spec counts-of-requires edge-at-requires add-at narrow-requires after-lowering-requires returns arrive-requires (λ c. search needs) returns-2)

@@ -4,8 +4,9 @@ use Prim.Native.Nat.{ℕ, _+_, _*_, _≤_}
 use mathlib.Core.Path.{_≡_, ap}
 use lib.ListN.{length}
 use native.Mathlib.Omega.{arith}
+use Rattle.zones.specs.Ranges.{Fits32}
 use Rattle.slots.specs.Slots.{slotLength}
-use Rattle.search.proofs.exploration.Judging.{Entered, asks-encode, asks-find, asks-largest, slot-within, next-within, asks-lowered}
+use Rattle.search.proofs.exploration.Judging.{Entered, asks-encode, asks-find, asks-largest, slot-within, next-within, asks-inside, asks-lowered}
 use Rattle.search.proofs.exploration.Judging.{gives-inside, gives-big, gives-full, gives-kept}
 use Rattle.automata.proofs.fields.Counting.{size≡, few-clocks}
 use borrow.Author.Needs.{needs}
@@ -43,15 +44,15 @@ module _ (c : tie.After-find) where
   numbers = stride .before
 
   abbrev counted : tie.After-counts-of
-  counted = numbers .before .before .before .before
+  counted = numbers .before .before .before .before .before
 
 encode-requires : tie.Need-encode-requires
-encode-requires c κs = asks-encode (entered (c .before .before .before))
+encode-requires c κs = asks-encode (entered (c .before .before .before .before))
 
 find-requires : tie.Need-find-requires
 find-requires c κs =
     let numbers = c .before .before .before in
-    asks-find (entered (numbers .before .before .before .before)) (numbers .encode .ensures)
+    asks-find (entered (numbers .before .before .before .before .before)) (numbers .encode .ensures)
 
 -- ---- a kept slot contains it
 module _ (c : tie.Then1) where
@@ -66,27 +67,45 @@ module _ (c : tie.Then1) where
 mul-at : tie.Need-mul-at
 mul-at c = omega (arith, slot-inside c)
 
-mul-lowered-within : tie.Need-mul-lowered-within
-mul-lowered-within c = omega (arith, slot-inside (c .before))
+mul-inside-below : tie.Need-mul-inside-below
+mul-inside-below c = omega (arith, slot-inside (c .before))
 
-sub-lowered-within : tie.Need-sub-lowered-within
-sub-lowered-within c = omega (arith, slot-inside (c .before))
+sub-inside-below : tie.Need-sub-inside-below
+sub-inside-below c = omega (arith, slot-inside (c .before))
 
-part-lowered-within-start : tie.Need-part-lowered-within-start
-part-lowered-within-start c = omega (arith, slot-inside (c .before .before))
+part-inside-below-start : tie.Need-part-inside-below-start
+part-inside-below-start c = omega (arith, slot-inside (c .before .before))
 
-lowered-within-requires : tie.Need-lowered-within-requires
-lowered-within-requires c κs =
+inside-below-requires : tie.Need-inside-below-requires
+inside-below-requires c κs =
     let hit = c .before .before .before in
     let find = hit .before in
+    asks-inside (entered (counted find)) (numbers find .encode .ensures) (find .find .ensures) (hit .if1 .taken) (place≡ hit)
+
+-- what lowers both fractions is in range, and so are they
+lowered : (c : tie.After-inside-below) →
+    Fits32 (start (counted (c .before .before .before .before .before)) .args .w .fraction) ×
+    Fits32 (start (counted (c .before .before .before .before .before)) .args .turn .safe) × Fits32 (c .inside-below .result)
+lowered c =
+    let hit = c .before .before .before .before in
+    let find = hit .before in
     asks-lowered (entered (counted find)) (numbers find .encode .ensures) (find .find .ensures) (hit .if1 .taken) (place≡ hit)
+    (c .inside-below .ensures)
+
+after-lowering-requires : tie.Need-after-lowering-requires
+after-lowering-requires c κs = let l = lowered c in (l .0, l .2)
+
+after-lowering-requires-2 : tie.Need-after-lowering-requires-2
+after-lowering-requires-2 c κs = let l = lowered (c .before) in (l .1, l .2)
 
 returns : tie.Need-returns
 returns c =
-    let hit = c .before .before .before .before in
+    let exact = c .before in
+    let inside = exact .before in
+    let hit = inside .before .before .before .before in
     let find = hit .before in
     gives-inside (entered (counted find)) (numbers find .encode .ensures) (find .find .ensures) (hit .if1 .taken) (place≡ hit)
-    (c .lowered-within .ensures)
+    (inside .inside-below .ensures) (exact .after-lowering .ensures) (c .after-lowering2 .ensures)
 
 -- ---- none does
 largest-count-requires : tie.Need-largest-count-requires
@@ -101,10 +120,11 @@ module _ (c : tie.After-largest-count) where
 
 returns-2 : tie.Need-returns-2
 returns-2 c =
-    let last = c .before in
+    let last = c .before .before in
     let find = find last in
-    gives-big (entered (counted find)) (numbers find .encode .ensures) (find .find .ensures) (alone last .if1 .left)
-    (last .largest-count .ensures) (c .if2 .taken)
+    rw (c .refused .ensures)
+    (gives-big (entered (counted find)) (numbers find .encode .ensures) (find .find .ensures) (alone last .if1 .left)
+    (last .largest-count .ensures) (c .before .if2 .taken))
 
 module _ (c : tie.Then3) where
   abbrev last : tie.After-find
@@ -133,10 +153,11 @@ returns-3 c =
 
 returns-4 : tie.Need-returns-4
 returns-4 c =
-    let small = c .before in
+    let small = c .before .before in
     let find = find (small .before) in
-    gives-full (entered (counted find)) (numbers find .encode .ensures) (find .find .ensures) (alone (small .before) .if1 .left)
-    (small .before .largest-count .ensures) (small .if2 .left) (c .if3 .left)
+    rw (c .refused2 .ensures)
+    (gives-full (entered (counted find)) (numbers find .encode .ensures) (find .find .ensures) (alone (small .before) .if1 .left)
+    (small .before .largest-count .ensures) (small .if2 .left) (c .before .if3 .left))
 
 pub judge-spec : {M : Type 1} → statement M
 judge-spec =
@@ -145,22 +166,25 @@ judge-spec =
     counts-of-requires
     (λ c. omega (arith, few (c .before)))
     encode-requires
-    (λ c κs. omega (arith, few (c .before .before .before .before)))
+    (λ c κs. omega (arith, few (c .before .before .before .before .before)))
     (λ c. search needs)
     find-requires
     mul-at
     (λ c. search needs)
-    mul-lowered-within
-    sub-lowered-within
-    part-lowered-within-start
+    mul-inside-below
+    sub-inside-below
+    part-inside-below-start
     (λ c. search needs)
     (λ c. search needs)
-    lowered-within-requires
+    inside-below-requires
+    after-lowering-requires
+    after-lowering-requires-2
     (λ c. search needs)
     returns
     (λ c. search needs)
     (λ c. search needs)
     largest-count-requires
+    (λ c κs. search needs)
     (λ c. search needs)
     returns-2
     mul-keep
@@ -169,5 +193,6 @@ judge-spec =
     (λ c. search needs)
     (λ c. search needs)
     returns-3
+    (λ c κs. search needs)
     (λ c. search needs)
     returns-4)

@@ -1,7 +1,7 @@
 -- What has entered a location is empty, at the target, or judged: each is the definition's offer.
 -- Assumes nothing.
 use mathlib.Core.Path.{sym, _∙_}
-use Rattle.search.proofs.exploration.Judging.{gives-empty, gives-target, gives-judged}
+use Rattle.search.proofs.exploration.Judging.{going-safe, gives-empty, gives-target, gives-judged}
 use borrow.Author.Needs.{needs}
 use Rattle.search.proofs.exploration.offer.Statement.{statement}
 use Rattle.search.proofs.exploration.offer.Tie as tie
@@ -9,10 +9,17 @@ use Rattle.search.proofs.exploration.offer.Tie as tie
 -- ---- with the zone not empty
 module _ (c : tie.Else1) where
   abbrev start : tie.Start
-  start = c .before .before .before .before
+  start = c .before .before .before .before .before
+
+after-lowering-requires : tie.Need-after-lowering-requires
+after-lowering-requires c κs =
+    let pre = c .before .before .before .before .before .pre in
+    (going-safe _ (pre .0 .0) (pre .1 .0), pre .1 .1 .safe)
 
 returns : tie.Need-returns
-returns c = λ p. gives-empty _ _ _ _ _ (c .before .before .before .before .args .r) p (c .if1 .taken)
+returns c =
+    let none = c .before in
+    λ p. gives-empty _ _ _ _ _ (none .before .before .before .before .before .args .r) p (none .if1 .taken) (c .after-lowering .ensures)
 
 returns-2 : tie.Need-returns-2
 returns-2 c =
@@ -33,4 +40,4 @@ returns-3 c =
     λ p. gives-judged _ _ _ _ _ (start live .args .r) p (live .if1 .left) (c .before .judge .ensures)
 
 pub offer-spec : {M : Type 1} → statement M
-offer-spec = tie.close (tie.spec returns (λ c κs. search needs) returns-2 judge-requires (λ c. search needs) returns-3)
+offer-spec = tie.close (tie.spec after-lowering-requires returns (λ c κs. search needs) returns-2 judge-requires (λ c. search needs) returns-3)

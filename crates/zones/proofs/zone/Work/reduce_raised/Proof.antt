@@ -8,12 +8,12 @@ use lib.ListN.{length, length-map}
 use Rattle.zones.specs.declared.zone.Work.{Work}
 use Rattle.zones.specs.Zones.{pairAt}
 use Rattle.zones.specs.Ranges.{Fits32}
-use Rattle.zones.specs.Reductions.{rowSteps, roundSteps, reduceSteps}
+use Rattle.zones.specs.Reductions.{rowSteps, roundSteps, nonEmpty, reduceSteps}
 use Rattle.zones.specs.Settled.{Settled, Raised}
 use Rattle.zones.proofs.settled.Columns.{column-step, column-first, zero-row, column-next, column-live}
 use Rattle.zones.proofs.ranges.Ranges.{TurnReady, spread-small, sum-small, turn-narrow, turn-of}
 use Rattle.zones.proofs.reductions.Rounds.{relaxed-is, round-all}
-use Rattle.zones.proofs.reductions.Progress.{reduced-next, reduced-end}
+use Rattle.zones.proofs.reductions.Progress.{unseen, reduced-next, reduced-end}
 use Rattle.zones.proofs.zone.Work.reduce_raised.Statement.{statement}
 use Rattle.zones.proofs.zone.Work.reduce_raised.Tie as tie
 
@@ -28,7 +28,7 @@ abbrev μ-loop2 : tie.MeasureT-loop2
 abbrev Inv-loop : tie.InvT-loop
 Inv-loop n z₀ f₀ j k₀ z f k =
     (n ≤ 9) × (0 < k) × (k ≤ n) ×
-    (reduceSteps n k (record { zone = z₀; fraction = f₀ }) ≡ record { work = record { zone = z; fraction = f }; empty = false })
+    (reduceSteps n k (record { zone = z₀; fraction = f₀ }) ≡ nonEmpty (record { zone = z; fraction = f }))
     × ((b : Work) → Settled n b → Raised n b (record { zone = z₀; fraction = f₀ }) → Raised n b (record { zone = z; fraction = f }))
 
 abbrev μ-loop : tie.MeasureT-loop
@@ -68,8 +68,8 @@ turn c =
     let middles = rows .before .before in
     let start = middles .before .before .before in
     let size : length (start .args .self .zone) ≡ 81 = simp length-map at (start .good .0 .1 .1 .0 .1 .0 .1) in
-    turn-of _ (start .args .self) size (start .pre .0) _ _ (omega arith)
-    (middles .loop .inv .3) _ 0 (omega arith) (start .pre .1 .some) _ _ (rows .loop2 .inv .4) refl
+    turn-of _ (start .args .self) size (start .pre .0) _ _ {d = unseen} (omega arith)
+    (middles .loop .inv .3) refl _ 0 (omega arith) (start .pre .1 .some) _ _ (rows .loop2 .inv .4) refl
 
 sum-requires : tie.Need-sum-requires Inv-loop2 μ-loop2 Inv-loop μ-loop
 unfolding pairAt
@@ -121,13 +121,13 @@ loop-again c =
       omega arith,
       omega arith,
       omega arith,
-      reduced-next _ _ _ _ _ (middles .loop .inv .3) (round-all _ _ _ (omega arith) (rows .loop2 .inv .4))
+      reduced-next _ _ _ _ unseen (middles .loop .inv .3) refl _ (round-all _ _ _ (omega arith) (rows .loop2 .inv .4))
           (column-live _ (start .pre .0 .n≤) (d .base) (d .settled) _ (rows .loop2 .inv .5 (d .base) (d .settled) was)),
       λ b h r. rows .loop2 .inv .5 b h (middles .loop .inv .4 b h r),
     )
 
 returns : tie.Need-returns Inv-loop2 μ-loop2 Inv-loop μ-loop
-returns c = reduced-end _ _ _ _ (c .before .loop .inv .3) (omega arith)
+returns c = reduced-end _ _ _ _ unseen (c .before .loop .inv .3) (omega arith)
 
 pub reduce-raised-spec : {M : Type 1} → statement M
 reduce-raised-spec =
