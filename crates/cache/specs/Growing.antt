@@ -19,7 +19,8 @@ use Rattle.cache.specs.Drawn.{lookUpIn, consultAnswer, consultCache, con
 use Rattle.cache.specs.declared.lookup.Lookup.the-variants as lookup
 
 -- "grown from empty only by consulting": of any automata, with any buffers and stores, in any number. Between two consultings the used bytes
--- may be lent again with others behind them.
+-- may be lent again with others behind them. Consulting is as it is now: "records already filed keep theirs, and the shelf's agreement with the
+-- search speaks of shelves grown since".
 pub data Grown : List ℕ → Type 0 where
   emptied : (c : List ℕ) → headerLength ≤ length c → Grown (makeEmptyCache c)
   consulted : (c b : List ℕ) (room amount : ℕ) → Grown c → Grown (consultCache c b room amount)

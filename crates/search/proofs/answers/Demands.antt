@@ -16,6 +16,8 @@ use Rattle.zones.proofs.fractions.Thresholds.{below-at-most}
 use Rattle.automata.specs.Automata.{clocks}
 use Rattle.automata.specs.Refusals.{refusalOf}
 use Rattle.search.specs.Demands.{Robust, KeptExact, KeptContains, KeptBetween, Ordered}
+use Rattle.search.specs.declared.verdict.Answer.the-variants.{Found}
+use Rattle.search.specs.declared.verdict.Verdict.the-variants.{Holds}
 use Rattle.search.specs.Instance.{zonesOf, meaningOf, searchOf}
 use Rattle.automata.specs.Semantics.{systemOf}
 use Rattle.search.specs.Store.{capacityOf}
@@ -76,6 +78,14 @@ module _ (b : List ℕ) (c : ℕ) (ok : refusalOf b ≡ 0) where
           (l, given-below (searchOf b c .frac .safe) safe-positive s t d))
       go (ended (reached x)) e = rw e (reached-hits (systemOf b) (zonesOf b) (meaningOf b) 1 0 (laws b (accepted b ok)) c x e)
       go (ended (refused k)) e = rw e tt
+
+-- the exact fraction is right of all runs, too: of a search that went to its end, a verdict with it, as was filed before there was a safe one
+pub exact-robust : (b : List ℕ) (c : ℕ) → refusalOf b ≡ 0 → searchOf b c .outcome ≡ going → (zones : ℕ) →
+    Robust b (Found (Holds (holdingOf (lowestTerms (searchOf b c .frac .exact)))) zones)
+unfolding Robust
+exact-robust b c ok e zones s t l d =
+    holds (systemOf b) (zonesOf b) (meaningOf b) 1 0 (laws b (accepted b ok)) c e s t l
+    (l, tight b c ok s t l (given-below (searchOf b c .frac .exact) (exact-positive b c ok) s t d))
 
 -- ---- demand 3
 pub robust : (b : List ℕ) (amount : ℕ) → Robust b (searchAnswer b amount)
