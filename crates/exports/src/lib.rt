@@ -169,7 +169,8 @@ pub extern "C" fn robustness_canonical(automaton: &[u8], form: &mut [u8], writte
 pub extern "C" fn robustness_search(automaton: &[u8], store: &mut [i32], answer: &mut [u64]) -> u32
     ensures { λ r. ⌜ r ≡ findingsNumber (searchFindings (now (automaton .entry)) (length (now (store .entry)))) ⌝ }
     ensures { λ r. ⌜ now (store .exit) ≡ searchStore (now (automaton .entry)) (now (store .entry)) ⌝ }
-    ensures { λ r. ⌜ now (answer .exit) ≡ findingsTold (searchFindings (now (automaton .entry)) (length (now (store .entry)))) (now (answer .entry)) ⌝ }
+    ensures { λ r. ⌜ now (answer .exit)
+        ≡ findingsTold (searchFindings (now (automaton .entry)) (length (now (store .entry)))) (now (answer .entry)) ⌝ }
 {
     tell_findings(search(automaton, store), answer)
 }

@@ -191,8 +191,8 @@ module _ (b : List ℕ) (a : Accepted b) where
 
 -- ---- what is asked
 pub crosses : (b : List ℕ) (a : Accepted b) (i : ℕ) (y z : List Pair) (f g : Fractions) → i < edges b → SoundZone b y →
-    Shaped (clocks b) (workOf y noLimit) → Closed (suc (clocks b)) (squareOf 1 0 (workOf y noLimit)) → following b i y f ≡ zone z g → Below 1 0 (g .exact) →
-    Crosses b i y
+    Shaped (clocks b) (workOf y noLimit) → Closed (suc (clocks b)) (squareOf 1 0 (workOf y noLimit)) → following b i y f ≡ zone z g →
+    Below 1 0 (g .exact) → Crosses b i y
 crosses b a i y z f g hi s p k e x = crosses-edge b a i hi y z f g p k e x s
 
 pub witness-laws : (b : List ℕ) → Accepted b → WitnessLaws (systemOf b) (zonesOf b) (meaningOf b) (witnessesOf b) 1 0

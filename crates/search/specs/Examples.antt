@@ -95,7 +95,12 @@ examples =
     -- F: the guard's threshold is 4/1
     ∷ record { bytes = card 1 (limits 0 5) (limits 0 9) (edge 1 1 4 noUpper); store = lent; findings = found Reached 1 (over 4 1); after = first 5 }
     -- G: (x, x) = (0, 0) + (−3, 1) at arrival
-    ∷ record { bytes = card 1 (limits 0 5) (limits 3 9) (edge 1 1 0 noUpper); store = lent; findings = found (below 3 1) 1 (over 3 1); after = first 5 }
+    ∷ record {
+      bytes = card 1 (limits 0 5) (limits 3 9) (edge 1 1 0 noUpper);
+      store = lent;
+      findings = found (below 3 1) 1 (over 3 1);
+      after = first 5;
+    }
     -- H
     ∷ record { bytes = card 1 (limits 0 5) (limits 0 9) (edge 0 1 0 noUpper); store = lent; findings = found any 1 (over 1 0); after = first 5 }
     -- I

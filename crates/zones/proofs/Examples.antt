@@ -16,8 +16,8 @@ and (c ∷ a) b x y = (x .0, and a b (x .1) y)
 
 pub all-right : AllRight examples
 unfolding withinTo insideTo larger countTo loweredBy euclid gcdOf lowestTerms sumOf isLess thresholdOf smallerOf relaxed rowSteps roundSteps
-    emptyIn emptyBelow afterMiddle reduceSteps andThen meetOf enterOf followOf startOf pairAt firstWork lowerAt meetUpper meetClock meetLimits raiseLimits
-    home resetPlaces resetOf
+    emptyIn emptyBelow afterMiddle reduceSteps andThen meetOf enterOf followOf startOf pairAt firstWork lowerAt meetUpper meetClock
+    meetLimits raiseLimits home resetPlaces resetOf
 all-right =
     and meeting (reducing ++ (resetting ++ (moving ++ (lowering ++ containing))))
     (refl, (refl, (refl, (refl, (refl, (refl, (refl, (refl, (refl, tt)))))))))

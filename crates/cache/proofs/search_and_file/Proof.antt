@@ -59,5 +59,6 @@ pub search-and-file-spec : {M : Type 1} → statement M
 search-and-file-spec =
     tie.close
     (tie.spec (λ c κs. search needs) (λ c. search needs) (λ c. search needs) (λ c. search needs) (λ c. search needs) returns
-    (λ c. search needs) (λ c. search needs) returns-2 (λ c κs. search needs) (λ c κs. search needs) file-requires (λ c. search needs) (λ c. search needs)
+    (λ c. search needs) (λ c. search needs) returns-2 (λ c κs. search needs) (λ c κs. search needs) file-requires
+    (λ c. search needs) (λ c. search needs)
     returns-3)

@@ -56,7 +56,8 @@ module _ (b : List ℕ) (c : ℕ) where
   judged-known (was-kept e g h i) = tt
   judged-known (was-full e g h i) = inr refl
 
-  offer-known : (q : ZoneState) (n : List Pair → ZoneNode) (r : Result (List Pair) Fractions) → Known (offer (systemOf b) (zonesOf b) c q n r .outcome)
+  offer-known : (q : ZoneState) (n : List Pair → ZoneNode) (r : Result (List Pair) Fractions) →
+      Known (offer (systemOf b) (zonesOf b) c q n r .outcome)
   unfolding offer
   offer-known q n (empty f) = tt
   offer-known q n (zone z f) = judged-known (judged (systemOf b) (zonesOf b) c q (n z) f)
@@ -145,7 +146,8 @@ finds-once b amount h amount′ g = ⊎-elim
     (λ e.
     let at = found-accepted b e in
     at amount′
-    ∙ ap stateFindings (finishes-once b amount amount′ (λ k. h (at amount ∙ full-findings b amount k)) (λ k. g (at amount′ ∙ full-findings b amount′ k)))
+    ∙ ap stateFindings
+    (finishes-once b amount amount′ (λ k. h (at amount ∙ full-findings b amount k)) (λ k. g (at amount′ ∙ full-findings b amount′ k)))
     ∙ sym (at amount))
     (λ p. found-refused b p amount′ ∙ sym (found-refused b p amount))
     (eq-zero-or-pos (refusalOf b))

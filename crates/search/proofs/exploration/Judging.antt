@@ -137,8 +137,8 @@ module _ (b : List ℕ) (a : Accepted b) where
     off = ne-eqb l (target b) away
 
     -- it comes to q′, which the turn r and the store s′ show
-    shows : {s′ : List ℤ} {r : Turn} {q′ : ZoneState} → Judged (systemOf b) (zonesOf b) capacity q to-judge (fractionsOf (w .fraction) (turn .safe)) q′ →
-        Shown n s₀ q′ s′ r → Shown n s₀ after s′ r
+    shows : {s′ : List ℤ} {r : Turn} {q′ : ZoneState} →
+        Judged (systemOf b) (zonesOf b) capacity q to-judge (fractionsOf (w .fraction) (turn .safe)) q′ → Shown n s₀ q′ s′ r → Shown n s₀ after s′ r
     shows {s′} {r} was e = subst (λ (x : ZoneState). Shown n s₀ x s′ r) (sym (computes (systemOf b) (zonesOf b) was)) e
 
     -- a state with the same zones
@@ -176,7 +176,8 @@ module _ (b : List ℕ) (a : Accepted b) where
         unfolding overcounted
         counted = le-ltb counts (largestCount n (w .zone)) small
 
-        judged-full : capacity ≤ turn .count → Shown n s₀ after s (record { count = turn .count; exact = w .fraction; safe = turn .safe; outcome = Refused 10 })
+        judged-full : capacity ≤ turn .count →
+            Shown n s₀ after s (record { count = turn .count; exact = w .fraction; safe = turn .safe; outcome = Refused 10 })
         unfolding outcomeOf
         judged-full r = shows (was-full off alone counted (omega (arith, d .shown .number))) (unmoved refl tt refl refl)
 

@@ -21,10 +21,12 @@ use Rattle.zones.specs.Fractions.{loweredBy}
 use Rattle.zones.specs.Pairs.{zeroPair, atMost, atLeast, sumOf, smallerOf, thresholdOf}
 use Rattle.zones.specs.Zones.{entry, lowerAt, upperMet}
 use Rattle.zones.specs.Reductions.{relaxed, rowSteps, roundSteps, emptyBelow, afterMiddle, reduceSteps}
-use Rattle.zones.specs.Ranges.{Bounded, Narrow, Small, Fits32, Spread, Suffices, stepCounts, lastCounts, widest, Ready, RoundReady, DiagonalReady, LimitsReady}
+use Rattle.zones.specs.Ranges.{Bounded, Narrow, Small, Fits32, Spread, Suffices, stepCounts, lastCounts, widest}
+use Rattle.zones.specs.Ranges.{Ready, RoundReady, DiagonalReady, LimitsReady}
 use Rattle.runs.specs.Limits.{scale}
 use Rattle.zones.proofs.pairs.Choices.{less-shows, not-less-shows, threshold-cases, smaller-cases, lowered-cases}
-use Rattle.zones.proofs.reductions.Rounds.{chosen, RowDone, row-done, reads-at, reads-to, reads-from, RoundDone, round-done, middle, still, row-skip}
+use Rattle.zones.proofs.reductions.Rounds.{chosen, RowDone, row-done, reads-at, reads-to, reads-from, RoundDone, round-done}
+use Rattle.zones.proofs.reductions.Rounds.{middle, still, row-skip}
 use Rattle.zones.proofs.reductions.Progress.{Alive, along, seenIn, leaves, after-live, after-empty}
 use Rattle.zones.proofs.pairs.Order.{sum-p}
 use Rattle.zones.proofs.ranges.Size.{sum-up, sum-down, reduce-spread}

@@ -20,7 +20,8 @@ use Rattle.zones.specs.Values.{valueOf, Below}
 use Rattle.zones.specs.Sets.{squareOf, Has, Put, Waits}
 use Rattle.zones.specs.Moves.{Closed, Shaped, Low, Includes, Exact}
 use Rattle.runs.proofs.Contradictions.{true-false}
-use Rattle.zones.proofs.sets.Closing.{reduce-some, reduce-into, reduce-from, reduce-before, reduce-tighter, reduce-live, reduce-shaped, reduce-closed}
+use Rattle.zones.proofs.sets.Closing.{reduce-some, reduce-into, reduce-from, reduce-before, reduce-tighter, reduce-live}
+use Rattle.zones.proofs.sets.Closing.{reduce-shaped, reduce-closed}
 use Rattle.zones.proofs.sets.Meeting.{most-value, met-proper, meet-shaped, meet-before, meet-low, meet-into, meet-from}
 use Rattle.zones.proofs.places.Places.{ResetBy, RaisedBy, home-below}
 use Rattle.zones.proofs.sets.Squares.{Resets, Raises, reset-into, reset-from, reset-closed, wait-into, wait-from}

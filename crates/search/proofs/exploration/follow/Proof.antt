@@ -7,7 +7,8 @@ use native.Mathlib.Omega.{arith}
 use Rattle.zones.specs.Successors.{meetOf}
 use Rattle.runs.proofs.Contradictions.{true-false}
 use Rattle.automata.specs.Automata.{clocks, edgeAt, guardOf}
-use Rattle.search.proofs.exploration.Arriving.{gives-of, taken-sized, emptied-fits, follows-none, arrives, edge-to, follows, arrives-sound, arrives-at}
+use Rattle.search.proofs.exploration.Arriving.{gives-of, taken-sized, emptied-fits, follows-none, arrives, edge-to, follows}
+use Rattle.search.proofs.exploration.Arriving.{arrives-sound, arrives-at}
 use Rattle.search.proofs.exploration.Judging.{going-safe}
 use Rattle.automata.proofs.fields.Counting.{clocks≡, edge≡, asks-edge}
 use Rattle.automata.proofs.fields.Places.{edge-within}
@@ -94,4 +95,7 @@ returns-2 c =
     (follows _ a _ hi _ (pre .1 .1) (pre .1 .2) (met guard) live (pre .0 .2)) (c .before .arrive .ensures)
 
 pub follow-spec : {M : Type 1} → statement M
-follow-spec = tie.close (tie.spec counts-of-requires edge-at-requires add-at narrow-requires after-lowering-requires returns arrive-requires (λ c. search needs) returns-2)
+follow-spec =
+    tie.close
+    (tie.spec counts-of-requires edge-at-requires add-at narrow-requires after-lowering-requires returns arrive-requires
+    (λ c. search needs) returns-2)

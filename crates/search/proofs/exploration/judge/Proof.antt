@@ -6,8 +6,8 @@ use lib.ListN.{length}
 use native.Mathlib.Omega.{arith}
 use Rattle.zones.specs.Ranges.{Fits32}
 use Rattle.slots.specs.Slots.{slotLength}
-use Rattle.search.proofs.exploration.Judging.{Entered, asks-encode, asks-find, asks-largest, slot-within, next-within, asks-inside, asks-lowered}
-use Rattle.search.proofs.exploration.Judging.{gives-inside, gives-big, gives-full, gives-kept}
+use Rattle.search.proofs.exploration.Judging.{Entered, asks-encode, asks-find, asks-largest, slot-within, next-within}
+use Rattle.search.proofs.exploration.Judging.{asks-inside, asks-lowered, gives-inside, gives-big, gives-full, gives-kept}
 use Rattle.automata.proofs.fields.Counting.{size≡, few-clocks}
 use borrow.Author.Needs.{needs}
 use Rattle.search.proofs.exploration.judge.Statement.{statement}
