@@ -2,3 +2,4 @@
 pub mod Lowest
 pub mod Thresholds
 pub mod Fractional
+pub mod InTurn

@@ -5,6 +5,7 @@ pub mod Zones
 pub mod Reductions
 pub mod Successors
 pub mod Containment
+pub mod InTurn
 pub mod Values
 pub mod Sets
 pub mod Moves
