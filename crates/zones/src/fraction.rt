@@ -28,8 +28,8 @@ impl Fraction {
         let a = self.n;
         let b = self.d;
         let g = gcd(a, b);
-        // 0/0: nothing to divide by.
-        if g == 0 {
+        // 0/0 has nothing to divide by; by 1 there is no need to.
+        if g <= 1 {
             return self;
         }
         let n = a / g;

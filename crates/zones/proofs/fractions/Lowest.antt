@@ -4,7 +4,7 @@ use Prim.Native.Nat.{ℕ, zero, suc, _*_, _/_, _%_, _<_, _≤_, _∣_}
 use mathlib.Core.Path.{_≡_, refl, sym, ap, _∙_}
 use mathlib.Core.Logic.{⊎-elim}
 use native.Mathlib.Nat.{le-refl, mod-lt, one-mul, mul-assoc, mul-right-comm, mul-lt-mul-of-pos-right, lt-of-mul-lt-mul-right, eq-zero-or-pos}
-use native.Mathlib.Nat.{div-self, div-zero, zero-div, div-le-self, div-mul-cancel, dvd-refl, dvd-zero, dvd-mul-left, mul-dvd-mul-right}
+use native.Mathlib.Nat.{div-self, div-zero, div-one, zero-div, div-le-self, div-mul-cancel, dvd-refl, dvd-zero, dvd-mul-left, mul-dvd-mul-right}
 use native.Mathlib.Nat.{dvd-of-mul-dvd-mul-right, dvd-mod-iff, eq-one-of-dvd-one, eq-zero-of-zero-dvd, pos-of-dvd-of-pos}
 use native.Mathlib.Omega.{arith}
 use Rattle.zones.specs.Fractions.{euclid, gcdOf, lowestTerms, Divides}
@@ -106,11 +106,17 @@ module _ (f : Fraction) where
   lowest-equal = scaled-d _ ∙ sym (scaled-n _)
 
   -- only 0/0 has the divisor 0
-  pub lowest-of-zero : gcdOf (f .n) (f .d) ≡ 0 → lowestTerms f ≡ f
+  lowest-of-zero : gcdOf (f .n) (f .d) ≡ 0 → lowestTerms f ≡ f
   unfolding lowestTerms
   lowest-of-zero e =
       let z = gcd-zero-only (f .n) (f .d) e in
       simp (e, div-zero) (λ i. record { n = sym (z .0) i; d = sym (z .1) i })
+
+  -- and a divisor of 1 changes nothing
+  pub lowest-of-small : gcdOf (f .n) (f .d) ≤ 1 → lowestTerms f ≡ f
+  unfolding lowestTerms
+  lowest-of-small h =
+      ⊎-elim lowest-of-zero (λ p. let e : gcdOf (f .n) (f .d) ≡ 1 = omega arith in simp (e, div-one) refl) (eq-zero-or-pos (gcdOf (f .n) (f .d)))
 
   -- the same limit: what is below the one is below the other
   pub below-from-lowest : (e s : ℕ) → e * lowestTerms f .d < lowestTerms f .n * s → e * f .d < f .n * s
