@@ -17,7 +17,7 @@ use Rattle.search.specs.declared.verdict.Findings.the-variants as findings
 use Rattle.search.specs.declared.verdict.Verdict.{Verdict}
 use Rattle.cache.specs.declared.lookup.Lookup.{Lookup}
 use Rattle.cache.specs.declared.lookup.Lookup.the-variants as lookup
-use Rattle.exports.specs.Replies.{verdictNumbers, noExact, over, answerNumber, told, findingsNumber, findingsTold}
+use Rattle.exports.specs.Replies.{verdictNumbers, filedFigures, over, answerNumber, told, findingsNumber, findingsTold}
 use Rattle.exports.specs.Replies.{lookupNumber, filedTold, lookupTold, formNumber, formTold}
 use Rattle.exports.specs.Replies.{judgementNumber, passesTold}
 
@@ -41,7 +41,7 @@ over-full (x ∷ xs) (y ∷ ys) (suc i) h = ap (λ (l : List ℕ). x ∷ l) (ove
 
 -- ---- `tell`, `tell_findings` and `tell_lookup`, by the case of what is told
 pub tells-found : {a : Answer} (old : List ℕ) {new : List ℕ} (v : Verdict) (zones : ℕ) → a ≡ Found v zones
-    → {ns : List ℕ} → ns ≡ verdictNumbers v zones noExact → new ≡ over ns old → (0 ≡ answerNumber a) × (new ≡ told a old)
+    → {ns : List ℕ} → ns ≡ verdictNumbers v (filedFigures zones) → new ≡ over ns old → (0 ≡ answerNumber a) × (new ≡ told a old)
 unfolding answerNumber told
 tells-found old v zones e g w = rw e (refl, w ∙ ap (λ (ns : List ℕ). over ns old) g)
 
@@ -51,7 +51,7 @@ tells-refused old k e = rw e (refl, refl)
 
 -- ---- `tell_findings`
 pub tells-verdict : {r : Findings} (old : List ℕ) {new : List ℕ} (v : Verdict) (x : Figures) → r ≡ findings.Found v x
-    → {ns : List ℕ} → ns ≡ verdictNumbers v (x .zones) (x .exact) → new ≡ over ns old → (0 ≡ findingsNumber r) × (new ≡ findingsTold r old)
+    → {ns : List ℕ} → ns ≡ verdictNumbers v x → new ≡ over ns old → (0 ≡ findingsNumber r) × (new ≡ findingsTold r old)
 unfolding findingsNumber findingsTold
 tells-verdict old v x e g w = rw e (refl, w ∙ ap (λ (ns : List ℕ). over ns old) g)
 
@@ -60,7 +60,7 @@ unfolding findingsNumber findingsTold
 tells-none old k e = rw e (refl, refl)
 
 module _ {l : Lookup} (was : ℕ) (old : List ℕ) where
-  pub tells-filed : {new : List ℕ} (v : Verdict) (zones : ℕ) → l ≡ lookup.Filed v zones → {ns : List ℕ} → ns ≡ verdictNumbers v zones noExact
+  pub tells-filed : {new : List ℕ} (v : Verdict) (zones : ℕ) → l ≡ lookup.Filed v zones → {ns : List ℕ} → ns ≡ verdictNumbers v (filedFigures zones)
       → new ≡ over ns old → (0 ≡ lookupNumber l) × ((1 ≡ filedTold l was) × (new ≡ lookupTold l old))
   unfolding lookupNumber filedTold lookupTold told
   tells-filed v zones e g w = rw e (refl, (refl, w ∙ ap (λ (ns : List ℕ). over ns old) g))

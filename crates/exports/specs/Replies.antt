@@ -8,21 +8,22 @@ use Rattle.run_judge.specs.declared.judgement.Judgement.{Judgement}
 use Rattle.run_judge.specs.declared.judgement.Judgement.the-variants as judgement
 use Rattle.search.specs.declared.verdict.Answer.{Answer}
 use Rattle.search.specs.declared.verdict.Answer.the-variants.{Found, Refused}
+use Rattle.search.specs.declared.verdict.Figures.{Figures}
 use Rattle.search.specs.declared.verdict.Findings.{Findings}
 use Rattle.search.specs.declared.verdict.Findings.the-variants as findings
 use Rattle.search.specs.declared.verdict.Verdict.{Verdict}
 use Rattle.search.specs.Verdicts.{numbersOf}
-use Rattle.zones.specs.declared.fraction.Fraction.{Fraction}
 use Rattle.cache.specs.declared.lookup.Lookup.{Lookup}
 use Rattle.cache.specs.declared.lookup.Lookup.the-variants as lookup
 
--- ---- what is told of a verdict: kind, n, d, zones, exact n, exact d, again, inside; the last two are 0 until a later change has them
-unfoldable pub verdictNumbers : Verdict → ℕ → Fraction → List ℕ
-verdictNumbers v zones exact = numbersOf v .kind ∷ numbersOf v .n ∷ numbersOf v .d ∷ zones ∷ exact .n ∷ exact .d ∷ 0 ∷ 0 ∷ []
+-- ---- what is told of a verdict: kind, n, d, zones, exact n, exact d, again, inside
+unfoldable pub verdictNumbers : Verdict → Figures → List ℕ
+verdictNumbers v x =
+    numbersOf v .kind ∷ numbersOf v .n ∷ numbersOf v .d ∷ x .zones ∷ x .exact .n ∷ x .exact .d ∷ x .dropped .again ∷ x .dropped .inside ∷ []
 
--- a record has no exact fraction, and neither has what a cache gives back: 0 and 0
-abbrev pub noExact : Fraction
-noExact = record { n = 0; d = 0 }
+-- a record has no exact fraction and no counts, and neither has what a cache gives back: 0 in their places
+abbrev pub filedFigures : ℕ → Figures
+filedFigures zones = record { zones = zones; exact = record { n = 0; d = 0 }; dropped = record { again = 0; inside = 0 } }
 
 -- numbers written over what was there: as many as there is room for, and behind them what was there
 unfoldable pub over : List ℕ → List ℕ → List ℕ
@@ -36,16 +37,16 @@ answerNumber (Found v zones) = 0
 answerNumber (Refused k) = k
 
 unfoldable pub told : Answer → List ℕ → List ℕ
-told (Found v zones) old = over (verdictNumbers v zones noExact) old
+told (Found v zones) old = over (verdictNumbers v (filedFigures zones)) old
 told (Refused k) old = old
 
--- ---- what the bare search finds: the same, with the exact fraction
+-- ---- what the bare search finds: the same, with all that stands beside its verdict
 unfoldable pub findingsNumber : Findings → ℕ
 findingsNumber (findings.Found v x) = 0
 findingsNumber (findings.Refused k) = k
 
 unfoldable pub findingsTold : Findings → List ℕ → List ℕ
-findingsTold (findings.Found v x) old = over (verdictNumbers v (x .zones) (x .exact)) old
+findingsTold (findings.Found v x) old = over (verdictNumbers v x) old
 findingsTold (findings.Refused k) old = old
 
 -- ---- a lookup: filed is 1 with the verdict's numbers, or 0 with the place as it was; a refusal leaves both as they were

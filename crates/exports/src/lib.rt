@@ -10,8 +10,10 @@ use canonical::write_canonical;
 use run_judge::judge;
 use run_judge::judgement::Judgement;
 use run_writer::write_run;
+use search::outcome::Dropped;
 use search::search;
 use search::verdict::Answer;
+use search::verdict::Figures;
 use search::verdict::Findings;
 use search::verdict::Verdict;
 use search::verdict::numbers_of;
@@ -24,7 +26,7 @@ ghost use Rattle.cache.specs.Caches.{sound};
 ghost use Rattle.cache.specs.Consulting.{makeEmptyReply, makeEmptyCache};
 ghost use Rattle.cache.specs.Drawn.{lookUpIn, consultAnswer, consultCache, consultStore};
 ghost use Rattle.canonical.specs.Writing.{formAnswer, formBuffer};
-ghost use Rattle.exports.specs.Replies.{verdictNumbers, over, answerNumber, told, findingsNumber, findingsTold};
+ghost use Rattle.exports.specs.Replies.{verdictNumbers, filedFigures, over, answerNumber, told, findingsNumber, findingsTold};
 ghost use Rattle.exports.specs.Replies.{lookupNumber, filedTold, lookupTold, soundNumber};
 ghost use Rattle.exports.specs.Replies.{formNumber, formTold, judgementNumber, passesTold};
 ghost use mathlib.Core.Logic.{_↔_};
@@ -34,23 +36,36 @@ ghost use Rattle.run_judge.specs.Passing.{Passes};
 ghost use Rattle.run_writer.specs.Told.{Tells};
 ghost use Rattle.run_writer.specs.Writing.{runFindings, runBuffer};
 
-// A cache's verdict comes without an exact fraction.
-const NO_EXACT: Fraction = Fraction { n: 0, d: 0 };
+// What a cache tells beside a verdict: the zones kept. It has no exact fraction and no counts of dropped zones.
+fn filed_figures(zones: u32) -> Figures
+    ensures { λ r. ⌜ r ≡ filedFigures zones ⌝ }
+{
+    Figures {
+        zones,
+        exact: Fraction { n: 0, d: 0 },
+        dropped: Dropped {
+            again: 0,
+            inside: 0,
+        },
+    }
+}
 
-// What is told of a verdict: kind, n, d, zones, exact n and exact d; then again and inside, which are 0 until a later change has them.
-fn verdict_numbers(v: Verdict, zones: u32, exact: Fraction) -> [u64; 8]
-    ensures { λ r. ⌜ r ≡ verdictNumbers v zones exact ⌝ }
+// What is told of a verdict: kind, n, d, zones, exact n, exact d, again and inside.
+fn verdict_numbers(v: Verdict, beside: Figures) -> [u64; 8]
+    ensures { λ r. ⌜ r ≡ verdictNumbers v beside ⌝ }
 {
     let x = numbers_of(v);
+    let exact = beside.exact;
+    let dropped = beside.dropped;
     [
         x.kind as u64,
         x.n,
         x.d,
-        zones as u64,
+        beside.zones as u64,
         exact.n,
         exact.d,
-        0,
-        0,
+        dropped.again,
+        dropped.inside,
     ]
 }
 
@@ -72,22 +87,21 @@ fn tell(found: Answer, answer: &mut [u64]) -> u32
 {
     match found {
         Answer::Found(v, zones) => {
-            write_over(verdict_numbers(v, zones, NO_EXACT), answer);
+            write_over(verdict_numbers(v, filed_figures(zones)), answer);
             0
         }
         Answer::Refused(k) => k,
     }
 }
 
-// What the bare search finds: the same, with the exact fraction.
+// What the bare search finds: the same, with all that it tells beside the verdict.
 fn tell_findings(found: Findings, answer: &mut [u64]) -> u32
     ensures { λ r. ⌜ r ≡ findingsNumber found ⌝ }
     ensures { λ r. ⌜ now (answer .exit) ≡ findingsTold found (now (answer .entry)) ⌝ }
 {
     match found {
         Findings::Found(v, x) => {
-            let exact = x.exact;
-            write_over(verdict_numbers(v, x.zones, exact), answer);
+            write_over(verdict_numbers(v, x), answer);
             0
         }
         Findings::Refused(k) => k,
@@ -103,7 +117,7 @@ fn tell_lookup(found: Lookup, filed: &mut u64, answer: &mut [u64]) -> u32
     match found {
         Lookup::Filed(v, zones) => {
             *filed = 1;
-            write_over(verdict_numbers(v, zones, NO_EXACT), answer);
+            write_over(verdict_numbers(v, filed_figures(zones)), answer);
             0
         }
         Lookup::Absent => {

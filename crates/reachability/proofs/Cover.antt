@@ -13,7 +13,7 @@ use Rattle.reachability.specs.Meaning.{Meaning}
 use Rattle.reachability.specs.Laws.{Falls, Clocks, Shapes, Inclusion, SafeLaws}
 use Rattle.reachability.proofs.Lists.{All, nth-last, nth-one, nth-lt, drop-none, grown-back}
 use Rattle.reachability.proofs.Judged.{ended-going, Judged, was-target, was-inside, was-big, was-kept, was-full, judged, find-inside, followed}
-use Rattle.reachability.proofs.Judged.{follow-on, take-cases}
+use Rattle.reachability.proofs.Judged.{dropping-kept, dropping-frac, follow-on, take-cases}
 use Rattle.reachability.proofs.Later.{Later, earlier-all, later-going, later-nth, follow-later, expand-later, take-later}
 use Rattle.reachability.proofs.Keeps.{begin-room, expand-room}
 use Rattle.reachability.proofs.Shaped.{Sound, all-sound}
@@ -58,13 +58,14 @@ module _ {Z F : Type 0} (A : System) (O : Zones Z F) (M : Meaning A Z F) (K : Cl
   judged-covers l v (was-target d) a c b x w h = ended-going c
   judged-covers {q} {k = k} {f = f} l v (was-inside y d g) a c b x w h =
       let i = find-inside A O (q .kept) (k .at) (k .zone) y g in
+      let d : B (O .lowered (k .zone) (y .zone) f) = rw dropping-frac at b in
       record {
         place = i .place;
         node = y;
-        kept = i .kept;
+        kept = rw dropping-kept (i .kept);
         at = i .at ∙ x;
         keeps = record {
-          at = λ t n. L .within-in s e (k .zone) (y .zone) f (A .pass t v) w (a (i .place) y (i .kept) .shape) (i .holds) b (h .at t n);
+          at = λ t n. L .within-in s e (k .zone) (y .zone) f (A .pass t v) w (a (i .place) y (i .kept) .shape) (i .holds) d (h .at t n);
         };
       }
   judged-covers l v (was-big d g i) a c b x w h = ended-going c

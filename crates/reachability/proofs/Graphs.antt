@@ -5,6 +5,7 @@ use mathlib.Core.Path.{_≡_, refl}
 use native.Mathlib.Omega.{arith}
 use Rattle.reachability.specs.Search.{empty, zone}
 use Rattle.reachability.specs.Laws.{Laws}
+use Rattle.reachability.specs.Accounts.{Regardless}
 use Rattle.reachability.specs.Graphs.{passes, graph, points, meaning}
 
 zone-empty : {z f g : Unit {0}} → zone z f ≡ empty g → ⊥
@@ -16,6 +17,9 @@ shut b g h e = zone-empty (rw h at e)
 opened : (b : Bool) (z g : Unit {0}) → passes b ≡ zone z g → b ≡ true
 opened true z g e = refl
 opened false z g e = cc
+
+pub regardless : (edges : ℕ) (from to : ℕ → ℕ) (start target : ℕ) (isOpen : ℕ → Bool) → Regardless (points edges from to start target isOpen)
+regardless edges from to start target isOpen = record { succ = λ i z f g. refl }
 
 module _ (edges : ℕ) (from to : ℕ → ℕ) (start target : ℕ) (isOpen : ℕ → Bool) (s₀ e₀ : ℕ) where
   pub laws : Laws (graph edges from to start target isOpen) (points edges from to start target isOpen)

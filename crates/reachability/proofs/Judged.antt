@@ -1,15 +1,15 @@
 -- The ways in which a zone is judged, once: the proofs go by these, and `judge`, `offer`, `follow` and `take-from` stay shut.
-use Prim.Native.Nat.{ℕ, zero, suc, _≤_, _<_}
+use Prim.Native.Nat.{ℕ, zero, suc, _+_, _≤_, _<_}
 use mathlib.Core.List.{List, [], _∷_, _++_}
 use mathlib.Core.Bool.{Bool, true, false}
-use mathlib.Core.Path.{_≡_, refl, sym, ap, subst}
+use mathlib.Core.Path.{_≡_, refl, sym, ap, _∙_, subst}
 use lib.ListN.{length, drop}
 use lib.Dec.{ltb, eqb}
 use native.Mathlib.Omega.{arith}
 use borrow.Author.Tests.{ltb-true, ltb-false, lt-ltb, le-ltb, eqb-true, eqb-false, eq-eqb}
 use Rattle.runs.specs.Runs.{System}
 use Rattle.reachability.specs.Search.{Result, empty, zone, fracOf, Found, none, found, Zones, Node, Nth, End, reached, refused, Outcome, going}
-use Rattle.reachability.specs.Search.{Came, ended, State, passed, stopped, keeping, child, find, judge, offer, follow, expand, take-from}
+use Rattle.reachability.specs.Search.{Came, ended, State, stopped, keeping, dropping, child, find, judge, offer, follow, expand, take-from}
 use Rattle.reachability.proofs.Lists.{nth-drop}
 
 pub ended-going {ℓ} : {X : Type ℓ} {x : End} → ended x ≡ going → X
@@ -18,11 +18,33 @@ ended-going e = let z : _≡_ {A = ℕ} 0 1 = cc in absurd (omega arith)
 other-end {ℓ} : {X : Type ℓ} {n : ℕ} {x : Came} → ended (refused n) ≡ ended (reached x) → X
 other-end e = let z : _≡_ {A = ℕ} 0 1 = cc in absurd (omega arith)
 
+-- ---- what counting a dropped zone leaves
+module _ {Z F : Type 0} (q : State Z F) (f : F) where
+  pub dropping-kept : (b : Bool) → dropping q f b .kept ≡ q .kept
+  unfolding dropping
+  dropping-kept true = refl
+  dropping-kept false = refl
+
+  pub dropping-frac : (b : Bool) → dropping q f b .frac ≡ f
+  unfolding dropping
+  dropping-frac true = refl
+  dropping-frac false = refl
+
+  pub dropping-going : (b : Bool) → dropping q f b .outcome ≡ going
+  unfolding dropping
+  dropping-going true = refl
+  dropping-going false = refl
+
+  pub dropping-drops : (b : Bool) → dropping q f b .again + dropping q f b .inside ≡ suc (q .again + q .inside)
+  unfolding dropping
+  dropping-drops true = omega arith
+  dropping-drops false = omega arith
+
 module _ {Z F : Type 0} (A : System) (O : Zones Z F) where
   pub data Judged (cap : ℕ) (q : State Z F) (k : Node Z) (f : F) : State Z F → Type 0 where
     was-target : eqb (k .at) (A .target) ≡ true → Judged cap q k f (stopped q f (reached (k .came)))
     was-inside : (y : Node Z) → eqb (k .at) (A .target) ≡ false → find A O (q .kept) (k .at) (k .zone) ≡ found y
-        → Judged cap q k f (passed q (O .lowered (k .zone) (y .zone) f))
+        → Judged cap q k f (dropping q (O .lowered (k .zone) (y .zone) f) (O .equal (k .zone) (y .zone)))
     was-big : eqb (k .at) (A .target) ≡ false → find A O (q .kept) (k .at) (k .zone) ≡ none → O .big (k .zone) ≡ true
         → Judged cap q k f (stopped q f (refused 9))
     was-kept : eqb (k .at) (A .target) ≡ false → find A O (q .kept) (k .at) (k .zone) ≡ none → O .big (k .zone) ≡ false
@@ -79,7 +101,7 @@ module _ {Z F : Type 0} (A : System) (O : Zones Z F) where
     judge-kept : (P : List (Node Z) → Type 0) {q q′ : State Z F} {k : Node Z} {f : F} → Judged cap q k f q′ → P (q .kept)
         → ((k .at ≡ A .target → ⊥) → O .big (k .zone) ≡ false → length (q .kept) < cap → P (q .kept ++ (k ∷ []))) → P (q′ .kept)
     judge-kept P (was-target e) s t = s
-    judge-kept P (was-inside y e g) s t = s
+    judge-kept P (was-inside y e g) s t = rw dropping-kept s
     judge-kept P (was-big e g h) s t = s
     judge-kept P (was-kept e g h i) s t = t (eqb-false _ _ e) h i
     judge-kept P (was-full e g h i) s t = s
@@ -94,7 +116,7 @@ module _ {Z F : Type 0} (A : System) (O : Zones Z F) where
     judge-frac : (P : F → Type 0) {q q′ : State Z F} {k : Node Z} {f : F} → Judged cap q k f q′ → P f
         → ((y : Node Z) → Inside (q .kept) (k .at) (k .zone) y → P (O .lowered (k .zone) (y .zone) f)) → P (q′ .frac)
     judge-frac P (was-target e) s t = s
-    judge-frac P (was-inside y e g) s t = t y (find-inside _ _ _ y g)
+    judge-frac P (was-inside y e g) s t = rw dropping-frac (t y (find-inside _ _ _ y g))
     judge-frac P (was-big e g h) s t = s
     judge-frac P (was-kept e g h i) s t = s
     judge-frac P (was-full e g h i) s t = s
@@ -118,7 +140,7 @@ module _ {Z F : Type 0} (A : System) (O : Zones Z F) where
     judge-met : {q q′ : State Z F} {f : F} {x : Came} (c : Z → Node Z) (z : Z) → Judged cap q (c z) f q′ → q′ .outcome ≡ ended (reached x)
         → Met q q′ c (zone z f) x
     judge-met {f = f} c z (was-target e) h = record { met = z; after = f; made = refl; there = eqb-true _ _ e; came = cc; same = refl }
-    judge-met c z (was-inside y e g) h = ended-going (sym h)
+    judge-met c z (was-inside y e g) h = ended-going (sym h ∙ dropping-going _ _ _)
     judge-met c z (was-big e g i) h = other-end h
     judge-met c z (was-kept e g i j) h = ended-going (sym h)
     judge-met c z (was-full e g i j) h = other-end h
@@ -145,7 +167,9 @@ module _ {Z F : Type 0} (A : System) (O : Zones Z F) where
 
     pub follow-on : (j : ℕ) (k : Node Z) (i : ℕ) (q : State Z F) → q .outcome ≡ going → A .from i ≡ k .at → follow A O cap j k i q ≡ followed j k i q
     unfolding follow
-    follow-on j k i q e g = rw (follow, e, eq-eqb _ _ g) (ap (λ c. followed j k i (record { kept = q .kept; frac = q .frac; outcome = c })) e)
+    follow-on j k i q e g =
+        rw (follow, e, eq-eqb _ _ g)
+        (ap (λ c. followed j k i (record { kept = q .kept; frac = q .frac; outcome = c; again = q .again; inside = q .inside })) e)
 
     -- ---- what taking comes to
     pub take-none : (left next : ℕ) (q : State Z F) → drop next (q .kept) ≡ [] → take-from A O cap left next q ≡ q

@@ -13,5 +13,6 @@ pub mod Robust
 pub mod Branches
 pub mod Witnesses
 pub mod Capacity
+pub mod Accounts
 pub mod Examples
 pub mod Graphs

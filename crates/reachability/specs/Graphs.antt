@@ -32,6 +32,7 @@ module _ (edges : ℕ) (from to : ℕ → ℕ) (start target : ℕ) (isOpen : �
     enter = λ f. zone tt tt;
     succ = λ i z f. passes (isOpen i);
     within = λ z y. true;
+    equal = λ z y. true;
     lowered = λ z y f. tt;
     big = λ z. false;
   }

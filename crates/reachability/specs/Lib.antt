@@ -4,5 +4,6 @@ pub mod Meaning
 pub mod Laws
 pub mod Branches
 pub mod Witnesses
+pub mod Accounts
 pub mod Examples
 pub mod Graphs

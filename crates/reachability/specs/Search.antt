@@ -20,13 +20,14 @@ pub data Found (X : Type 0) : Type 0 where
   none : Found X
   found : X → Found X
 
--- zones Z with running fractions F. `within z y`: z is contained in y, by the test. `lowered z y f`: f after a test that holds.
--- `big z`: its error count is too large to be kept
+-- zones Z with running fractions F. `within z y`: z is contained in y, by the test. `equal z y`: the two have the same pairs. `lowered z y f`: f
+-- after a test that holds. `big z`: its error count is too large to be kept
 pub record Zones (Z F : Type 0) : Type 0 where
   pub top : F
   pub enter : F → Result Z F
   pub succ : ℕ → Z → F → Result Z F
   pub within : Z → Z → Bool
+  pub equal : Z → Z → Bool
   pub lowered : Z → Z → F → F
   pub big : Z → Bool
 
@@ -58,21 +59,30 @@ pub data Outcome : Type 0 where
   going : Outcome
   ended : End → Outcome
 
+-- with the numbers of zones dropped so far: `again` of those equal to the kept zone that contains them, `inside` of the others
 pub record State (Z F : Type 0) : Type 0 where
   pub kept : List (Node Z)
   pub frac : F
   pub outcome : Outcome
+  pub again : ℕ
+  pub inside : ℕ
 
 module _ {Z F : Type 0} where
   -- ---- what may become of a state
   abbrev pub passed : State Z F → F → State Z F
-  passed q f = record { kept = q .kept; frac = f; outcome = going }
+  passed q f = record { kept = q .kept; frac = f; outcome = going; again = q .again; inside = q .inside }
 
   abbrev pub stopped : State Z F → F → End → State Z F
-  stopped q f x = record { kept = q .kept; frac = f; outcome = ended x }
+  stopped q f x = record { kept = q .kept; frac = f; outcome = ended x; again = q .again; inside = q .inside }
 
   abbrev pub keeping : State Z F → F → Node Z → State Z F
-  keeping q f k = record { kept = q .kept ++ (k ∷ []); frac = f; outcome = going }
+  keeping q f k = record { kept = q .kept ++ (k ∷ []); frac = f; outcome = going; again = q .again; inside = q .inside }
+
+  -- "A zone dropped by containment is then counted as again when every pair equals that of the kept zone, and as inside otherwise": which of the two
+  -- is the test's
+  unfoldable pub dropping : State Z F → F → Bool → State Z F
+  dropping q f true = record { kept = q .kept; frac = f; outcome = going; again = suc (q .again); inside = q .inside }
+  dropping q f false = record { kept = q .kept; frac = f; outcome = going; again = q .again; inside = suc (q .inside) }
 
 module _ {Z : Type 0} (A : System) where
   -- "The first zone .. enters the start."
@@ -97,7 +107,7 @@ module _ {Z F : Type 0} (A : System) (O : Zones Z F) where
         elim (eqb (k .at) (A .target)) [
           | true ↦ stopped q f (reached (k .came))
           | false ↦ elim (find (q .kept) (k .at) (k .zone)) [
-            | found y ↦ passed q (O .lowered (k .zone) (y .zone) f)
+            | found y ↦ dropping q (O .lowered (k .zone) (y .zone) f) (O .equal (k .zone) (y .zone))
             | none ↦ elim (O .big (k .zone)) [
               | true ↦ stopped q f (refused 9)
               | false ↦ elim (ltb (length (q .kept)) capacity) [ true ↦ keeping q f k | false ↦ stopped q f (refused 10) ]
@@ -129,7 +139,7 @@ module _ {Z F : Type 0} (A : System) (O : Zones Z F) where
     take-from (suc left) next q = elim (drop next (q .kept)) [ [] ↦ q | k ∷ ks ↦ take-from left (suc next) (expand next k (A .edges) 0 q) ]
 
     abbrev pub nothing : State Z F
-    nothing = record { kept = []; frac = O .top; outcome = going }
+    nothing = record { kept = []; frac = O .top; outcome = going; again = 0; inside = 0 }
 
     abbrev pub begin : State Z F
     begin = offer nothing (first-node A) (O .enter (O .top))

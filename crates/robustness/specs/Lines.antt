@@ -1,12 +1,13 @@
--- The program "prints one line: verdict, then zones kept", in ASCII: `holds 1/1 zones 1`, `holds any zones 1`, `reached zones 1`, `refused 10`.
+-- The program "prints one line: verdict, then zones kept"; document 02: "The counts follow the zone count in the line". In ASCII:
+-- `holds 1/1 zones 1 again 0 inside 0`, `holds any zones 1 again 1 inside 0`, `reached zones 1 again 0 inside 0`, `refused 10`.
 use Prim.Native.Nat.{ℕ, zero, suc, _+_, _/_, _%_, _≤_}
 use mathlib.Core.Bool.{true, false}
 use mathlib.Core.List.{List, [], _∷_, _++_}
 use mathlib.Core.Path.{_≡_}
 use lib.Dec.{ltb}
 use lib.ListN.{length, take}
-use Rattle.search.specs.declared.verdict.Answer.{Answer}
-use Rattle.search.specs.declared.verdict.Answer.the-variants.{Found, Refused}
+use Rattle.search.specs.declared.verdict.Findings.{Findings}
+use Rattle.search.specs.declared.verdict.Findings.the-variants.{Found, Refused}
 use Rattle.search.specs.declared.verdict.Holding.{Holding}
 use Rattle.search.specs.declared.verdict.Holding.the-variants.{AnyError, Below}
 use Rattle.search.specs.declared.verdict.Verdict.{Verdict}
@@ -29,6 +30,14 @@ any = 97 ∷ 110 ∷ 121 ∷ []
 -- " zones "
 abbrev pub zonesWord : List ℕ
 zonesWord = 32 ∷ 122 ∷ 111 ∷ 110 ∷ 101 ∷ 115 ∷ 32 ∷ []
+
+-- " again "
+abbrev pub againWord : List ℕ
+againWord = 32 ∷ 97 ∷ 103 ∷ 97 ∷ 105 ∷ 110 ∷ 32 ∷ []
+
+-- " inside "
+abbrev pub insideWord : List ℕ
+insideWord = 32 ∷ 105 ∷ 110 ∷ 115 ∷ 105 ∷ 100 ∷ 101 ∷ 32 ∷ []
 
 -- "refused "
 abbrev pub refused : List ℕ
@@ -53,21 +62,23 @@ unfoldable pub verdictText : Verdict → List ℕ
 verdictText Reached = reached
 verdictText (Holds h) = holds ++ holdingText h
 
-unfoldable pub answerText : Answer → List ℕ
-answerText (Found v zones) = verdictText v ++ (zonesWord ++ decimal zones)
-answerText (Refused k) = refused ++ decimal k
+unfoldable pub findingsText : Findings → List ℕ
+findingsText (Found v x) =
+    verdictText v ++ ((zonesWord ++ decimal (x .zones)) ++
+    ((againWord ++ decimal (x .dropped .again)) ++ (insideWord ++ decimal (x .dropped .inside))))
+findingsText (Refused k) = refused ++ decimal k
 
 -- with the end of the line
-unfoldable pub lineOf : Answer → List ℕ
-lineOf a = answerText a ++ (10 ∷ [])
+unfoldable pub lineOf : Findings → List ℕ
+lineOf r = findingsText r ++ (10 ∷ [])
 
--- ---- a line that is being written: of its 80 bytes the first `length` have been
+-- ---- a line that is being written: of its 136 bytes the first `length` have been
 abbrev pub textOf : Line → List ℕ
 textOf l = take (l .length) (l .bytes)
 
 -- a line of at most so many bytes
 pub record Writing (most : ℕ) (l : Line) : Type 0 where
-  pub room : length (l .bytes) ≡ 80
+  pub room : length (l .bytes) ≡ 136
   pub written : l .length ≤ most
 
 -- r is the line l with the text t behind it, of at most `most` bytes

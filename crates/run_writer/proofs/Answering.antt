@@ -22,7 +22,7 @@ use Rattle.runs.specs.Written.{written}
 use Rattle.search.specs.declared.outcome.Outcome.the-variants.{Going, Reached, Refused}
 use Rattle.search.specs.declared.outcome.Turn.{Turn}
 use Rattle.search.specs.declared.verdict.Findings.the-variants as findings
-use Rattle.search.specs.Answers.{findingsOf, stateFindings, stateOf, searchFindings}
+use Rattle.search.specs.Answers.{findingsOf, droppedIn, stateFindings, stateOf, searchFindings}
 use Rattle.search.specs.Exploring.{Shown}
 use Rattle.search.specs.Instance.{zonesOf, meaningOf}
 use Rattle.search.specs.Outcomes.{cameOf, outcomeOf, Honest}
@@ -66,9 +66,12 @@ module _ (b : List ℕ) (ok : refusalOf b ≡ 0) (s s′ : List ℤ) (t : Turn) 
   numbers-are e = rw (runNumbers, eq-eqb (refusalOf b) 0 ok) (ap (outcomeNumbers b (stateOf b amount)) e)
 
   findings-are : {x : Outcome} → stateOf b (length s) .outcome ≡ x
-      → searchFindings b (length s) ≡ findingsOf x (stateOf b (length s) .frac) (length (stateOf b (length s) .kept))
+      → searchFindings b (length s)
+      ≡ findingsOf x (stateOf b (length s) .frac) (length (stateOf b (length s) .kept)) (droppedIn (stateOf b (length s)))
   unfolding stateFindings
-  findings-are e = found-accepted b ok amount ∙ ap (λ x. findingsOf x (stateOf b amount .frac) (length (stateOf b amount .kept))) e
+  findings-are e =
+      found-accepted b ok amount
+      ∙ ap (λ x. findingsOf x (stateOf b amount .frac) (length (stateOf b amount .kept)) (droppedIn (stateOf b amount))) e
 
   -- the search went to its end, or was refused
   pub going-none : t .outcome ≡ Going → runNumbers b (length s) ≡ []

@@ -13,7 +13,7 @@ use Rattle.search.specs.Store.{capacityOf}
 use Rattle.witness.specs.Witnesses.{placesOf, waitTo, leastTo, backOf, landingOf}
 use Rattle.zones.specs.Containment.{countTo, larger}
 use Rattle.zones.specs.Fractions.{loweredBy, euclid, gcdOf, lowestTerms}
-use Rattle.zones.specs.Pairs.{sumOf, isLess, thresholdOf, smallerOf}
+use Rattle.zones.specs.Pairs.{sumOf, compareOf, isBelow, isLess, thresholdOf, smallerOf}
 use Rattle.zones.specs.Reductions.{relaxed, rowSteps, roundSteps, emptyIn, emptyBelow, afterMiddle, reduceSteps}
 use Rattle.zones.specs.Successors.{andThen, meetOf, enterOf, followOf}
 use Rattle.zones.specs.Zones.{pairAt, firstWork, lowerAt, meetUpper, meetClock, meetLimits, raiseLimits, home, resetPlaces, resetOf}
@@ -24,8 +24,8 @@ use Rattle.run_writer.specs.Writing.{outcomeNumbers, runNumbers, runFind
 pub all-right : AllRight
 unfolding edgeIn firsts guardOf inByte invariantIn invariantOf limitsAt resetSet resetsOf outOfRangeAt refusalOf some be16At be32At pathOf
     find judge offer follow expand take-from search backTo lastState findingsOf searchFindings stateFindings entering following overcounted resultOf
-    capacityOf placesOf waitTo leastTo backOf landingOf countTo larger loweredBy euclid gcdOf lowestTerms sumOf isLess thresholdOf smallerOf
-    relaxed rowSteps roundSteps emptyIn emptyBelow afterMiddle reduceSteps andThen meetOf enterOf followOf
+    capacityOf placesOf waitTo leastTo backOf landingOf countTo larger loweredBy euclid gcdOf lowestTerms sumOf compareOf isBelow isLess thresholdOf
+    smallerOf relaxed rowSteps roundSteps emptyIn emptyBelow afterMiddle reduceSteps andThen meetOf enterOf followOf
     pairAt firstWork lowerAt meetUpper meetClock meetLimits raiseLimits home resetPlaces resetOf
     backAlong landingAlong outcomeNumbers runNumbers runFindings runBuffer
 all-right = record { told = refl; run = refl; refused = refl; untouched = refl; full = refl; none = refl; here = refl }

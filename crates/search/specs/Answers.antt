@@ -10,6 +10,7 @@ use Rattle.automata.specs.Refusals.{refusalOf}
 use Rattle.reachability.specs.Search.{Outcome, going, ended, reached, refused}
 use Rattle.zones.specs.declared.fraction.Fraction.{Fraction}
 use Rattle.zones.specs.Fractions.{lowestTerms}
+use Rattle.search.specs.declared.outcome.Dropped.{Dropped}
 use Rattle.search.specs.declared.verdict.Answer.{Answer}
 use Rattle.search.specs.declared.verdict.Answer.the-variants.{Found, Refused}
 use Rattle.search.specs.declared.verdict.Figures.{Figures}
@@ -21,17 +22,20 @@ use Rattle.search.specs.Store.{storeOf, capacityOf}
 use Rattle.search.specs.Verdicts.{holdingOf}
 
 -- "The verdict, the shelf and the printed line carry the safe fraction, and the bare search gives the exact one beside each verdict". Each "is
--- given out in lowest terms"
-abbrev pub figuresOf : Fraction → ℕ → Figures
-figuresOf exact zones = record { zones = zones; exact = lowestTerms exact }
+-- given out in lowest terms". So do the counts of dropped zones: "The shelf doesn't carry them."
+abbrev pub figuresOf : Fraction → ℕ → Dropped → Figures
+figuresOf exact zones dropped = record { zones = zones; exact = lowestTerms exact; dropped = dropped }
 
-unfoldable pub findingsOf : Outcome → Fractions → ℕ → Findings
-findingsOf going f zones = findings.Found (Holds (holdingOf (lowestTerms (f .safe)))) (figuresOf (f .exact) zones)
-findingsOf (ended (reached c)) f zones = findings.Found Reached (figuresOf (f .exact) zones)
-findingsOf (ended (refused k)) f zones = findings.Refused k
+unfoldable pub findingsOf : Outcome → Fractions → ℕ → Dropped → Findings
+findingsOf going f zones d = findings.Found (Holds (holdingOf (lowestTerms (f .safe)))) (figuresOf (f .exact) zones d)
+findingsOf (ended (reached c)) f zones d = findings.Found Reached (figuresOf (f .exact) zones d)
+findingsOf (ended (refused k)) f zones d = findings.Refused k
+
+abbrev pub droppedIn : ZoneState → Dropped
+droppedIn q = record { again = q .again; inside = q .inside }
 
 unfoldable pub stateFindings : ZoneState → Findings
-stateFindings q = findingsOf (q .outcome) (q .frac) (length (q .kept))
+stateFindings q = findingsOf (q .outcome) (q .frac) (length (q .kept)) (droppedIn q)
 
 -- the search of the bytes b in a store of `amount` numbers: its last state, and what it finds
 abbrev pub stateOf : List ℕ → ℕ → ZoneState

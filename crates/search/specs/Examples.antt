@@ -1,4 +1,5 @@
--- "Cards on the table": document 01's cards A to J and that of document 02, Change 4, each with a store, and what the search finds and leaves.
+-- "Cards on the table": document 01's cards A to J, that of document 02, Change 4, and one more, each with a store, and what the search finds and
+-- leaves.
 use Prim.Native.Nat.{ℕ, _/_, _%_}
 use mathlib.Core.List.{List, [], _∷_, _++_}
 use mathlib.Core.Path.{_≡_}
@@ -64,9 +65,13 @@ kept hi = pos 0 ∷ negsuc 0 ∷ negsuc 0 ∷ pos 0 ∷ pos 0 ∷ pos 0 ∷ pos 
 abbrev first : ℕ → List ℤ
 first hi = kept hi ++ replicate 13 (pos 7)
 
--- what is found: a verdict, the zones kept, and the exact fraction
+-- what is found: a verdict, the zones kept, the exact fraction, and the zones dropped, as again and as inside
+abbrev dropping : Verdict → ℕ → Fraction → ℕ → ℕ → Findings
+dropping v zones exact again inside = Found v (record { zones = zones; exact = exact; dropped = record { again = again; inside = inside } })
+
+-- none is dropped
 abbrev found : Verdict → ℕ → Fraction → Findings
-found v zones exact = Found v (record { zones = zones; exact = exact })
+found v zones exact = dropping v zones exact 0 0
 
 abbrev over : ℕ → ℕ → Fraction
 over n d = record { n = n; d = d }
@@ -101,8 +106,13 @@ examples =
       findings = found (below 3 1) 1 (over 3 1);
       after = first 5;
     }
-    -- H
-    ∷ record { bytes = card 1 (limits 0 5) (limits 0 9) (edge 0 1 0 noUpper); store = lent; findings = found any 1 (over 1 0); after = first 5 }
+    -- H: the edge leads back to the start's own zone
+    ∷ record {
+      bytes = card 1 (limits 0 5) (limits 0 9) (edge 0 1 0 noUpper);
+      store = lent;
+      findings = dropping any 1 (over 1 0) 1 0;
+      after = first 5;
+    }
     -- I
     ∷ record { bytes = firstBytes; store = replicate 10 (pos 7); findings = Refused 10; after = replicate 10 (pos 7) }
     ∷ record { bytes = firstBytes; store = replicate 11 (pos 7); findings = found (below 1 1) 1 (over 1 1); after = kept 5 }
@@ -110,6 +120,19 @@ examples =
     ∷ record { bytes = card 1 (limits 0 5) (limits 0 9) (edge 1 2 7 noUpper); store = lent; findings = Refused 7; after = lent }
     ∷ record { bytes = card 9 (limits 0 5) (limits 0 9) (edge 1 0 7 noUpper); store = lent; findings = Refused 4; after = lent }
     -- document 02: "a start with limits 0 to 20, one edge back to itself with guard lo 1 that resets, and a target with no edge into it. We print
-    -- 1/1", which is the exact fraction; "becomes holds at any error"
-    ∷ record { bytes = card 1 (limits 0 20) (limits 0 9) (edge 0 1 1 noUpper); store = lent; findings = found any 1 (over 1 1); after = first 20 }
+    -- 1/1", which is the exact fraction; "becomes holds at any error". The reset leads back to the same zone
+    ∷ record {
+      bytes = card 1 (limits 0 20) (limits 0 9) (edge 0 1 1 noUpper);
+      store = lent;
+      findings = dropping any 1 (over 1 1) 1 0;
+      after = first 20;
+    }
+    -- the start has 0 to 9; its edge asks for 4 and does not reset, so that its zone has (0, x) = (−4, 1) where the kept one has (0, 0): inside,
+    -- by a threshold of 4/1, which lowers both fractions
+    ∷ record {
+      bytes = card 1 (limits 0 9) (limits 0 9) (edge 0 0 4 noUpper);
+      store = lent;
+      findings = dropping (below 4 1) 1 (over 4 1) 0 1;
+      after = first 9;
+    }
     ∷ []

@@ -60,6 +60,8 @@ pub record Shown (n : ℕ) (s₀ : List ℤ) (q : ZoneState) (s : List ℤ) (t :
   pub store : s ≡ storeOf n (q .kept) s₀
   pub exact : t .exact ≡ q .frac .exact
   pub safe : t .safe ≡ q .frac .safe
+  pub again : t .dropped .again ≡ q .again
+  pub inside : t .dropped .inside ≡ q .inside
   pub outcome : outcomeOf (t .outcome) ≡ q .outcome
   pub honest : Honest (t .outcome)
 

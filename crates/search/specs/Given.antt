@@ -1,9 +1,10 @@
 -- What holds of every answer that is given out, beside the demands.
-use Prim.Native.Nat.{ℕ, _≤_, _<_}
+use Prim.Native.Nat.{ℕ, _+_, _≤_, _<_}
 use mathlib.Core.List.{List}
 use mathlib.Core.Logic.{_⊎_}
 use mathlib.Core.Path.{_≡_}
 use Rattle.zones.specs.declared.fraction.Fraction.{Fraction}
+use Rattle.zones.specs.declared.pair.Pair.{Pair}
 use Rattle.zones.specs.Fractions.{AtMost, gcdOf}
 use Rattle.search.specs.declared.verdict.Answer.{Answer}
 use Rattle.search.specs.declared.verdict.Answer.the-variants.{Found, Refused}
@@ -11,9 +12,13 @@ use Rattle.search.specs.declared.verdict.Findings.{Findings}
 use Rattle.search.specs.declared.verdict.Findings.the-variants as findings
 use Rattle.search.specs.declared.verdict.Verdict.the-variants.{Reached, Holds}
 use Rattle.automata.specs.Refusals.{refusalOf}
+use Rattle.automata.specs.Semantics.{systemOf}
+use Rattle.reachability.specs.Accounts.{one, oneIfEmpty, oneIfLive, entered}
+use Rattle.reachability.specs.Search.{Result}
+use Rattle.search.specs.Instance.{Fractions, zonesOf}
 use Rattle.search.specs.Store.{mostSlots}
 use Rattle.search.specs.Verdicts.{fractionOf, holdingOf}
-use Rattle.search.specs.Answers.{searchFindings, searchAnswer}
+use Rattle.search.specs.Answers.{stateOf, searchFindings, searchAnswer}
 
 -- ---- its numbers: n is at least 1, n/d is in lowest terms, and a record's "4 bytes n, 4 bytes d, 4 bytes zone count" suffice
 pub record Terms (f : Fraction) : Type 0 where
@@ -33,6 +38,18 @@ unfoldable pub Beside : Findings → Type 0
 Beside (findings.Found (Holds h) x) = Terms (x .exact) × AtMost (x .exact) (fractionOf h)
 Beside (findings.Found Reached x) = Terms (x .exact)
 Beside (findings.Refused k) = Unit {0}
+
+-- ---- document 02, Change 5, added up, where the automaton holds: the zones kept and those dropped, as again and as inside, are those that have entered
+-- and are not empty; with the empty ones they are all that have entered. `count` says what each counts for
+abbrev pub enteredBy : List ℕ → (Result (List Pair) Fractions → ℕ) → ℕ → ℕ
+enteredBy b count amount = entered (systemOf b) (zonesOf b) (zonesOf b .top) count (stateOf b amount .kept)
+
+unfoldable pub AddsUp : List ℕ → ℕ → Findings → Type 0
+AddsUp b amount (findings.Found (Holds h) x) =
+    (x .zones + x .dropped .again + x .dropped .inside ≡ enteredBy b oneIfLive amount) ×
+    (x .zones + x .dropped .again + x .dropped .inside + enteredBy b oneIfEmpty amount ≡ enteredBy b one amount)
+AddsUp b amount (findings.Found Reached x) = Unit {0}
+AddsUp b amount (findings.Refused k) = Unit {0}
 
 -- ---- it is the answer "at every store size that lets the search finish", and so is all that the search finds
 unfoldable pub Lasting : List ℕ → Answer → Type 0

@@ -9,7 +9,7 @@ use Rattle.zones.specs.declared.fraction.Fraction.{Fraction}
 use Rattle.zones.specs.declared.pair.Pair.{Pair}
 use Rattle.zones.specs.declared.reduction.Reduced.{Reduced}
 use Rattle.zones.specs.declared.zone.Work.{Work}
-use Rattle.zones.specs.Containment.{within, insideBelow, largestCount}
+use Rattle.zones.specs.Containment.{within, equal, insideBelow, largestCount}
 use Rattle.zones.specs.Fractions.{noLimit, loweredBy}
 use Rattle.zones.specs.Moves.{Closed, Shaped}
 use Rattle.zones.specs.Ranges.{counts}
@@ -66,6 +66,7 @@ zonesOf b =
       enter = entering b;
       succ = following b;
       within = within (suc (clocks b));
+      equal = equal (suc (clocks b));
       lowered = loweredInside b;
       big = overcounted b;
     }

@@ -4,7 +4,7 @@ use mathlib.Core.List.{List}
 use Rattle.search.specs.declared.verdict.Findings.{Findings}
 use Rattle.search.specs.Answers.{answerIn}
 use Rattle.search.specs.Demands.{Robust, KeptExact, KeptContains, Ordered}
-use Rattle.search.specs.Given.{Given, Beside, LastingFindings}
+use Rattle.search.specs.Given.{Given, Beside, AddsUp, LastingFindings}
 
 pub record Promised (b : List ℕ) (amount : ℕ) (r : Findings) : Type 0 where
   pub robust : Robust b (answerIn r)
@@ -13,4 +13,5 @@ pub record Promised (b : List ℕ) (amount : ℕ) (r : Findings) : Type 0 where
   pub ordered : Ordered b amount
   pub given : Given b (answerIn r)
   pub beside : Beside r
+  pub adds-up : AddsUp b amount r
   pub lasting : LastingFindings b r

@@ -1,4 +1,5 @@
 // The search over zones in the lent store: kept zones are taken oldest first, with edges in order.
+use crate::outcome::Dropped;
 use crate::outcome::Outcome;
 use crate::outcome::Turn;
 use crate::successor::enter;
@@ -9,6 +10,7 @@ use automata::fields::target;
 use automata::opened::counts_of;
 use automata::opened::edge_of;
 use slots::containment::inside_below;
+use slots::containment::is_equal;
 use slots::containment::is_within;
 use slots::containment::largest_count;
 use slots::slot::Origin;
@@ -17,7 +19,6 @@ use slots::slot::encode;
 use slots::slot::keep;
 use slots::slot::slot_length;
 use zones::fraction::Fraction;
-use zones::fraction::after_lowering;
 use zones::pair::Pair;
 use zones::reduction::Reduced;
 use zones::zone::Work;
@@ -39,6 +40,8 @@ ghost use Rattle.automata.specs.Semantics.{systemOf};
 ghost use Rattle.slots.specs.Slots.{slotLength, Framed};
 ghost use Rattle.search.specs.Store.{mostSlots, capacityOf};
 ghost use Rattle.search.specs.Answers.{stateOf};
+ghost use Rattle.search.specs.Outcomes.{Few, mostOffers, droppedBy};
+ghost use Rattle.slots.specs.Containing.{ComparableSlots, insideSlots, equalSlots};
 
 // A zone to be kept whose error count is larger is refused by 9.
 const COUNTS: u64 = 65535;
@@ -66,6 +69,16 @@ fn find(store: &[i32], new: &[i32], count: usize, size: usize) -> usize
     count
 }
 
+// The new zone is dropped inside the old one, which contains it: the test's thresholds lower both fractions.
+fn drop_inside(turn: Turn, exact: Fraction, new: &[i32], old: &[i32], pairs: usize) -> Turn
+    requires { ⌜ ComparableSlots (now new) (now old) pairs × Fits32 exact × Fits32 (turn .safe) × Few mostOffers (turn .dropped) ⌝ }
+    ensures { λ r. ⌜ r ≡ droppedBy turn exact (insideSlots (now (new .entry)) (now (old .entry)) pairs)
+        (equalSlots (now (new .entry)) (now (old .entry)) pairs) ⌝ }
+{
+    let below = inside_below(new, old, pairs);
+    turn.dropped(exact, below, is_equal(new, old, pairs))
+}
+
 // A zone that has entered l, not the target: it is dropped inside a kept one, refused, or kept.
 fn judge(
     automaton: &[u8],
@@ -77,7 +90,7 @@ fn judge(
     w: Work,
 ) -> Turn
     requires { ⌜ Accepted (now automaton) × (l < locations (now automaton)) × (l ≡ target (now automaton) → ⊥) ⌝ }
-    requires { ⌜ Going (now automaton) capacity (now store) turn ⌝ }
+    requires { ⌜ Going (now automaton) capacity (now store) turn × Few mostOffers (turn .dropped) ⌝ }
     requires { ⌜ Sized lastCounts (suc (clocks (now automaton))) w × Framed (suc (clocks (now automaton))) (w .zone) ⌝ }
     ensures { λ r. ⌜ ((p : Led origin) → Continues (now (automaton .entry)) capacity (now (store .entry)) turn
         (λ q. judge (systemOf (now (automaton .entry))) (zonesOf (now (automaton .entry))) capacity q
@@ -87,29 +100,25 @@ fn judge(
     let count = turn.count;
     let z = w.zone;
     let exact = w.fraction;
-    let safe = turn.safe;
     let numbers = encode(l, origin, z, size);
     let stride = slot_length(size);
     let j = find(store, &numbers, count, size);
     if j < count {
         let at = j * stride;
-        let below = inside_below(&numbers, &store[at..], size * size);
-        return Turn {
-            count,
-            exact: after_lowering(exact, below),
-            safe: after_lowering(safe, below),
-            outcome: Outcome::Going,
-        };
+        return drop_inside(turn, exact, &numbers, &store[at..], size * size);
     }
     if COUNTS < largest_count(&numbers, size * size) {
         return turn.refused(exact, 9);
     }
     if count < capacity {
         keep(store, count * stride, &numbers, stride);
+        let safe = turn.safe;
+        let dropped = turn.dropped;
         return Turn {
             count: count + 1,
             exact,
             safe,
+            dropped,
             outcome: Outcome::Going,
         };
     }
@@ -127,26 +136,23 @@ fn offer(
     r: Reduced,
 ) -> Turn
     requires { ⌜ Accepted (now automaton) × (l < locations (now automaton)) ⌝ }
-    requires { ⌜ Going (now automaton) capacity (now store) turn × SoundResult (now automaton) r ⌝ }
+    requires { ⌜ Going (now automaton) capacity (now store) turn × SoundResult (now automaton) r × Few mostOffers (turn .dropped) ⌝ }
     ensures { λ t. ⌜ Offers (now (automaton .entry)) capacity (now (store .entry)) turn l origin r (now (store .exit)) t ⌝ }
 {
-    let count = turn.count;
     let work = r.work;
     let exact = work.fraction;
-    let safe = turn.safe;
     if r.empty {
-        return Turn {
-            count,
-            exact,
-            safe: after_lowering(safe, r.safe),
-            outcome: Outcome::Going,
-        };
+        let safe = r.safe;
+        return turn.emptied(exact, safe);
     }
     if l == target(automaton) {
+        let safe = turn.safe;
+        let dropped = turn.dropped;
         return Turn {
-            count,
+            count: turn.count,
             exact,
             safe,
+            dropped,
             outcome: Outcome::Reached(origin),
         };
     }
@@ -167,7 +173,7 @@ fn arrive(
 ) -> Turn
     requires { ⌜ Accepted (now automaton) × (l < locations (now automaton)) × Going (now automaton) capacity (now store) turn ⌝ }
     requires { ⌜ Sized (10 * counts) (suc (clocks (now automaton))) w × Settled (suc (clocks (now automaton))) w ⌝ }
-    requires { ⌜ SoundResult (now automaton) (arrivalOf (now automaton) l (setOf resets) w) ⌝ }
+    requires { ⌜ SoundResult (now automaton) (arrivalOf (now automaton) l (setOf resets) w) × Few mostOffers (turn .dropped) ⌝ }
     ensures { λ t. ⌜ Offers (now (automaton .entry)) capacity (now (store .entry)) turn l origin
         (arrivalOf (now (automaton .entry)) l (setOf resets) w) (now (store .exit)) t ⌝ }
 {
@@ -186,7 +192,7 @@ fn follow(
     edge: Edge,
     w: Work,
 ) -> Turn
-    requires { ⌜ Accepted (now automaton) × (i < edges (now automaton)) × (edge ≡ edgeOf (now automaton) i) ⌝ }
+    requires { ⌜ Accepted (now automaton) × (i < edges (now automaton)) × (edge ≡ edgeOf (now automaton) i) × Few mostOffers (turn .dropped) ⌝ }
     requires { ⌜ Going (now automaton) capacity (now store) turn × SoundZone (now automaton) (w .zone) × Fits32 (w .fraction) ⌝ }
     ensures { λ t. ⌜ Offers (now (automaton .entry)) capacity (now (store .entry)) turn (to (now (automaton .entry)) i) origin
         (successorOf (now (automaton .entry)) i w) (now (store .exit)) t ⌝ }
@@ -195,15 +201,10 @@ fn follow(
     let at = counts.edge_at(i) + 3;
     let met = narrow(automaton, at, counts.clocks, w, false);
     if met.empty {
-        let count = turn.count;
         let work = met.work;
         let exact = work.fraction;
-        return Turn {
-            count,
-            exact,
-            safe: after_lowering(turn.safe, met.safe),
-            outcome: Outcome::Going,
-        };
+        let safe = met.safe;
+        return turn.emptied(exact, safe);
     }
     let resets = edge.resets;
     arrive(
@@ -229,7 +230,7 @@ fn expand(
     z: [Pair; 81],
 ) -> Turn
     requires { ⌜ Accepted (now automaton) × Going (now automaton) capacity (now store) turn × SoundZone (now automaton) z ⌝ }
-    requires { ⌜ parent < mostSlots ⌝ }
+    requires { ⌜ (parent < mostSlots) × Few (suc (parent * 256)) (turn .dropped) ⌝ }
     ensures { λ r. ⌜ ((c : Came) (p : List ℕ) → Continues (now (automaton .entry)) capacity (now (store .entry)) turn
         (expand (systemOf (now (automaton .entry))) (zonesOf (now (automaton .entry))) capacity parent (nodeAt l c p z)
         (edges (now (automaton .entry))) 0) (now (store .exit)) r) ⌝ }
@@ -260,7 +261,7 @@ fn expand(
 
 // The kept zones, oldest first, each once, until nothing is left to take.
 fn take(automaton: &[u8], store: &mut [i32], turn: Turn, capacity: usize) -> Turn
-    requires { ⌜ Accepted (now automaton) × Going (now automaton) capacity (now store) turn ⌝ }
+    requires { ⌜ Accepted (now automaton) × Going (now automaton) capacity (now store) turn × Few 1 (turn .dropped) ⌝ }
     ensures { λ r. ⌜ Continues (now (automaton .entry)) capacity (now (store .entry)) turn
         (take-from (systemOf (now (automaton .entry))) (zonesOf (now (automaton .entry))) capacity capacity 0) (now (store .exit)) r ⌝ }
 {
@@ -302,6 +303,10 @@ pub fn explore(automaton: &[u8], store: &mut [i32]) -> Turn
         count: 0,
         exact: Fraction { n: 1, d: 0 },
         safe: Fraction { n: 1, d: 0 },
+        dropped: Dropped {
+            again: 0,
+            inside: 0,
+        },
         outcome: Outcome::Going,
     };
     let t = arrive(

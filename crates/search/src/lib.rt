@@ -6,6 +6,7 @@ pub mod verdict;
 
 use automata::refusal;
 use exploration::explore;
+use outcome::Dropped;
 use outcome::Outcome;
 use outcome::Turn;
 use verdict::Figures;
@@ -33,27 +34,32 @@ fn holding(f: Fraction) -> Holding
 }
 
 // What stands beside the verdict.
-fn figures(count: usize, exact: Fraction) -> Figures
+fn figures(count: usize, exact: Fraction, dropped: Dropped) -> Figures
     requires { ⌜ count ≤ mostSlots ⌝ }
-    ensures { λ r. ⌜ r ≡ figuresOf exact count ⌝ }
+    ensures { λ r. ⌜ r ≡ figuresOf exact count dropped ⌝ }
 {
     Figures {
         zones: count as u32,
         exact: exact.lowest_terms(),
+        dropped,
     }
 }
 
 // What the search has found, from where it stopped.
 pub fn findings(t: Turn) -> Findings
     requires { ⌜ t .count ≤ mostSlots ⌝ }
-    ensures { λ r. ⌜ r ≡ findingsOf (outcomeOf (t .outcome)) (fractionsOf (t .exact) (t .safe)) (t .count) ⌝ }
+    ensures { λ r. ⌜ r ≡ findingsOf (outcomeOf (t .outcome)) (fractionsOf (t .exact) (t .safe)) (t .count) (t .dropped) ⌝ }
 {
     let exact = t.exact;
     let safe = t.safe;
+    let dropped = t.dropped;
     let outcome = t.outcome;
     match outcome {
-        Outcome::Going => Findings::Found(Verdict::Holds(holding(safe)), figures(t.count, exact)),
-        Outcome::Reached(o) => Findings::Found(Verdict::Reached, figures(t.count, exact)),
+        Outcome::Going => Findings::Found(
+            Verdict::Holds(holding(safe)),
+            figures(t.count, exact, dropped),
+        ),
+        Outcome::Reached(o) => Findings::Found(Verdict::Reached, figures(t.count, exact, dropped)),
         Outcome::Refused(k) => Findings::Refused(k),
     }
 }

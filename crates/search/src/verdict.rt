@@ -1,4 +1,5 @@
 // A verdict, and document 01's numbers for it: both directions, and which numbers are those of a verdict.
+use crate::outcome::Dropped;
 use zones::fraction::Fraction;
 use zones::fraction::gcd;
 ghost use mathlib.Core.Path.{_≡_};
@@ -23,10 +24,11 @@ pub enum Answer {
     Refused(u32),
 }
 
-// What stands beside a verdict of the bare search: the number of zones kept, and the exact fraction.
+// What stands beside a verdict of the bare search: the number of zones kept, the exact fraction, and the zones dropped.
 pub struct Figures {
     pub zones: u32,
     pub exact: Fraction,
+    pub dropped: Dropped,
 }
 
 // What the bare search finds: a verdict, which has the safe fraction, with its figures, or the number of a refusal.

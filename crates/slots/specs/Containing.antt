@@ -1,4 +1,4 @@
--- The containment test of two slots, on their numbers, and the largest error count of one: of their first t pairs each. Last, what the code asks.
+-- Two slots compared, on their numbers, and the largest error count of one: of their first t pairs each. Last, what the code asks.
 use Prim.Native.Nat.{ℕ, zero, suc, _<_, _≤_}
 use mathlib.Core.Path.{_≡_}
 use mathlib.Core.Bool.{Bool, true, false, cond}
@@ -7,23 +7,35 @@ use lib.ListN.{length, getD}
 use lib.IntN.{ℤ, pos}
 use lib.Signed.{_≤ℤ_, ltZ}
 use Rattle.zones.specs.declared.fraction.Fraction.{Fraction}
+use Rattle.zones.specs.declared.pair.Comparison.{Comparison}
+use Rattle.zones.specs.declared.pair.Comparison.the-variants.{Below, Equal, Above}
 use Rattle.zones.specs.Containment.{larger}
 use Rattle.zones.specs.Fractions.{noLimit, loweredBy}
-use Rattle.zones.specs.Pairs.{thresholdOf}
+use Rattle.zones.specs.Pairs.{isAtMost, isEqual, thresholdOf}
 use Rattle.zones.specs.Ranges.{Bounded, lastCounts}
 use Rattle.runs.specs.Limits.{scale}
 use Rattle.slots.specs.Slots.{mAt, pAt, slotPair}
 
--- pair t of `old` is smaller than that of `new`
-abbrev pub lessAt : List ℤ → List ℤ → ℕ → Bool
-lessAt new old t =
-    cond (ltZ (getD old (mAt t) (pos 0)) (getD new (mAt t) (pos 0))) true
-    (cond (ltZ (getD new (mAt t) (pos 0)) (getD old (mAt t) (pos 0))) false
-    (ltZ (getD old (pAt t) (pos 0)) (getD new (pAt t) (pos 0))))
+-- how pair t of `new` stands to that of `old`: the comparison of pairs, on their numbers
+unfoldable pub compareNumbers : List ℤ → List ℤ → ℕ → Comparison
+compareNumbers new old t =
+    cond (ltZ (getD new (mAt t) (pos 0)) (getD old (mAt t) (pos 0))) Below
+    (cond (ltZ (getD old (mAt t) (pos 0)) (getD new (mAt t) (pos 0))) Above
+    (cond (ltZ (getD new (pAt t) (pos 0)) (getD old (pAt t) (pos 0))) Below
+    (cond (ltZ (getD old (pAt t) (pos 0)) (getD new (pAt t) (pos 0))) Above Equal)))
 
-unfoldable pub withinSlots : List ℤ → List ℤ → ℕ → Bool
-withinSlots new old zero = true
-withinSlots new old (suc t) = cond (lessAt new old t) false (withinSlots new old t)
+-- each of the first t pairs passes
+unfoldable pub everyPair : ℕ → (ℕ → Bool) → Bool
+everyPair zero passes = true
+everyPair (suc t) passes = cond (passes t) (everyPair t passes) false
+
+-- each pair of `new` is the smaller or equal beside that of `old`
+abbrev pub withinSlots : List ℤ → List ℤ → ℕ → Bool
+withinSlots new old t = everyPair t (λ i. isAtMost (compareNumbers new old i))
+
+-- each pair of `new` equals that of `old`
+abbrev pub equalSlots : List ℤ → List ℤ → ℕ → Bool
+equalSlots new old t = everyPair t (λ i. isEqual (compareNumbers new old i))
 
 -- the lowest threshold of a test that holds: the pairs of `new` were chosen
 unfoldable pub insideSlots : List ℤ → List ℤ → ℕ → Fraction

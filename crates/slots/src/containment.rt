@@ -1,31 +1,62 @@
-// The containment test of two slots, on their numbers, and the largest error count of one.
+// Two slots compared, on their numbers: containment, and whether they are equal; and the largest error count of one.
 use crate::slot::FIRST_M;
 use crate::slot::FIRST_P;
 use crate::slot::get_pair;
 use zones::fraction::Fraction;
+use zones::pair::Comparison;
 ghost use mathlib.Core.Path.{_≡_};
-ghost use Prim.Native.Nat.{_≤_};
+ghost use Prim.Native.Nat.{_≤_, _<_};
 ghost use lib.ListN.{length};
-ghost use Rattle.slots.specs.Slots.{mAt};
-ghost use Rattle.slots.specs.Containing.{withinSlots, insideSlots, largestSlot, Readable, ComparableSlots};
+ghost use Rattle.slots.specs.Slots.{mAt, pAt};
+ghost use Rattle.slots.specs.Containing.{compareNumbers, withinSlots, equalSlots, insideSlots, largestSlot, Readable, ComparableSlots};
+
+// How pair t of the new slot stands to that of the old one: the comparison of pairs, on their numbers.
+fn compare_at(new: &[i32], old: &[i32], t: usize) -> Comparison
+    requires { ⌜ (pAt t < length (now new)) × (pAt t < length (now old)) ⌝ }
+    ensures { λ r. ⌜ r ≡ compareNumbers (now (new .entry)) (now (old .entry)) t ⌝ }
+{
+    let m = FIRST_M + 2 * t;
+    let p = FIRST_P + 2 * t;
+    if new[m] < old[m] {
+        return Comparison::Below;
+    }
+    if old[m] < new[m] {
+        return Comparison::Above;
+    }
+    if new[p] < old[p] {
+        return Comparison::Below;
+    }
+    if old[p] < new[p] {
+        return Comparison::Above;
+    }
+    Comparison::Equal
+}
 
 // Whether each of the new slot's pairs is the smaller or equal beside the old one's. The search
 // spends its time here: it stops at the first pair that is not.
 pub fn is_within(new: &[i32], old: &[i32], pairs: usize) -> bool
-    requires { ⌜ (mAt pairs ≤ length (now new)) × (mAt pairs ≤ length (now old)) × (pairs ≤ 81) ⌝ }
+    requires { ⌜ (mAt pairs ≤ length (now new)) × (mAt pairs ≤ length (now old)) ⌝ }
     ensures { λ r. ⌜ r ≡ withinSlots (now (new .entry)) (now (old .entry)) pairs ⌝ }
 {
     let mut t = 0;
     while t < pairs {
-        let m = FIRST_M + 2 * t;
-        let p = FIRST_P + 2 * t;
-        if old[m] < new[m] {
+        if !compare_at(new, old, t).is_at_most() {
             return false;
         }
-        if old[m] == new[m] {
-            if old[p] < new[p] {
-                return false;
-            }
+        t += 1;
+    }
+    true
+}
+
+// Whether each of the new slot's pairs equals the old one's.
+pub fn is_equal(new: &[i32], old: &[i32], pairs: usize) -> bool
+    requires { ⌜ (mAt pairs ≤ length (now new)) × (mAt pairs ≤ length (now old)) ⌝ }
+    ensures { λ r. ⌜ r ≡ equalSlots (now (new .entry)) (now (old .entry)) pairs ⌝ }
+{
+    let mut t = 0;
+    while t < pairs {
+        if !compare_at(new, old, t).is_equal() {
+            return false;
         }
         t += 1;
     }

@@ -2,3 +2,4 @@
 pub mod Places
 pub mod Limits
 pub mod Inside
+pub mod Regardless

@@ -13,7 +13,7 @@ use Rattle.zones.specs.declared.fraction.Fraction.{Fraction}
 use Rattle.zones.specs.declared.pair.Pair.{Pair}
 use Rattle.zones.specs.declared.reduction.Reduced.{Reduced}
 use Rattle.zones.specs.declared.zone.Work.{Work}
-use Rattle.zones.specs.Containment.{within, insideBelow, largestCount}
+use Rattle.zones.specs.Containment.{within, equal, insideBelow, largestCount}
 use Rattle.zones.specs.Fractions.{noLimit, loweredBy, lowestTerms}
 use Rattle.zones.specs.Pairs.{zeroPair}
 use Rattle.zones.specs.Reductions.{reduceOf}
@@ -291,6 +291,10 @@ lowering =
 abbrev inner : List Pair
 inner = square 3 (o ∷ less 2 3 ∷ plus 9 9 ∷ plus 5 2 ∷ o ∷ [])
 
+-- the same two indices, and (0, 0) in that place
+abbrev inTwo : List Pair
+inTwo = square 3 (o ∷ less 2 3 ∷ o ∷ plus 5 2 ∷ o ∷ [])
+
 abbrev outer : ℕ → ℕ → List Pair
 outer m p = square 3 (o ∷ less 1 1 ∷ o ∷ plus m p ∷ o ∷ [])
 
@@ -306,6 +310,16 @@ containing =
     -- at equal m the larger p is not; a larger m is not
     ∷ test (within 2 inner (outer 5 1)) gives test false
     ∷ test (within 2 inner (outer 4 9)) gives test false
+    -- every pair of a zone equals its own; those of `inner` are not all those of another that contains it, nor the other way round
+    ∷ test (equal 2 inner inner) gives test true
+    ∷ test (equal 2 inner (outer 5 2)) gives test false
+    ∷ test (equal 2 (outer 5 2) inner) gives test false
+    -- one count more in one pair: contained, and not equal
+    ∷ test (within 2 (outer 7 1) (outer 7 2)) gives test true
+    ∷ test (equal 2 (outer 7 1) (outer 7 2)) gives test false
+    -- what is no entry does not count: `inner` has (9, 9) in the third place of row 0
+    ∷ test (equal 2 inner inTwo) gives test true
+    ∷ test (equal 3 inner inTwo) gives test false
     -- of 0, 3, 2, 0
     ∷ count (largestCount 2 inner) gives count 3
     ∷ []

@@ -7,6 +7,8 @@ use lib.Signed.{ltZ}
 use Rattle.zones.specs.declared.fraction.Fraction.{Fraction}
 use Rattle.zones.specs.declared.pair.Pair.{Pair}
 use Rattle.zones.specs.declared.pair.Choice.{Choice}
+use Rattle.zones.specs.declared.pair.Comparison.{Comparison}
+use Rattle.zones.specs.declared.pair.Comparison.the-variants.{Below, Equal, Above}
 use Rattle.zones.specs.Fractions.{noLimit}
 
 -- "The first zone has all pairs (0, 0)"
@@ -24,9 +26,30 @@ atLeast lo = record { m = negℤ (pos lo); p = 1 }
 unfoldable pub sumOf : Pair → Pair → Pair
 sumOf a b = record { m = a .m +ℤ b .m; p = a .p + b .p }
 
--- "Of two pairs the smaller has the smaller m; at equal m, the smaller p": a is smaller than b
+-- "Of two pairs the smaller has the smaller m; at equal m, the smaller p"; document 02: "Comparing two pairs must now say below, equal or above":
+-- how a stands to b
+unfoldable pub compareOf : Pair → Pair → Comparison
+compareOf a b =
+    cond (ltZ (a .m) (b .m)) Below (cond (ltZ (b .m) (a .m)) Above (cond (ltb (a .p) (b .p)) Below (cond (ltb (b .p) (a .p)) Above Equal)))
+
+unfoldable pub isBelow : Comparison → Bool
+isBelow Below = true
+isBelow Equal = false
+isBelow Above = false
+
+unfoldable pub isEqual : Comparison → Bool
+isEqual Below = false
+isEqual Equal = true
+isEqual Above = false
+
+unfoldable pub isAtMost : Comparison → Bool
+isAtMost Below = true
+isAtMost Equal = true
+isAtMost Above = false
+
+-- a is the smaller of the two
 unfoldable pub isLess : Pair → Pair → Bool
-isLess a b = cond (ltZ (a .m) (b .m)) true (cond (ltZ (b .m) (a .m)) false (ltb (a .p) (b .p)))
+isLess a b = isBelow (compareOf a b)
 
 -- "Where the chosen (m, p) has p above the other's r, the other being (q, r), the comparison yields the threshold (q − m)/(p − r)": a was chosen, and
 -- b was not

@@ -1,16 +1,55 @@
-// Pairs, their order, and the threshold of a comparison.
+// Pairs, how one stands to another, and the threshold of a comparison.
 use crate::fraction::Fraction;
 use crate::fraction::after_lowering;
 ghost use mathlib.Core.Path.{_≡_};
 ghost use lib.Signed.{_≤ℤ_};
 ghost use Rattle.zones.specs.Fractions.{loweredBy};
-ghost use Rattle.zones.specs.Pairs.{atMost, atLeast, sumOf, isLess, thresholdOf, smallerOf};
+ghost use Rattle.zones.specs.Pairs.{atMost, atLeast, sumOf, isBelow, isEqual, isAtMost, compareOf, isLess, thresholdOf, smallerOf};
 ghost use Rattle.zones.specs.Ranges.{Small, Fits32, ChoiceReady};
 
 // A pair stands for m + p × error.
 pub struct Pair {
     pub m: i64,
     pub p: u64,
+}
+
+// How a pair stands to another.
+pub enum Comparison {
+    Below,
+    Equal,
+    Above,
+}
+
+impl Comparison {
+    pub(crate) fn is_below(self) -> bool
+        ensures { λ r. ⌜ r ≡ isBelow self ⌝ }
+    {
+        match self {
+            Comparison::Below => true,
+            Comparison::Equal => false,
+            Comparison::Above => false,
+        }
+    }
+
+    pub fn is_equal(self) -> bool
+        ensures { λ r. ⌜ r ≡ isEqual self ⌝ }
+    {
+        match self {
+            Comparison::Below => false,
+            Comparison::Equal => true,
+            Comparison::Above => false,
+        }
+    }
+
+    pub fn is_at_most(self) -> bool
+        ensures { λ r. ⌜ r ≡ isAtMost self ⌝ }
+    {
+        match self {
+            Comparison::Below => true,
+            Comparison::Equal => true,
+            Comparison::Above => false,
+        }
+    }
 }
 
 // The smaller of two pairs, and the comparison's threshold.
@@ -47,21 +86,34 @@ impl Pair {
         Pair { m: a + b, p: p + r }
     }
 
-    // Whether this pair is the smaller: the smaller m, and at equal m the smaller p.
-    pub(crate) fn is_less(self, o: Pair) -> bool
-        ensures { λ r. ⌜ r ≡ isLess self o ⌝ }
+    // How this pair stands to o: the smaller m is below, and at equal m the smaller p.
+    pub(crate) fn compare(self, o: Pair) -> Comparison
+        ensures { λ r. ⌜ r ≡ compareOf self o ⌝ }
     {
         let a = self.m;
         let b = o.m;
         let p = self.p;
         let r = o.p;
         if a < b {
-            return true;
+            return Comparison::Below;
         }
         if b < a {
-            return false;
+            return Comparison::Above;
         }
-        p < r
+        if p < r {
+            return Comparison::Below;
+        }
+        if r < p {
+            return Comparison::Above;
+        }
+        Comparison::Equal
+    }
+
+    // Whether this pair is the smaller.
+    pub(crate) fn is_less(self, o: Pair) -> bool
+        ensures { λ r. ⌜ r ≡ isLess self o ⌝ }
+    {
+        self.compare(o).is_below()
     }
 
     // The threshold of a comparison in which this pair was chosen and o was not.

@@ -8,7 +8,7 @@ returns : tie.Need-returns
 returns c =
     let wrote = c .before .before in
     let numbers = wrote .before .before in
-    tells-verdict _ _ _ (numbers .before .before .before .found .given .1) (numbers .verdict-numbers .ensures) (wrote .write-over .ensures)
+    tells-verdict _ _ _ (numbers .before .before .found .given .1) (numbers .verdict-numbers .ensures) (wrote .write-over .ensures)
 
 returns-2 : tie.Need-returns-2
 returns-2 c = tells-none _ _ (c .before .found2 .given .1)

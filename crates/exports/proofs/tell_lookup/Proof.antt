@@ -1,4 +1,6 @@
 -- `tell_lookup` meets its contract: a filed verdict's numbers are written, none where there is none or where it is refused.
+use mathlib.Core.Path.{ap, _∙_}
+use Rattle.exports.specs.Replies.{verdictNumbers}
 use Rattle.exports.proofs.Telling.{tells-filed, tells-absent, tells-turned-down}
 use borrow.Author.Needs.{needs}
 use Rattle.exports.proofs.tell_lookup.Statement.{statement}
@@ -8,7 +10,9 @@ returns : tie.Need-returns
 returns c =
     let wrote = c .before .before in
     let numbers = wrote .before .before in
-    tells-filed _ _ _ _ (numbers .before .before .found .given .1) (numbers .verdict-numbers .ensures) (wrote .write-over .ensures)
+    let beside = numbers .before in
+    tells-filed _ _ _ _ (beside .before .before .found .given .1)
+    (numbers .verdict-numbers .ensures ∙ ap (verdictNumbers _) (beside .filed-figures .ensures)) (wrote .write-over .ensures)
 
 returns-2 : tie.Need-returns-2
 returns-2 c = tells-absent _ _ (c .enum-told .given .1)
@@ -21,6 +25,7 @@ tell-lookup-spec =
     tie.close
     (tie.spec
     (λ c. search needs)
+    (λ c κs. search needs)
     (λ c κs. search needs)
     (λ c κs. search needs)
     (λ c. search needs)

@@ -1,4 +1,4 @@
--- What is told of a verdict: its numbers, its zones, and the exact fraction.
+-- What is told of a verdict: its numbers, and what stands beside it.
 -- Assumes nothing.
 use mathlib.Core.List.{_∷_, []}
 use mathlib.Core.Path.{ap}
@@ -11,8 +11,10 @@ use Rattle.exports.proofs.verdict_numbers.Tie as tie
 returns : tie.Need-returns
 unfolding verdictNumbers
 returns c =
-    let a = c .before .before .args in
-    ap (λ (x : Numbers). x .kind ∷ x .n ∷ x .d ∷ a .zones ∷ a .exact .n ∷ a .exact .d ∷ 0 ∷ 0 ∷ []) (c .before .numbers-of .ensures)
+    let told = c .before .before .before .before in
+    let a = told .before .args .beside in
+    ap (λ (x : Numbers). x .kind ∷ x .n ∷ x .d ∷ a .zones ∷ a .exact .n ∷ a .exact .d ∷ a .dropped .again ∷ a .dropped .inside ∷ [])
+    (told .numbers-of .ensures)
 
 pub verdict-numbers-spec : {M : Type 1} → statement M
-verdict-numbers-spec = tie.close (tie.spec (λ c κs. search needs) (λ c. search needs) returns)
+verdict-numbers-spec = tie.close (tie.spec (λ c κs. search needs) (λ c. search needs) (λ c. search needs) returns)

@@ -11,9 +11,9 @@ use Rattle.robustness.specs.declared.line.Line.{Line}
 use Rattle.robustness.specs.Lines.{Behind, textOf}
 
 -- ---- what a copy into the part behind the line leaves
-pub copied : (l : Line) (t ys : List ℕ) {i : ℕ} → length (l .bytes) ≡ 80 → i ≡ length t
-    → ys ≡ take (length t) t ++ drop (length t) (take (80 - l .length) (drop (l .length) (l .bytes)))
-    → take (l .length) (l .bytes) ++ (ys ++ drop (80 - l .length) (drop (l .length) (l .bytes))) ≡ paste (l .bytes) (l .length) t i
+pub copied : (l : Line) (t ys : List ℕ) {i : ℕ} → length (l .bytes) ≡ 136 → i ≡ length t
+    → ys ≡ take (length t) t ++ drop (length t) (take (136 - l .length) (drop (l .length) (l .bytes)))
+    → take (l .length) (l .bytes) ++ (ys ++ drop (136 - l .length) (drop (l .length) (l .bytes))) ≡ paste (l .bytes) (l .length) t i
 copied l t ys full e g =
     let b = l .bytes in
     let at = l .length in
@@ -22,7 +22,7 @@ copied l t ys full e g =
     ∙ sym (append-assoc (take at b) (take (length t) t) (drop (at + length t) b)) ∙ ap (paste b at t) (sym e)
 
 -- the text is behind the line
-pub pasted : (l : Line) (t : List ℕ) (i : ℕ) (bytes : List ℕ) → length (l .bytes) ≡ 80 → l .length + length t ≤ 80
+pub pasted : (l : Line) (t : List ℕ) (i : ℕ) (bytes : List ℕ) → length (l .bytes) ≡ 136 → l .length + length t ≤ 136
     → i ≡ length t → bytes ≡ paste (l .bytes) (l .length) t i
     → Behind l t (length t) (record { bytes = bytes; length = l .length + i })
 pasted l t i bytes full room e g = record {

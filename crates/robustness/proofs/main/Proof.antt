@@ -1,4 +1,4 @@
--- The program stays inside its buffers: a line has at most 75 of its 80 bytes.
+-- The program stays inside its buffers: a line has at most 132 of its 136 bytes.
 -- Assumes nothing.
 use borrow.Author.Needs.{needs}
 use mathlib.Core.Path.{sym}
@@ -21,7 +21,6 @@ main-spec =
     (λ c. search needs)
     (λ c. search needs)
     (λ c. search needs)
-    (λ c κs. search needs)
     (λ c κs. search needs)
     (λ c κs. search needs)
     (λ c. search needs)

@@ -10,6 +10,7 @@ use lib.ListN.{length}
 use native.Mathlib.Nat.{eq-zero-or-pos}
 use native.Mathlib.Omega.{arith}
 use Rattle.zones.specs.declared.fraction.Fraction.{Fraction}
+use Rattle.search.specs.declared.outcome.Dropped.{Dropped}
 use Rattle.search.specs.declared.outcome.Turn.{Turn}
 use Rattle.search.specs.declared.verdict.Findings.{Findings}
 use Rattle.search.specs.declared.verdict.Findings.the-variants.{Found, Refused}
@@ -44,18 +45,18 @@ unfolding holdingOf
 holding-below f e = rw (holdingOf, ne-eqb (f .d) 0 e) refl
 
 -- ---- what is found, by the outcome x with which the search stopped
-module _ {x : Outcome} (exact safe : Fraction) (zones : ℕ) where
-  pub finds-holding : x ≡ Going → {h : Holding} {y : Figures} → h ≡ holdingOf (lowestTerms safe) → y ≡ figuresOf exact zones →
-      Found (Holds h) y ≡ findingsOf (outcomeOf x) (fractionsOf exact safe) zones
+module _ {x : Outcome} (exact safe : Fraction) (zones : ℕ) (d : Dropped) where
+  pub finds-holding : x ≡ Going → {h : Holding} {y : Figures} → h ≡ holdingOf (lowestTerms safe) → y ≡ figuresOf exact zones d →
+      Found (Holds h) y ≡ findingsOf (outcomeOf x) (fractionsOf exact safe) zones d
   unfolding outcomeOf findingsOf
   finds-holding e f g = rw e (λ i. Found (Holds (f i)) (g i))
 
-  pub finds-reached : {o : Origin} → x ≡ Reached o → {y : Figures} → y ≡ figuresOf exact zones →
-      Found verdict.Reached y ≡ findingsOf (outcomeOf x) (fractionsOf exact safe) zones
+  pub finds-reached : {o : Origin} → x ≡ Reached o → {y : Figures} → y ≡ figuresOf exact zones d →
+      Found verdict.Reached y ≡ findingsOf (outcomeOf x) (fractionsOf exact safe) zones d
   unfolding outcomeOf findingsOf
   finds-reached e g = rw e (ap (Found verdict.Reached) g)
 
-  pub finds-refused : {k : ℕ} → x ≡ outcome.Refused k → Refused k ≡ findingsOf (outcomeOf x) (fractionsOf exact safe) zones
+  pub finds-refused : {k : ℕ} → x ≡ outcome.Refused k → Refused k ≡ findingsOf (outcomeOf x) (fractionsOf exact safe) zones d
   unfolding outcomeOf findingsOf
   finds-refused e = rw e refl
 
@@ -89,11 +90,13 @@ module _ (b : List ℕ) (ok : refusalOf b ≡ 0) (s s′ : List ℤ) (t : Turn) 
       let c = capacityOf (suc (clocks b)) (length s) in
       omega (arith, h .number, search-room (systemOf b) (zonesOf b) c, capacity-small (suc (clocks b)) (length s))
 
-  pub searched-findings : {r : Findings} → r ≡ findingsOf (outcomeOf (t .outcome)) (fractionsOf (t .exact) (t .safe)) (t .count) →
+  pub searched-findings : {r : Findings} → r ≡ findingsOf (outcomeOf (t .outcome)) (fractionsOf (t .exact) (t .safe)) (t .count) (t .dropped) →
       r ≡ searchFindings b (length s)
   unfolding stateFindings
   searched-findings e =
-      e ∙ (λ i. findingsOf (h .outcome i) (fractionsOf (h .exact i) (h .safe i)) (h .number i)) ∙ sym (found-accepted b ok (length s))
+      e
+      ∙ (λ i. findingsOf (h .outcome i) (fractionsOf (h .exact i) (h .safe i)) (h .number i) (record { again = h .again i; inside = h .inside i }))
+      ∙ sym (found-accepted b ok (length s))
 
   pub searched-store : s′ ≡ searchStore b s
   unfolding searchStore

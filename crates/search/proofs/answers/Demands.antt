@@ -22,7 +22,7 @@ use Rattle.search.specs.Instance.{zonesOf, meaningOf, searchOf}
 use Rattle.automata.specs.Semantics.{systemOf}
 use Rattle.search.specs.Store.{capacityOf}
 use Rattle.search.specs.Verdicts.{fractionOf, holdingOf}
-use Rattle.search.specs.Answers.{findingsOf, stateFindings, answerIn, searchAnswer}
+use Rattle.search.specs.Answers.{findingsOf, stateFindings, answerIn, searchAnswer, droppedIn}
 use Rattle.reachability.specs.Search.{Outcome, going, ended, reached, refused}
 use Rattle.automata.proofs.accepting.Accepting.{accepted}
 use Rattle.search.proofs.answers.Answers.{by-refusal}
@@ -73,7 +73,7 @@ module _ (b : List ℕ) (c : ℕ) (ok : refusalOf b ≡ 0) where
   state-robust = go (searchOf b c .outcome) refl
     where
       go : (x : Outcome) → searchOf b c .outcome ≡ x →
-          Robust b (answerIn (findingsOf (searchOf b c .outcome) (searchOf b c .frac) (length (searchOf b c .kept))))
+          Robust b (answerIn (findingsOf (searchOf b c .outcome) (searchOf b c .frac) (length (searchOf b c .kept)) (droppedIn (searchOf b c))))
       go going e = rw e (λ s t l d. holds (systemOf b) (zonesOf b) (meaningOf b) 1 0 (laws b (accepted b ok)) c e s t l
           (l, given-below (searchOf b c .frac .safe) safe-positive s t d))
       go (ended (reached x)) e = rw e (reached-hits (systemOf b) (zonesOf b) (meaningOf b) 1 0 (laws b (accepted b ok)) c x e)

@@ -26,14 +26,15 @@ use Rattle.reachability.specs.Search.{Result, empty, zone, Outcome, going, ende
 use Rattle.automata.specs.Semantics.{systemOf}
 use Rattle.search.specs.Store.{mostSlots, capacityOf}
 use Rattle.search.specs.Verdicts.{fractionOf, holdingOf}
-use Rattle.search.specs.Answers.{findingsOf, stateFindings, stateOf, searchFindings, answerIn, searchAnswer}
+use Rattle.search.specs.Answers.{findingsOf, droppedIn, stateFindings, stateOf, searchFindings, answerIn, searchAnswer}
 use Rattle.automata.proofs.accepting.Accepting.{accepted, refusal-small}
 use Rattle.reachability.proofs.Capacity.{finished-same, larger-same}
 use Rattle.reachability.proofs.Keeps.{search-keeps, search-room}
 use Rattle.search.proofs.answers.Answers.{found-accepted, found-refused, by-refusal}
 use Rattle.search.proofs.answers.Demands.{exact-positive, safe-positive, given-ordered, given-fraction, robust, kept-exact}
 use Rattle.search.proofs.answers.Demands.{kept-contains, ordered}
-use Rattle.reachability.proofs.Judged.{Judged, was-target, was-inside, was-big, was-kept, was-full, judged}
+use Rattle.search.proofs.answers.Adding.{adds-up}
+use Rattle.reachability.proofs.Judged.{dropping-going, Judged, was-target, was-inside, was-big, was-kept, was-full, judged}
 use Rattle.search.proofs.exploration.Sounding.{begin-sound}
 use Rattle.search.proofs.exploration.Stores.{capacity-small, capacity-more}
 use Rattle.search.proofs.exploration.Taking.{steady-sound}
@@ -51,7 +52,7 @@ Known (ended (refused k)) = (k ≡ 9) ⊎ (k ≡ 10)
 module _ (b : List ℕ) (c : ℕ) where
   judged-known : {q q′ : ZoneState} {k : ZoneNode} {f : Fractions} → Judged (systemOf b) (zonesOf b) c q k f q′ → Known (q′ .outcome)
   judged-known (was-target e) = tt
-  judged-known (was-inside y e g) = tt
+  judged-known (was-inside y e g) = rw dropping-going tt
   judged-known (was-big e g h) = inl refl
   judged-known (was-kept e g h i) = tt
   judged-known (was-full e g h i) = inr refl
@@ -94,7 +95,8 @@ module _ (b : List ℕ) (ok : refusalOf b ≡ 0) (amount : ℕ) where
   exact-terms = lowest (stateOf b amount .frac .exact) (exact-positive b c ok) (final-sound b (accepted b ok) c .exact)
 
   abbrev found : Findings
-  found = findingsOf (stateOf b amount .outcome) (stateOf b amount .frac) (length (stateOf b amount .kept))
+  found =
+      findingsOf (stateOf b amount .outcome) (stateOf b amount .frac) (length (stateOf b amount .kept)) (droppedIn (stateOf b amount))
 
   state-given : Given b (answerIn (stateFindings (stateOf b amount)))
   unfolding stateFindings findingsOf answerIn Given
@@ -171,5 +173,6 @@ promised b amount = record {
   ordered = ordered b amount;
   given = given b amount;
   beside = beside b amount;
+  adds-up = adds-up b amount;
   lasting = finds-once b amount;
 }

@@ -12,11 +12,9 @@ use Rattle.zones.specs.declared.zone.Work.{Work}
 use Rattle.zones.specs.Ranges.{Fits32, Sized, counts}
 use Rattle.zones.specs.Settled.{Settled}
 use Rattle.zones.specs.Successors.{meetOf}
-use Rattle.zones.specs.declared.fraction.Fraction.{Fraction}
-use Rattle.zones.specs.Fractions.{loweredBy}
 use Rattle.zones.specs.Zones.{setOf}
 use Rattle.automata.specs.declared.fields.Edge.{Edge}
-use Rattle.search.specs.declared.outcome.Outcome.the-variants.{Going}
+use Rattle.search.specs.Outcomes.{emptiedBy}
 use Rattle.search.specs.declared.outcome.Turn.{Turn}
 use Rattle.automata.specs.Accepted.{Accepted}
 use Rattle.automata.specs.Automata.{clocks, edges, locations, to, guardOf, resetsOf, invariantOf}
@@ -43,11 +41,10 @@ module _ (b : List ℕ) (a : Accepted b) (i : ℕ) (hi : i < edges b) (w : Work)
     emptied-fits =
         met-safe (clocks b) (a .complete .clocks≤) w refl counts (omega arith) (omega arith) (guardOf b i) (guard-scale b a i hi) taken-sized e
 
-    pub follows-none : r .empty ≡ true → (capacity : ℕ) (s : List ℤ) (turn : Turn) (o : Origin) →
-        {safe : Fraction} → safe ≡ loweredBy (turn .safe) (r .safe) → Offers b capacity s turn (to b i) o (successorOf b i w) s
-        (record { count = turn .count; exact = r .work .fraction; safe = safe; outcome = Going })
-    follows-none f capacity s turn o {safe} g =
-        gives-of b capacity s turn s (record { count = turn .count; exact = r .work .fraction; safe = safe; outcome = Going }) refl
+    pub follows-none : r .empty ≡ true → (capacity : ℕ) (s : List ℤ) (turn : Turn) (o : Origin) → {t : Turn} →
+        t ≡ emptiedBy turn (r .work .fraction) (r .safe) → Offers b capacity s turn (to b i) o (successorOf b i w) s t
+    follows-none f capacity s turn o {t} g =
+        gives-of b capacity s turn s t refl
         (followed-none (clocks b) (a .complete .clocks≤) w refl (guardOf b i) (resetsOf b i) (invariantOf b (to b i)) e f)
         (λ p. gives-empty b capacity s turn (to b i) r p f g)
 

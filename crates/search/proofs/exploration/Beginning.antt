@@ -6,24 +6,26 @@ use mathlib.Core.Bool.{true, false}
 use mathlib.Core.List.{List, []}
 use lib.IntN.{ℤ}
 use lib.ListN.{length}
+use native.Mathlib.Omega.{arith}
 use Rattle.zones.specs.declared.reduction.Reduced.{Reduced}
 use Rattle.zones.specs.Fractions.{noLimit}
 use Rattle.zones.specs.Successors.{enterOf}
 use Rattle.zones.specs.Zones.{firstWork}
 use Rattle.search.specs.declared.outcome.Outcome.the-variants.{Going}
 use Rattle.search.specs.declared.outcome.Turn.{Turn}
-use Rattle.search.specs.Outcomes.{outcomeOf, hasEnded}
+use Rattle.search.specs.Outcomes.{outcomeOf, hasEnded, Few}
 use Rattle.automata.specs.Accepted.{Accepted}
 use Rattle.automata.specs.Automata.{clocks, start, invariantOf}
 use Rattle.search.specs.Exploring.{Shown, Live, Offers, Continues}
 use Rattle.search.specs.Exploring as exploring
 use Rattle.search.specs.Instance.{ZoneState, fractionsOf, zonesOf, resultOf, entering, searchOf}
-use Rattle.reachability.specs.Search.{first-zone, nothing, begin, take-from, search}
+use Rattle.reachability.specs.Search.{first-zone, first-node, nothing, begin, take-from, search}
 use Rattle.automata.specs.Semantics.{systemOf}
 use Rattle.slots.specs.declared.slot.Origin.{Origin}
 use Rattle.slots.specs.Slots.{slotLength, noOrigin}
 use Rattle.search.specs.Store.{originOf, storeOf, slotsOf, mostSlots, capacityOf}
 use Rattle.search.specs.Answers.{stateOf}
+use Rattle.reachability.proofs.Accounts.{offer-drops}
 use Rattle.reachability.proofs.Later.{take-later}
 use Rattle.search.proofs.exploration.Ending.{still, stays}
 use Rattle.search.proofs.exploration.Sounding.{nothing-sound, begin-sound}
@@ -32,6 +34,7 @@ use Rattle.search.proofs.exploration.Stores.{capacity-room, capacity-sm
 -- ---- what the first offer leaves
 pub record Begun (b : List ℕ) (capacity : ℕ) (s s′ : List ℤ) (t′ : Turn) : Type 0 where
   pub goes-on : hasEnded (outcomeOf (t′ .outcome)) ≡ false → exploring.Going b capacity s′ t′
+  pub few : Few 1 (t′ .dropped)
   pub stops : hasEnded (outcomeOf (t′ .outcome)) ≡ true → Shown (suc (clocks b)) s (stateOf b (length s)) s′ t′
   pub rest : hasEnded (outcomeOf (t′ .outcome)) ≡ false → {s″ : List ℤ} {t″ : Turn} →
       Continues b capacity s′ t′ (take-from (systemOf b) (zonesOf b) capacity capacity 0) s″ t″ →
@@ -43,12 +46,12 @@ module _ {b : List ℕ} (a : Accepted b) (s : List ℤ) {capacity : ℕ} (es : c
 
   -- the turn that the search begins with
   abbrev first-turn : Turn
-  first-turn = record { count = 0; exact = noLimit; safe = noLimit; outcome = Going }
+  first-turn = record { count = 0; exact = noLimit; safe = noLimit; dropped = record { again = 0; inside = 0 }; outcome = Going }
 
   blank-live : Live b capacity s blank s first-turn
   unfolding storeOf slotsOf outcomeOf
   blank-live = record {
-    shown = record { number = refl; store = refl; exact = refl; safe = refl; outcome = refl; honest = tt };
+    shown = record { number = refl; store = refl; exact = refl; safe = refl; again = refl; inside = refl; outcome = refl; honest = tt };
     sound = nothing-sound b a capacity;
     goes = refl;
   }
@@ -85,6 +88,14 @@ module _ {b : List ℕ} (a : Accepted b) (s : List ℤ) {capacity : ℕ} (es : c
     pub begun : Begun b capacity s s′ t′
     begun = record {
       goes-on = λ e. record { base = s; state = state; live = still shown (begin-sound b a capacity) e; long = long; few = room };
+      few = record {
+        few = omega (
+          arith,
+          shown .again,
+          shown .inside,
+          offer-drops (systemOf b) (zonesOf b) capacity blank (first-node (systemOf b)) (zonesOf b .enter (zonesOf b .top)),
+        );
+      };
       stops = stays (take-later (systemOf b) (zonesOf b) capacity capacity 0 state) whole shown;
       rest = λ e {s″} {t″} h. rw whole at (h .shows s state (still shown (begin-sound b a capacity) e));
     }

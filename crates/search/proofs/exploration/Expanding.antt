@@ -12,16 +12,17 @@ use Rattle.zones.specs.declared.pair.Pair.{Pair}
 use Rattle.zones.specs.declared.zone.Work.{Work}
 use Rattle.zones.specs.Ranges.{Fits32}
 use Rattle.search.specs.declared.outcome.Turn.{Turn}
-use Rattle.search.specs.Outcomes.{outcomeOf, hasEnded}
+use Rattle.search.specs.Outcomes.{outcomeOf, hasEnded, Few, mostOffers}
 use Rattle.automata.specs.Accepted.{Accepted}
 use Rattle.automata.specs.Automata.{clocks, edges, from, to}
 use Rattle.search.specs.Exploring.{SoundState, SoundZone, Shown, Live, Going, Offers, nodeAt, successorOf}
 use Rattle.search.specs.Instance.{ZoneState, ZoneNode, workOf, resultOf, following, zonesOf}
-use Rattle.reachability.specs.Search.{Came, by-edge, going, follow, expand}
+use Rattle.reachability.specs.Search.{Came, by-edge, going, child, follow, expand}
 use Rattle.automata.specs.Semantics.{systemOf}
 use Rattle.slots.specs.declared.slot.Origin.{Origin}
 use Rattle.slots.specs.Slots.{slotLength, originAlong}
 use Rattle.search.specs.Store.{originOf, mostSlots}
+use Rattle.reachability.proofs.Accounts.{offer-drops}
 use Rattle.reachability.proofs.Judged.{followed, follow-on}
 use Rattle.reachability.proofs.Later.{expand-later}
 use Rattle.search.proofs.exploration.Judging.{live-length}
@@ -44,10 +45,16 @@ module _ (b : List ℕ) (capacity j l : ℕ) (z : List Pair) (c : Came) (p : Lis
     pub state : ZoneState
     pub live : Live b capacity s₀ state s t
     pub rest : opened (edges b - i) i state ≡ opened (edges b) 0 q₀
+    pub few : state .again + state .inside ≤ i + (q₀ .again + q₀ .inside)
 
   pub begins : {s₀ : List ℤ} {q₀ : ZoneState} {s : List ℤ} {t : Turn} → Live b capacity s₀ q₀ s t → Between s₀ q₀ 0 s t
   begins {q₀ = q₀} h =
-      record { state = q₀; live = h; rest = let e : edges b - 0 ≡ edges b = omega arith in ap (λ (m : ℕ). opened m 0 q₀) e }
+      record {
+        state = q₀;
+        live = h;
+        rest = let e : edges b - 0 ≡ edges b = omega arith in ap (λ (m : ℕ). opened m 0 q₀) e;
+        few = omega arith;
+      }
 
   -- one edge more, which leads to q′
   one-edge : (i : ℕ) (q : ZoneState) {q′ : ZoneState} → i < edges b → follow (systemOf b) (zonesOf b) capacity j node i q ≡ q′ →
@@ -60,13 +67,17 @@ module _ (b : List ℕ) (capacity j l : ℕ) (z : List Pair) (c : Came) (p : Lis
 
   follow-off : (i : ℕ) (q : ZoneState) → q .outcome ≡ going → (from b i ≡ l → ⊥) → follow (systemOf b) (zonesOf b) capacity j node i q ≡ q
   unfolding follow
-  follow-off i q e h = rw (follow, e, ne-eqb (from b i) l h) (λ k. record { kept = q .kept; frac = q .frac; outcome = e k })
+  follow-off i q e h = rw (follow, e, ne-eqb (from b i) l h) (λ k. record { kept = q .kept; frac = q .frac; outcome = e k; again = q .again; inside = q .inside })
 
 module _ {b : List ℕ} {capacity j l : ℕ} {z : List Pair} {c : Came} {p : List ℕ} {s₀ : List ℤ} {q₀ : ZoneState} {i : ℕ} {s : List ℤ} {t : Turn}
     (w : Between b capacity j l z c p s₀ q₀ i s t) where
   -- what the next call asks
   pub between-going : capacity * slotLength (suc (clocks b)) ≤ length s₀ → capacity ≤ mostSlots → Going b capacity s t
   between-going h f = record { base = s₀; state = w .state; live = w .live; long = h; few = f }
+
+  -- what was dropped so far
+  pub between-few : q₀ .again + q₀ .inside ≤ suc (j * 256) → j < mostSlots → i < 256 → Few mostOffers (t .dropped)
+  between-few h m e = record { few = omega (arith, w .few, w .live .shown .again, w .live .shown .inside) }
 
   pub ends : edges b ≤ i → Shown (suc (clocks b)) s₀ (opened b capacity j l z c p (edges b) 0 q₀) s t
   unfolding expand
@@ -81,6 +92,7 @@ module _ {b : List ℕ} {capacity j l : ℕ} {z : List Pair} {c : Came} {p : Lis
       state = w .state;
       live = w .live;
       rest = sym (one-edge b capacity j l z c p i _ hi (follow-off b capacity j l z c p i (w .state) (w .live .goes) h)) ∙ w .rest;
+      few = omega (arith, w .few);
     }
 
     -- an edge of this one: v is the zone with the running fraction
@@ -126,7 +138,12 @@ module _ {b : List ℕ} {capacity j l : ℕ} {z : List Pair} {c : Came} {p : Lis
         offered-length h = live-length b a h shown sound
 
         pub goes-on : hasEnded (outcomeOf (t′ .outcome)) ≡ false → Between b capacity j l z c p s₀ q₀ (i + 1) s′ t′
-        goes-on f = record { state = next; live = still shown sound f; rest = rest }
+        goes-on f = record {
+          state = next;
+          live = still shown sound f;
+          rest = rest;
+          few = omega (arith, w .few, offer-drops (systemOf b) (zonesOf b) capacity (w .state) (child (systemOf b) j (nodeAt l c p z) i) (zonesOf b .succ i z (w .state .frac)));
+        }
 
         -- a search that has stopped stays as it is
         pub stops : hasEnded (outcomeOf (t′ .outcome)) ≡ true → Shown (suc (clocks b)) s₀ (opened b capacity j l z c p (edges b) 0 q₀) s′ t′

@@ -2,7 +2,7 @@
 -- Assumes nothing.
 use Prim.Native.Nat.{ℕ, zero, suc, _+_, _-_, _*_, _<_, _≤_}
 use mathlib.Core.Path.{_≡_, refl, sym, ap, _∙_, subst}
-use mathlib.Core.Bool.{true, false}
+use mathlib.Core.Bool.{Bool, true, false}
 use mathlib.Core.List.{List, [], _∷_, _++_}
 use borrow.Author.Tests.{lt-ltb, le-ltb, eq-eqb, ne-eqb}
 use lib.Dec.{eqb}
@@ -14,29 +14,29 @@ use native.Mathlib.Nat.{mul-le-mul-right, le-trans}
 use Rattle.zones.specs.declared.fraction.Fraction.{Fraction}
 use Rattle.zones.specs.declared.reduction.Reduced.{Reduced}
 use Rattle.zones.specs.declared.zone.Work.{Work}
-use Rattle.zones.specs.Containment.{largestCount}
+use Rattle.zones.specs.Containment.{equal, insideBelow, largestCount}
 use Rattle.zones.specs.Fractions.{loweredBy}
 use Rattle.zones.specs.Ranges.{AllBounded, Sized, Fits32, counts, lastCounts}
 use Rattle.runs.specs.Limits.{scale}
 use Rattle.search.specs.declared.outcome.Outcome.{Outcome}
 use Rattle.search.specs.declared.outcome.Outcome.the-variants.{Going, Reached, Refused}
 use Rattle.search.specs.declared.outcome.Turn.{Turn}
-use Rattle.search.specs.Outcomes.{cameOf, outcomeOf, Honest}
+use Rattle.search.specs.Outcomes.{cameOf, outcomeOf, Few, mostOffers, droppedWith, emptiedBy, droppedBy, keptBy, reachedBy, refusedBy}
 use Rattle.automata.specs.Accepted.{Accepted}
 use Rattle.automata.specs.Automata.{clocks, locations, target}
 use Rattle.search.specs.Exploring.{FirstHit, SoundNode, SoundState, Shown, Live, Continues, Led, nodeAt}
 use Rattle.search.specs.Exploring as exploring
 use Rattle.search.specs.Instance.{Fractions, fractionsOf, ZoneState, ZoneNode, resultOf, loweredInside, overcounted, zonesOf}
 use Rattle.reachability.specs.Search as defined
-use Rattle.reachability.specs.Search.{Came, first-zone, by-edge, reached, ended, Nth, none, found, find, judge, offer}
+use Rattle.reachability.specs.Search.{Came, first-zone, by-edge, reached, refused, ended, Nth, none, find, dropping, judge, offer}
 use Rattle.automata.specs.Semantics.{systemOf}
 use Rattle.slots.specs.Slots.{slotLength, spare, pAt, headOf, slotOf, zoneOf}
-use Rattle.slots.specs.Containing.{insideSlots, largestSlot, Readable, ComparableSlots}
+use Rattle.slots.specs.Containing.{insideSlots, equalSlots, largestSlot, Readable, ComparableSlots}
 use Rattle.slots.specs.declared.slot.Origin.{Origin}
 use Rattle.search.specs.Store.{originOf, storeOf}
 use Rattle.reachability.proofs.Judged.{Judged, was-target, was-inside, was-big, was-kept, was-full, computes}
 use Rattle.slots.proofs.slot.Codec.{head-size, slot-taken, slot-counts, slot-readable, slot-bounded, zone-of-slot, inside-slots}
-use Rattle.slots.proofs.slot.Codec.{largest-slot}
+use Rattle.slots.proofs.slot.Codec.{equal-slots, largest-slot}
 use Rattle.slots.proofs.slot.Loops.{slots-fit}
 use Rattle.search.proofs.exploration.Stores.{slotAs, SlotAt, slot-at, store-length, store-more, hit-none, hit-first, slot-fits, lent-part}
 
@@ -141,49 +141,84 @@ module _ (b : List ℕ) (a : Accepted b) where
         Judged (systemOf b) (zonesOf b) capacity q to-judge (fractionsOf (w .fraction) (turn .safe)) q′ → Shown n s₀ q′ s′ r → Shown n s₀ after s′ r
     shows {s′} {r} was e = subst (λ (x : ZoneState). Shown n s₀ x s′ r) (sym (computes (systemOf b) (zonesOf b) was)) e
 
-    -- a state with the same zones
-    unmoved : {x : Outcome} {y : defined.Outcome} {exact safe : Fraction} {f : Fractions} → outcomeOf x ≡ y → Honest x → exact ≡ f .exact →
-        safe ≡ f .safe →
-        Shown n s₀ (record { kept = q .kept; frac = f; outcome = y }) s (record { count = turn .count; exact = exact; safe = safe; outcome = x })
-    unmoved e h f g = record { number = d .shown .number; store = d .shown .store; exact = f; safe = g; outcome = e; honest = h }
+    -- a state with the same zones, refused by k
+    stopped-by : {k : ℕ} → Shown n s₀ (defined.stopped q (fractionsOf (w .fraction) (turn .safe)) (refused k)) s (refusedBy turn (w .fraction) k)
+    unfolding outcomeOf
+    stopped-by = record {
+      number = d .shown .number;
+      store = d .shown .store;
+      exact = refl;
+      safe = refl;
+      again = d .shown .again;
+      inside = d .shown .inside;
+      outcome = refl;
+      honest = tt;
+    }
+
+    -- and one with one zone dropped
+    dropped-as : (below : Fraction) {f : Fractions} {t u : Bool} → t ≡ u → loweredBy (w .fraction) below ≡ f .exact →
+        loweredBy (turn .safe) below ≡ f .safe → Shown n s₀ (dropping q f u) s (droppedBy turn (w .fraction) below t)
+    unfolding outcomeOf dropping droppedWith
+    dropped-as below {u = true} e x y = rw e (record {
+      number = d .shown .number;
+      store = d .shown .store;
+      exact = x;
+      safe = y;
+      again = omega (arith, d .shown .again);
+      inside = d .shown .inside;
+      outcome = refl;
+      honest = tt;
+    })
+    dropped-as below {u = false} e x y = rw e (record {
+      number = d .shown .number;
+      store = d .shown .store;
+      exact = x;
+      safe = y;
+      again = d .shown .again;
+      inside = omega (arith, d .shown .inside);
+      outcome = refl;
+      honest = tt;
+    })
 
     -- it is inside a kept one: the oldest such counts
-    judged-inside : j < turn .count → {at : ℕ} → at ≡ j * slotLength n → {below exact safe : Fraction} →
+    judged-inside : j < turn .count → {at : ℕ} → at ≡ j * slotLength n → {below : Fraction} {t : Bool} →
         below ≡ insideSlots (slotOf n (headOf l o) (w .zone) ++ rest) (take (length s - at) (drop at s)) (n * n) →
-        exact ≡ loweredBy (w .fraction) below → safe ≡ loweredBy (turn .safe) below →
-        Shown n s₀ after s (record { count = turn .count; exact = exact; safe = safe; outcome = Going })
-    unfolding outcomeOf loweredInside
-    judged-inside hj {at} e g x y =
+        t ≡ equalSlots (slotOf n (headOf l o) (w .zone) ++ rest) (take (length s - at) (drop at s)) (n * n) →
+        Shown n s₀ after s (droppedBy turn (w .fraction) below t)
+    unfolding loweredInside
+    judged-inside hj {at} e g u =
         let m = nth-at (q .kept) j (omega (arith, d .shown .number)) in
         let t = stored-slot (d .shown) j (m .node) (m .nth) in
+        let k = part s j at (m .node) e t in
+        let hd = headOf (m .node .at) (originOf (m .node .came)) in
+        let hd≡ = head-size (m .node .at) (originOf (m .node .came)) in
+        let f : _ ≡ insideBelow n (w .zone) (m .node .zone) =
+        g ∙ rw k (inside-slots n (headOf l o) (head-size l o) (w .zone) rest hd hd≡ (m .node .zone) (t .rest) n≤) in
+        let v : _ ≡ equal n (w .zone) (m .node .zone) =
+        u ∙ rw k (equal-slots n (headOf l o) (head-size l o) (w .zone) rest hd hd≡ (m .node .zone) (t .rest) n≤) in
         shows (was-inside (m .node) off (hit-first b n≤ l o (w .zone) (q .kept) s₀ rest j first (m .node) (m .nth)))
-        (let f = g ∙ rw (part s j at (m .node) e t) (inside-slots n (headOf l o) (head-size l o) (w .zone) rest _
-        (head-size (m .node .at) (originOf (m .node .came))) _ (t .rest) n≤) in
-        unmoved refl tt (x ∙ ap (loweredBy (w .fraction)) f) (y ∙ ap (loweredBy (turn .safe)) f))
+        (dropped-as _ v (ap (loweredBy (w .fraction)) f) (ap (loweredBy (turn .safe)) f))
 
     -- no kept one contains it
     module _ (out : turn .count ≤ j) where
       alone : find (systemOf b) (zonesOf b) (q .kept) l (w .zone) ≡ none
       alone = hit-none b n≤ l o (w .zone) (q .kept) s₀ rest j first (omega (arith, d .shown .number))
 
-      judged-big : counts < largestCount n (w .zone) →
-          Shown n s₀ after s (record { count = turn .count; exact = w .fraction; safe = turn .safe; outcome = Refused 9 })
-      unfolding outcomeOf overcounted
-      judged-big g = shows (was-big off alone (lt-ltb counts (largestCount n (w .zone)) g)) (unmoved refl tt refl refl)
+      judged-big : counts < largestCount n (w .zone) → Shown n s₀ after s (refusedBy turn (w .fraction) 9)
+      unfolding overcounted
+      judged-big g = shows (was-big off alone (lt-ltb counts (largestCount n (w .zone)) g)) stopped-by
 
       module _ (small : largestCount n (w .zone) ≤ counts) where
         counted : overcounted b (w .zone) ≡ false
         unfolding overcounted
         counted = le-ltb counts (largestCount n (w .zone)) small
 
-        judged-full : capacity ≤ turn .count →
-            Shown n s₀ after s (record { count = turn .count; exact = w .fraction; safe = turn .safe; outcome = Refused 10 })
-        unfolding outcomeOf
-        judged-full r = shows (was-full off alone counted (omega (arith, d .shown .number))) (unmoved refl tt refl refl)
+        judged-full : capacity ≤ turn .count → Shown n s₀ after s (refusedBy turn (w .fraction) 10)
+        judged-full r = shows (was-full off alone counted (omega (arith, d .shown .number))) stopped-by
 
         judged-kept : turn .count < capacity → {at : ℕ} {s′ : List ℤ} → at ≡ turn .count * slotLength n →
             s′ ≡ take at s ++ (take (slotLength n) (slotOf n (headOf l o) (w .zone) ++ rest) ++ drop (at + slotLength n) s) →
-            Shown n s₀ after s′ (record { count = turn .count + 1; exact = w .fraction; safe = turn .safe; outcome = Going })
+            Shown n s₀ after s′ (keptBy turn (w .fraction))
         unfolding outcomeOf
         judged-kept r {at} e f =
             let t = slot-taken n (headOf l o) (head-size l o) (w .zone) rest n≤ in
@@ -194,6 +229,8 @@ module _ (b : List ℕ) (a : Accepted b) where
               store = f ∙ (λ i. take at (d .shown .store i) ++ ((t ∙ told) i ++ drop (at + slotLength n) (d .shown .store i))) ∙ m;
               exact = refl;
               safe = refl;
+              again = d .shown .again;
+              inside = d .shown .inside;
               outcome = refl;
               honest = tt;
             })
@@ -205,6 +242,7 @@ pub record Entered (b : List ℕ) (l : ℕ) (o : Origin) (w : Work) (capacity : 
   pub away : l ≡ target b → ⊥
   pub sized : Sized lastCounts (suc (clocks b)) w
   pub progress : exploring.Going b capacity s turn
+  pub few : Few mostOffers (turn .dropped)
   pub size≡ : size ≡ suc (clocks b)
 
 module _ {b : List ℕ} {l : ℕ} {o : Origin} {w : Work} {capacity : ℕ} {turn : Turn} {s : List ℤ} {size : ℕ}
@@ -252,7 +290,7 @@ module _ {b : List ℕ} {l : ℕ} {o : Origin} {w : Work} {capacity : ℕ} {turn
       here : at ≡ j * slotLength (n b a)
       here = e ∙ ap (λ (k : ℕ). j * slotLength k) es
 
-      pub asks-inside : ComparableSlots new (take (length s - at) (drop at s)) (size * size)
+      asks-inside : ComparableSlots new (take (length s - at) (drop at s)) (size * size)
       asks-inside =
           let d = i .live .shown in
           let m = nth-at (i .state .kept) j (omega (arith, d .number)) in
@@ -268,32 +306,33 @@ module _ {b : List ℕ} {l : ℕ} {o : Origin} {w : Work} {capacity : ℕ} {turn
             inside = rw (t .same) at (hits .found hj .inside);
           })
 
-      module _ {below : Fraction} (g : below ≡ insideSlots new (take (length s - at) (drop at s)) (size * size)) where
-        pub asks-lowered : Fits32 (w .fraction) × Fits32 (turn .safe) × Fits32 below
-        asks-lowered = (entered .sized .narrow, going-safe b a i, rw g (slots-fit _ _ (size * size) asks-inside))
+      pub asks-drop : ComparableSlots new (take (length s - at) (drop at s)) (size * size) × Fits32 (w .fraction) × Fits32 (turn .safe) ×
+          Few mostOffers (turn .dropped)
+      asks-drop = (asks-inside, entered .sized .narrow, going-safe b a i, entered .few)
 
-        pub gives-inside : {exact safe : Fraction} → exact ≡ loweredBy (w .fraction) below → safe ≡ loweredBy (turn .safe) below →
-            (p : Led o) → Continues b capacity s turn (op p) s (record { count = turn .count; exact = exact; safe = safe; outcome = Going })
-        gives-inside x y p = record {
-          shows = λ s₀ q d. judged-inside b a d (entered .away) w p _ hits hj here
-              (g ∙ (λ i. insideSlots (new≡ i) (take (length s - at) (drop at s)) (es i * es i))) x y;
-        }
+      pub gives-inside : {r : Turn} → r ≡ droppedBy turn (w .fraction) (insideSlots new (take (length s - at) (drop at s)) (size * size))
+          (equalSlots new (take (length s - at) (drop at s)) (size * size)) → (p : Led o) → Continues b capacity s turn (op p) s r
+      gives-inside x p = record {
+        shows = λ s₀ q d. rw x (judged-inside b a d (entered .away) w p _ hits hj here
+            (λ i. insideSlots (new≡ i) (take (length s - at) (drop at s)) (es i * es i))
+            (λ i. equalSlots (new≡ i) (take (length s - at) (drop at s)) (es i * es i)));
+      }
 
     module _ (out : turn .count ≤ j) {most : ℕ} (em : most ≡ largestSlot new (size * size)) where
       largest : most ≡ largestCount (n b a) (w .zone)
       largest = em ∙ (λ i. largestSlot (new≡ i) (es i * es i)) ∙ largest-slot _ (headOf l o) (head-size l o) (w .zone) _ (n≤ b a)
 
       pub gives-big : counts < most → (p : Led o) →
-          Continues b capacity s turn (op p) s (record { count = turn .count; exact = w .fraction; safe = turn .safe; outcome = Refused 9 })
+          Continues b capacity s turn (op p) s (refusedBy turn (w .fraction) 9)
       gives-big g p = record { shows = λ s₀ q d. judged-big b a d (entered .away) w p _ hits out (rw largest at g) }
 
       pub gives-full : most ≤ counts → capacity ≤ turn .count → (p : Led o) →
-          Continues b capacity s turn (op p) s (record { count = turn .count; exact = w .fraction; safe = turn .safe; outcome = Refused 10 })
+          Continues b capacity s turn (op p) s (refusedBy turn (w .fraction) 10)
       gives-full g r p = record { shows = λ s₀ q d. judged-full b a d (entered .away) w p _ hits out (rw largest at g) r }
 
       pub gives-kept : most ≤ counts → turn .count < capacity → {per-slot : ℕ} {s′ : List ℤ} → per-slot ≡ slotLength size →
           s′ ≡ take (turn .count * per-slot) s ++ (take per-slot new ++ drop (turn .count * per-slot + per-slot) s) → (p : Led o) →
-          Continues b capacity s turn (op p) s′ (record { count = turn .count + 1; exact = w .fraction; safe = turn .safe; outcome = Going })
+          Continues b capacity s turn (op p) s′ (keptBy turn (w .fraction))
       gives-kept g r {per-slot} e f p =
           let k = e ∙ ap slotLength es in
           record {
@@ -306,27 +345,35 @@ module _ (b : List ℕ) (capacity : ℕ) (s : List ℤ) (turn : Turn) (l : ℕ) 
   abbrev offers : ZoneState → ZoneState
   offers q = offer (systemOf b) (zonesOf b) capacity q (nodeAt l (p .came) (p .path)) (resultOf (turn .safe) r)
 
-  pub gives-empty : r .empty ≡ true → {safe : Fraction} → safe ≡ loweredBy (turn .safe) (r .safe) →
-      Continues b capacity s turn offers s (record { count = turn .count; exact = r .work .fraction; safe = safe; outcome = Going })
+  pub gives-empty : r .empty ≡ true → {t : Turn} → t ≡ emptiedBy turn (r .work .fraction) (r .safe) → Continues b capacity s turn offers s t
   unfolding resultOf offer outcomeOf
   gives-empty e f = record {
-    shows = λ s₀ q d. rw e (record { number = d .shown .number; store = d .shown .store; exact = refl; safe = f; outcome = refl; honest = tt });
+    shows = λ s₀ q d. rw (e, f) (record {
+      number = d .shown .number;
+      store = d .shown .store;
+      exact = refl;
+      safe = refl;
+      again = d .shown .again;
+      inside = d .shown .inside;
+      outcome = refl;
+      honest = tt;
+    });
   }
 
-  pub gives-target : r .empty ≡ false → l ≡ target b →
-      Continues b capacity s turn offers s (record { count = turn .count; exact = r .work .fraction; safe = turn .safe; outcome = Reached o })
+  pub gives-target : r .empty ≡ false → l ≡ target b → Continues b capacity s turn offers s (reachedBy turn (r .work .fraction) o)
   unfolding resultOf offer outcomeOf
   gives-target e g = record {
     shows =
         λ s₀ q d. rw e
-        (subst (λ (x : ZoneState). Shown (suc (clocks b)) s₀ x s
-        (record { count = turn .count; exact = r .work .fraction; safe = turn .safe; outcome = Reached o }))
+        (subst (λ (x : ZoneState). Shown (suc (clocks b)) s₀ x s (reachedBy turn (r .work .fraction) o))
         (sym (computes (systemOf b) (zonesOf b) (was-target (eq-eqb l (target b) g))))
         (record {
           number = d .shown .number;
           store = d .shown .store;
           exact = refl;
           safe = refl;
+          again = d .shown .again;
+          inside = d .shown .inside;
           outcome = met-by (p .told);
           honest = well-told (p .came) (p .told);
         }));

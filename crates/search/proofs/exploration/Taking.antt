@@ -14,7 +14,7 @@ use lib.ListN.{length, getD, take, drop, drop-of-length-le}
 use native.Mathlib.Omega.{arith}
 use Rattle.zones.specs.declared.pair.Pair.{Pair}
 use Rattle.search.specs.declared.outcome.Turn.{Turn}
-use Rattle.search.specs.Outcomes.{outcomeOf, hasEnded}
+use Rattle.search.specs.Outcomes.{outcomeOf, hasEnded, Few}
 use Rattle.automata.specs.Accepted.{Accepted}
 use Rattle.automata.specs.Automata.{clocks, edges, to}
 use Rattle.search.specs.Exploring.{SoundState, SoundNode, SoundZone, Shown, Live, Going, Continues, nodeAt}
@@ -22,6 +22,7 @@ use Rattle.search.specs.Instance.{ZoneState, ZoneNode, zonesOf, followin
 use Rattle.reachability.specs.Search.{Came, by-edge, Nth, expand, take-from}
 use Rattle.automata.specs.Semantics.{systemOf}
 use Rattle.slots.specs.Slots.{slotLength, pAt, zoneOf}
+use Rattle.reachability.proofs.Accounts.{expand-drops}
 use Rattle.reachability.proofs.Judged.{take-none, take-one}
 use Rattle.reachability.proofs.Keeps.{Steady, expand-keeps}
 use Rattle.reachability.proofs.Later.{take-later}
@@ -54,6 +55,7 @@ module _ (b : List ℕ) (capacity : ℕ) where
     pub state : ZoneState
     pub live : Live b capacity s₀ state s t
     pub rest : taken (capacity - next) next state ≡ taken capacity 0 q₀
+    pub dropped : state .again + state .inside ≤ next * 256 + (q₀ .again + q₀ .inside)
 
   -- what the turn at `next` leaves
   pub record Turned (s₀ : List ℤ) (q₀ : ZoneState) (next : ℕ) (s : List ℤ) (t : Turn) : Type 0 where
@@ -63,7 +65,12 @@ module _ (b : List ℕ) (capacity : ℕ) where
 
   pub begins : {s₀ : List ℤ} {q₀ : ZoneState} {s : List ℤ} {t : Turn} → Live b capacity s₀ q₀ s t → Onward s₀ q₀ 0 s t
   begins {q₀ = q₀} h =
-      record { state = q₀; live = h; rest = let e : capacity - 0 ≡ capacity = omega arith in ap (λ (m : ℕ). taken m 0 q₀) e }
+      record {
+        state = q₀;
+        live = h;
+        rest = let e : capacity - 0 ≡ capacity = omega arith in ap (λ (m : ℕ). taken m 0 q₀) e;
+        dropped = omega arith;
+      }
 
   pub ends : {s₀ : List ℤ} {q₀ : ZoneState} {next : ℕ} {s : List ℤ} {t : Turn} → Onward s₀ q₀ next s t → t .count ≤ next →
       Shown (suc (clocks b)) s₀ (taken capacity 0 q₀) s t
@@ -101,6 +108,10 @@ module _ {b : List ℕ} (a : Accepted b) where
 
     sound-node : SoundNode b (here .node)
     sound-node = w .live .sound .nodes next (here .node) (here .nth)
+
+    -- what was dropped so far
+    pub onward-few : q₀ .again + q₀ .inside ≤ 1 → Few (suc (next * 256)) (t .dropped)
+    onward-few f = record { few = omega (arith, w .dropped, w .live .shown .again, w .live .shown .inside) }
 
     pub few : next < capacity
     few = omega (arith, w .live .shown .number, w .live .sound .most)
@@ -155,9 +166,14 @@ module _ {b : List ℕ} (a : Accepted b) where
               (nth-tail (w .state .kept) next (here .node) (here .nth))
               ∙ ap (λ (j : ℕ). taken b capacity (capacity - (next + 1)) j expanded) c) ∙ w .rest
 
+          drops : expanded .again + expanded .inside ≤ (next + 1) * 256 + (q₀ .again + q₀ .inside)
+          drops =
+              let m = expand-drops (systemOf b) (zonesOf b) capacity next (here .node) (edges b) 0 (w .state) in
+              omega (arith, m, w .dropped, a .complete .edges≤)
+
           pub turned : Turned b capacity s₀ q₀ next s′ t′
           turned = record {
             same-length = λ long. live-length b a long shown sound;
-            goes-on = λ c. record { state = expanded; live = still shown sound c; rest = rest };
+            goes-on = λ c. record { state = expanded; live = still shown sound c; rest = rest; dropped = drops };
             stops = stays (take-later (systemOf b) (zonesOf b) capacity (capacity - (next + 1)) (next + 1) expanded) rest shown;
           }

@@ -1,5 +1,5 @@
--- Slots: their size, what stands where in one, that a zone comes back out of its slot, and that the containment test of two slots, the fraction
--- after it and the largest error count of one are those of their zones.
+-- Slots: their size, what stands where in one, that a zone comes back out of its slot, and that two slots compared, the lowest threshold of a
+-- containment test and the largest error count are those of their zones.
 -- Assumes nothing.
 use Prim.Native.Nat.{ℕ, zero, suc, _+_, _-_, _*_, _%_, _<_, _≤_, min}
 use mathlib.Core.Path.{_≡_, refl, sym, _∙_, subst}
@@ -14,20 +14,21 @@ use lib.Signed.{_≤ℤ_}
 use native.Mathlib.Decide.{ℕ-discrete, decLt}
 use native.Mathlib.Nat.{not-suc-le-zero}
 use native.Mathlib.Omega.{arith}
+use Rattle.zones.specs.declared.pair.Comparison.{Comparison}
 use Rattle.zones.specs.declared.fraction.Fraction.{Fraction}
 use Rattle.zones.specs.declared.pair.Pair.{Pair}
-use Rattle.zones.specs.Containment.{placeOf, withinTo, within, insideTo, insideBelow, countTo, largestCount}
+use Rattle.zones.specs.Containment.{placeOf, compareAt, everyTo, within, equal, insideTo, insideBelow, countTo, largestCount}
 use Rattle.zones.specs.Integers.{up}
 use Rattle.zones.proofs.pairs.Integers.{le-make}
 use Rattle.zones.specs.Fractions.{loweredBy}
-use Rattle.zones.specs.Pairs.{zeroPair, isLess, thresholdOf}
+use Rattle.zones.specs.Pairs.{zeroPair, compareOf, isAtMost, isEqual, thresholdOf}
 use Rattle.zones.specs.Ranges.{AllBounded, Bounded}
 use Rattle.zones.proofs.places.Inside.{bounded-place}
 use Rattle.zones.proofs.sets.Squares.{up-to}
 use Rattle.slots.specs.Slots.{fields, slotLength, mAt, pAt, pairsTo, pairsOf, flat, headOf, slotOf, slotLocation, slotPair, counted, squareTo}
 use Rattle.slots.specs.Slots.{slotOrigin, zoneOf, Framed}
 use Rattle.slots.specs.declared.slot.Origin.{Origin}
-use Rattle.slots.specs.Containing.{lessAt, withinSlots, insideSlots, largestSlot, Readable}
+use Rattle.slots.specs.Containing.{compareNumbers, everyPair, withinSlots, equalSlots, insideSlots, largestSlot, Readable}
 
 -- ---- how many places count
 module _ (n : ℕ) where
@@ -282,7 +283,7 @@ module _ (n : ℕ) (hd : List ℤ) (hd≡ : length hd ≡ fields) (z : List Pair
       let long = square-length n slot (n * 9) in
       ext-getD zeroPair (squareTo n (n * 9) slot) z (long ∙ sym size) (λ i h. back-at i (omega arith) (decLt i (n * 9)) (decLt (i % 9) n))
 
--- ---- the containment test of two slots is that of their zones
+-- ---- two slots compared are their zones compared
 module _ (n : ℕ) (hd : List ℤ) (hd≡ : length hd ≡ fields) (z : List Pair) (rest : List ℤ) (hd′ : List ℤ) (hd′≡ : length hd′ ≡ fields)
     (y : List Pair) (rest′ : List ℤ) where
   abbrev new : List ℤ
@@ -291,15 +292,24 @@ module _ (n : ℕ) (hd : List ℤ) (hd≡ : length hd ≡ fields) (z : List Pair
   abbrev old : List ℤ
   old = slotOf n hd′ y ++ rest′
 
-  less-slots : (k : ℕ) → k < n * 9 → k % 9 < n → lessAt new old (counted n k) ≡ isLess (placeOf y k) (placeOf z k)
-  unfolding isLess
-  less-slots k h c = rw (slot-m n hd hd≡ z rest k h c, slot-m n hd′ hd′≡ y rest′ k h c, slot-p n hd hd≡ z rest k h c, slot-p n hd′ hd′≡ y rest′ k h c)
+  -- one comparison: that of the numbers is that of the pairs
+  pub compare-slots : (k : ℕ) → k < n * 9 → k % 9 < n → compareNumbers new old (counted n k) ≡ compareAt z y k
+  unfolding compareOf compareNumbers
+  compare-slots k h c =
+      rw (slot-m n hd hd≡ z rest k h c, slot-m n hd′ hd′≡ y rest′ k h c, slot-p n hd hd≡ z rest k h c, slot-p n hd′ hd′≡ y rest′ k h c)
+
+  every-slots : (passes : Comparison → Bool) → n ≤ 9 →
+      everyPair (n * n) (λ t. passes (compareNumbers new old t)) ≡ everyTo n (n * 9) (λ k. passes (compareAt z y k))
+  unfolding everyPair everyTo
+  every-slots passes =
+      counted-ind n (λ k t. everyPair t (λ i. passes (compareNumbers new old i)) ≡ everyTo n k (λ i. passes (compareAt z y i))) refl
+      (λ k h c ih. rw (lt-ltb (k % 9) n c, compare-slots k h c, ih)) (λ k c ih. rw (le-ltb (k % 9) n c) ih)
 
   pub within-slots : n ≤ 9 → withinSlots new old (n * n) ≡ within n z y
-  unfolding withinSlots withinTo
-  within-slots =
-      counted-ind n (λ k t. withinSlots new old t ≡ withinTo n k z y) refl
-      (λ k h c ih. rw (lt-ltb (k % 9) n c, less-slots k h c, ih)) (λ k c ih. rw (le-ltb (k % 9) n c) ih)
+  within-slots = every-slots isAtMost
+
+  pub equal-slots : n ≤ 9 → equalSlots new old (n * n) ≡ equal n z y
+  equal-slots = every-slots isEqual
 
   -- and so is its lowest threshold
   pub inside-slots : n ≤ 9 → insideSlots new old (n * n) ≡ insideBelow n z y

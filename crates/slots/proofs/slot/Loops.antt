@@ -17,32 +17,30 @@ use native.Mathlib.Nat.{zero-add, mul-le-mul}
 use native.Mathlib.Numerals.{add-one}
 use native.Mathlib.Omega.{arith}
 use Rattle.zones.specs.declared.fraction.Fraction.{Fraction}
+use Rattle.zones.specs.declared.pair.Comparison.the-variants.{Below, Equal, Above}
 use Rattle.zones.specs.declared.pair.Pair.{Pair}
 use Rattle.zones.specs.Integers.{up}
-use Rattle.zones.proofs.pairs.Integers.{int, ltZ-false, le-ltZ, abs-fits}
+use Rattle.zones.proofs.pairs.Integers.{int, lt-read, ltZ-true, ltZ-false, abs-fits}
 use Rattle.zones.specs.Containment.{placeOf, larger}
 use Rattle.zones.specs.Fractions.{loweredBy}
-use Rattle.zones.specs.Pairs.{thresholdOf}
+use Rattle.zones.specs.Pairs.{isAtMost, thresholdOf}
 use Rattle.zones.specs.Ranges.{Bounded, Fits32, ChoiceReady, lastCounts, widest}
 use Rattle.runs.specs.Limits.{scale}
 use Rattle.runs.proofs.Contradictions.{true-false}
 use Rattle.zones.proofs.ranges.Ranges.{lowered-narrow, chosen-narrow, last-here}
 use Rattle.slots.specs.declared.slot.Origin.{Origin}
 use Rattle.slots.specs.Slots.{fields, longest, spare, mAt, pAt, pairsTo, flat, headOf, slotOf, slotPair, counted, squareTo, zoneOf}
-use Rattle.slots.specs.Containing.{lessAt, withinSlots, insideSlots, largestSlot, ComparableSlots}
+use Rattle.slots.specs.Containing.{compareNumbers, everyPair, withinSlots, insideSlots, largestSlot, ComparableSlots}
 use Rattle.slots.proofs.slot.Codec.{counted-in, counted-out, counted-all, counted-below, pairs-in, pairs-out, pairs-length, head-size}
 use Rattle.slots.proofs.slot.Codec.{flat-length, flat-append, square-in, square-out}
 
--- ---- `is_within`: the code compares the numbers' bits
+-- ---- `compare_at`: the code compares the numbers' bits
 module _ {x y : ℤ} (hx : SFits w32 x) (hy : SFits w32 y) where
-  tested : (t : Bool) → ltZ (toZ w32 (ofZ w32 x)) (toZ w32 (ofZ w32 y)) ≡ t → ltZ x y ≡ t
+  pub tested : (t : Bool) → ltZ (toZ w32 (ofZ w32 x)) (toZ w32 (ofZ w32 y)) ≡ t → ltZ x y ≡ t
   tested t e = rw (toZ-ofZ w32 x hx, toZ-ofZ w32 y hy) at e
 
   pub same-bits : ofZ w32 x ≡ ofZ w32 y → x ≡ y
   same-bits e = sym (toZ-ofZ w32 x hx) ∙ ap (toZ w32) e ∙ toZ-ofZ w32 y hy
-
-irreflexive : (x : ℤ) → ltZ x x ≡ false
-irreflexive x = le-ltZ x x (omega (arith, int))
 
 module _ (new old : List ℤ) (t : ℕ) where
   abbrev oldM : ℤ
@@ -57,52 +55,59 @@ module _ (new old : List ℤ) (t : ℕ) where
   abbrev newP : ℤ
   newP = getD new (pAt t) (pos 0)
 
-  -- the first pair that fails decides the test
-  fails : lessAt new old t ≡ true → (d : ℕ) → withinSlots new old (d + suc t) ≡ false
-  unfolding withinSlots
-  fails e zero = let f : zero + suc t ≡ suc t = omega arith in rw f (rw e)
-  fails e (suc d) = let f : suc d + suc t ≡ suc (d + suc t) = omega arith in rw f (go (lessAt new old (d + suc t)) (fails e d))
-    where
-      go : {b : Bool} (a : Bool) → b ≡ false → cond a false b ≡ false
-      go true g = refl
-      go false g = g
+  module _ (ho : SFits w32 oldM) (hn : SFits w32 newM) where
+    pub tells-lower : ltZ (toZ w32 (ofZ w32 newM)) (toZ w32 (ofZ w32 oldM)) ≡ true → Below ≡ compareNumbers new old t
+    unfolding compareNumbers
+    tells-lower e = rw (tested hn ho true e)
 
-  stops : (pairs : ℕ) → t < pairs → lessAt new old t ≡ true → false ≡ withinSlots new old pairs
+    module _ (e : ltZ (toZ w32 (ofZ w32 newM)) (toZ w32 (ofZ w32 oldM)) ≡ false) where
+      pub tells-higher : ltZ (toZ w32 (ofZ w32 oldM)) (toZ w32 (ofZ w32 newM)) ≡ true → Above ≡ compareNumbers new old t
+      unfolding compareNumbers
+      tells-higher f = rw (tested hn ho false e, tested ho hn true f)
+
+      module _ (f : ltZ (toZ w32 (ofZ w32 oldM)) (toZ w32 (ofZ w32 newM)) ≡ false) (po : SFits w32 oldP) (pn : SFits w32 newP) where
+        pub tells-fewer : ltZ (toZ w32 (ofZ w32 newP)) (toZ w32 (ofZ w32 oldP)) ≡ true → Below ≡ compareNumbers new old t
+        unfolding compareNumbers
+        tells-fewer g = rw (tested hn ho false e, tested ho hn false f, tested pn po true g)
+
+        module _ (g : ltZ (toZ w32 (ofZ w32 newP)) (toZ w32 (ofZ w32 oldP)) ≡ false) where
+          pub tells-more : ltZ (toZ w32 (ofZ w32 oldP)) (toZ w32 (ofZ w32 newP)) ≡ true → Above ≡ compareNumbers new old t
+          unfolding compareNumbers
+          tells-more h = rw (tested hn ho false e, tested ho hn false f, tested pn po false g, tested po pn true h)
+
+          pub tells-same : ltZ (toZ w32 (ofZ w32 oldP)) (toZ w32 (ofZ w32 newP)) ≡ false → Equal ≡ compareNumbers new old t
+          unfolding compareNumbers
+          tells-same h = rw (tested hn ho false e, tested ho hn false f, tested pn po false g, tested po pn false h)
+
+-- ---- `is_within`, `is_equal`: the first pair that fails decides
+module _ (passes : ℕ → Bool) (t : ℕ) where
+  fails : passes t ≡ false → (d : ℕ) → everyPair (d + suc t) passes ≡ false
+  unfolding everyPair
+  fails e zero = let f : zero + suc t ≡ suc t = omega arith in rw f (rw e)
+  fails e (suc d) = let f : suc d + suc t ≡ suc (d + suc t) = omega arith in rw f (go (passes (d + suc t)) (fails e d))
+    where
+      go : {b : Bool} (a : Bool) → b ≡ false → cond a b false ≡ false
+      go true g = g
+      go false g = refl
+
+  pub stops : (pairs : ℕ) → t < pairs → passes t ≡ false → false ≡ everyPair pairs passes
   stops pairs h e = let f : (pairs - suc t) + suc t ≡ pairs = omega arith in sym (rw f at (fails e (pairs - suc t)))
 
-  goes : lessAt new old t ≡ false → withinSlots new old t ≡ true → withinSlots new old (t + 1) ≡ true
-  unfolding withinSlots
+  pub goes : passes t ≡ true → everyPair t passes ≡ true → everyPair (t + 1) passes ≡ true
+  unfolding everyPair
   goes e w = rw add-one (rw (e, w))
 
-  module _ (ho : SFits w32 oldM) (hn : SFits w32 newM) where
-    pub stops-m : (pairs : ℕ) → t < pairs → ltZ (toZ w32 (ofZ w32 oldM)) (toZ w32 (ofZ w32 newM)) ≡ true → false ≡ withinSlots new old pairs
-    stops-m pairs h e = stops pairs h (rw (tested ho hn true e))
-
-    pub stops-p : (pairs : ℕ) → t < pairs → ofZ w32 oldM ≡ ofZ w32 newM → SFits w32 oldP → SFits w32 newP →
-        ltZ (toZ w32 (ofZ w32 oldP)) (toZ w32 (ofZ w32 newP)) ≡ true → false ≡ withinSlots new old pairs
-    stops-p pairs h e fo fn g = stops pairs h (rw (same-bits ho hn e, irreflexive newM, tested fo fn true g))
-
-    pub goes-p : ofZ w32 oldM ≡ ofZ w32 newM → SFits w32 oldP → SFits w32 newP →
-        ltZ (toZ w32 (ofZ w32 oldP)) (toZ w32 (ofZ w32 newP)) ≡ false → withinSlots new old t ≡ true → withinSlots new old (t + 1) ≡ true
-    goes-p e fo fn g = goes (rw (same-bits ho hn e, irreflexive newM, tested fo fn false g))
-
-    pub goes-m : ltZ (toZ w32 (ofZ w32 oldM)) (toZ w32 (ofZ w32 newM)) ≡ false → (ofZ w32 oldM ≡ ofZ w32 newM → ⊥) → withinSlots new old t ≡ true →
-        withinSlots new old (t + 1) ≡ true
-    goes-m e d = goes (rw (tested ho hn false e, above (ltZ newM oldM) refl))
-      where
-        above : (b : Bool) → ltZ newM oldM ≡ b → ltZ newM oldM ≡ true
-        above true g = g
-        above false g =
-            let q : oldM ≡ newM = omega (arith, int, ltZ-false oldM newM (tested ho hn false e), ltZ-false newM oldM g) in
-            absurd (d (ap (ofZ w32) q))
-
-  -- ---- `inside_below`: where the test holds, the new pair's m is not above the old one's
-  not-above : (pairs : ℕ) → t < pairs → withinSlots new old pairs ≡ true → newM ≤ℤ oldM
-  not-above pairs h w = go (ltZ oldM newM) refl
+-- ---- `inside_below`: where the test holds, the new pair's m is not above the old one's
+module _ (new old : List ℤ) (t : ℕ) where
+  not-above : (pairs : ℕ) → t < pairs → withinSlots new old pairs ≡ true → newM new old t ≤ℤ oldM new old t
+  unfolding compareNumbers isAtMost
+  not-above pairs h w = go (ltZ (newM new old t) (oldM new old t)) refl (ltZ (oldM new old t) (newM new old t)) refl
     where
-      go : (b : Bool) → ltZ oldM newM ≡ b → newM ≤ℤ oldM
-      go true e = true-false (sym w ∙ sym (stops pairs h (rw e)))
-      go false e = ltZ-false oldM newM e
+      go : (a : Bool) → ltZ (newM new old t) (oldM new old t) ≡ a → (b : Bool) → ltZ (oldM new old t) (newM new old t) ≡ b →
+          newM new old t ≤ℤ oldM new old t
+      go true d b e = omega (arith, int, lt-read (ltZ-true (newM new old t) (oldM new old t) d))
+      go false d true e = true-false (sym w ∙ sym (stops (λ i. isAtMost (compareNumbers new old i)) t pairs h (rw (d, e))))
+      go false d false e = ltZ-false _ _ e
 
   -- a turn, x and y being the pairs that it read
   module _ {x y : Pair} (ex : x ≡ slotPair new t) (ey : y ≡ slotPair old t) where

@@ -86,7 +86,7 @@ module _ (n : ℕ) (z y : List Pair) (h : within n z y ≡ true) where
   inside-n =
       inside-ind n z y (λ g. 0 < g .n) (n * 9)
       (λ k g hk hc q. lowered-n g (thresholdOf (placeOf z k) (placeOf y k)) q
-      (beside-n (placeOf z k) (placeOf y k) (within-shows n z y (n * 9) h k hk hc))) (omega arith)
+      (beside-n (placeOf z k) (placeOf y k) (within-shows n z y h k hk hc))) (omega arith)
 
   pub places-in-turn : (f : Fraction) (k : ℕ) → k ≤ n * 9 → loweredBy f (insideTo n k z y) ≡ placesLower n k z y f
   unfolding insideTo placesLower

@@ -12,9 +12,11 @@ use Rattle.runs.proofs.Contradictions.{true-false}
 use Rattle.zones.specs.declared.fraction.Fraction.{Fraction}
 use Rattle.zones.specs.declared.pair.Pair.{Pair}
 use Rattle.zones.specs.declared.pair.Choice.{Choice}
+use Rattle.zones.specs.declared.pair.Comparison.{Comparison}
+use Rattle.zones.specs.declared.pair.Comparison.the-variants.{Below, Equal, Above}
 use Rattle.zones.proofs.pairs.Integers.{int, ltZ-true, ltZ-false}
 use Rattle.zones.specs.Fractions.{noLimit, loweredBy}
-use Rattle.zones.specs.Pairs.{sumOf, isLess, thresholdOf, smallerOf}
+use Rattle.zones.specs.Pairs.{sumOf, isBelow, isEqual, isAtMost, compareOf, isLess, thresholdOf, smallerOf}
 
 pub pair-is : {x y : ℤ} (k : ℕ) → x ≡ y → _≡_ {A = Pair} (record { m = x; p = k }) (record { m = y; p = k })
 pair-is k e = λ i. record { m = e i; p = k }
@@ -23,39 +25,87 @@ pub sum-is : (a b : Pair) (z : ℤ) → z ≡ a .m +ℤ b .m → record { m = z;
 unfolding sumOf
 sum-is a b z e = λ i. record { m = e i; p = a .p + b .p }
 
--- ---- the order
-pub less-yes : (a b : Pair) → ltZ (a .m) (b .m) ≡ true → true ≡ isLess a b
-unfolding isLess
-less-yes a b e = rw e
+-- ---- how two pairs stand to each other
+pub compare-lower : (a b : Pair) → ltZ (a .m) (b .m) ≡ true → Below ≡ compareOf a b
+unfolding compareOf
+compare-lower a b e = rw e
 
-pub less-no : (a b : Pair) → ltZ (a .m) (b .m) ≡ false → ltZ (b .m) (a .m) ≡ true → false ≡ isLess a b
-unfolding isLess
-less-no a b e f = rw (e, f)
+pub compare-higher : (a b : Pair) → ltZ (a .m) (b .m) ≡ false → ltZ (b .m) (a .m) ≡ true → Above ≡ compareOf a b
+unfolding compareOf
+compare-higher a b e f = rw (e, f)
 
-pub less-same : (a b : Pair) → ltZ (a .m) (b .m) ≡ false → ltZ (b .m) (a .m) ≡ false → ltb (a .p) (b .p) ≡ isLess a b
-unfolding isLess
-less-same a b e f = rw (e, f)
+module _ (a b : Pair) (e : ltZ (a .m) (b .m) ≡ false) (f : ltZ (b .m) (a .m) ≡ false) where
+  pub compare-fewer : a .p < b .p → Below ≡ compareOf a b
+  unfolding compareOf
+  compare-fewer h = rw (e, f, lt-ltb (a .p) (b .p) h)
+
+  pub compare-more : b .p < a .p → Above ≡ compareOf a b
+  unfolding compareOf
+  compare-more h = rw (e, f, le-ltb (a .p) (b .p) (omega arith), lt-ltb (b .p) (a .p) h)
+
+  pub compare-same : a .p ≡ b .p → Equal ≡ compareOf a b
+  unfolding compareOf
+  compare-same h = rw (e, f, le-ltb (a .p) (b .p) (omega arith), le-ltb (b .p) (a .p) (omega arith))
+
+-- by its cases: m decides, or p where the m are the same
+pub compare-cases : (a b : Pair) (P : Comparison → Type 0) → (a .m <ℤ b .m → P Below) → (b .m <ℤ a .m → P Above) →
+    (a .m ≡ b .m → a .p < b .p → P Below) → (a .m ≡ b .m → b .p < a .p → P Above) → (a .m ≡ b .m → a .p ≡ b .p → P Equal) → P (compareOf a b)
+unfolding compareOf
+compare-cases a b P lower higher fewer more same =
+    go (ltZ (a .m) (b .m)) (ltZ (b .m) (a .m)) refl refl (ltb (a .p) (b .p)) (ltb (b .p) (a .p)) refl refl
+  where
+    there : ltZ (a .m) (b .m) ≡ false → ltZ (b .m) (a .m) ≡ false → a .m ≡ b .m
+    there e f = let x = ltZ-false (a .m) (b .m) e in let y = ltZ-false (b .m) (a .m) f in omega (arith, int)
+
+    go : (s t : Bool) → ltZ (a .m) (b .m) ≡ s → ltZ (b .m) (a .m) ≡ t → (u v : Bool) → ltb (a .p) (b .p) ≡ u → ltb (b .p) (a .p) ≡ v →
+        P (cond s Below (cond t Above (cond u Below (cond v Above Equal))))
+    go true t e f u v x y = lower (ltZ-true (a .m) (b .m) e)
+    go false true e f u v x y = higher (ltZ-true (b .m) (a .m) f)
+    go false false e f true v x y = fewer (there e f) (ltb-true (a .p) (b .p) x)
+    go false false e f false true x y = more (there e f) (ltb-true (b .p) (a .p) y)
+    go false false e f false false x y = same (there e f) (omega (arith, ltb-false (a .p) (b .p) x, ltb-false (b .p) (a .p) y))
+
+-- equal are only a pair and itself
+pub equal-shows : (a b : Pair) → isEqual (compareOf a b) ≡ true → a ≡ b
+unfolding isEqual
+equal-shows a b =
+    compare-cases a b (λ c. isEqual c ≡ true → a ≡ b) (λ h e. true-false (sym e)) (λ h e. true-false (sym e)) (λ h k e. true-false (sym e))
+    (λ h k e. true-false (sym e)) (λ h k e i. record { m = h i; p = k i })
+
+pub equal-itself : (a : Pair) → isEqual (compareOf a a) ≡ true
+unfolding isEqual
+equal-itself a =
+    compare-cases a a (λ c. isEqual c ≡ true) (λ h. absurd (omega (arith, int))) (λ h. absurd (omega (arith, int))) (λ e h. absurd (omega arith))
+    (λ e h. absurd (omega arith)) (λ e h. refl)
+
+-- ---- the smaller of two pairs, by its cases
+pub less-cases : (a b : Pair) (P : Bool → Type 0) → (a .m <ℤ b .m → P true) → (b .m <ℤ a .m → P false) → (a .m ≡ b .m → a .p < b .p → P true) →
+    (a .m ≡ b .m → b .p ≤ a .p → P false) → P (isLess a b)
+unfolding isLess isBelow
+less-cases a b P lower higher fewer rest =
+    compare-cases a b (λ c. P (isBelow c)) lower higher fewer (λ e h. rest e (omega arith)) (λ e h. rest e (omega arith))
+
+-- a pair is the smaller or equal where the other is not the smaller
+pub at-most-shows : (a b : Pair) → isAtMost (compareOf a b) ≡ true → isLess b a ≡ false
+unfolding isAtMost
+at-most-shows a b =
+    compare-cases a b (λ c. isAtMost c ≡ true → isLess b a ≡ false)
+    (λ h e. less-cases b a (λ t. t ≡ false) (λ k. absurd (omega (arith, int))) (λ k. refl) (λ d k. absurd (omega (arith, int))) (λ d k. refl))
+    (λ h e. true-false (sym e))
+    (λ m h e. less-cases b a (λ t. t ≡ false) (λ k. absurd (omega (arith, int))) (λ k. refl) (λ d k. absurd (omega arith)) (λ d k. refl))
+    (λ m h e. true-false (sym e))
+    (λ m h e. less-cases b a (λ t. t ≡ false) (λ k. absurd (omega (arith, int))) (λ k. refl) (λ d k. absurd (omega arith)) (λ d k. refl))
 
 -- what a smaller pair shows, and one that is not
 pub less-shows : (a b : Pair) → isLess a b ≡ true → (a .m ≤ℤ b .m) × (b .p ≤ a .p → a .m <ℤ b .m)
-unfolding isLess
-less-shows a b e = go (ltZ (a .m) (b .m)) (ltZ (b .m) (a .m)) refl refl e
-  where
-    go : (s t : Bool) → ltZ (a .m) (b .m) ≡ s → ltZ (b .m) (a .m) ≡ t → cond s true (cond t false (ltb (a .p) (b .p))) ≡ true →
-        (a .m ≤ℤ b .m) × (b .p ≤ a .p → a .m <ℤ b .m)
-    go true t f g h = let l = ltZ-true (a .m) (b .m) f in (omega (arith, int), λ k. l)
-    go false true f g h = true-false (sym h)
-    go false false f g h = (ltZ-false (b .m) (a .m) g, λ k. absurd (omega (arith, ltb-true (a .p) (b .p) h)))
+less-shows a b =
+    less-cases a b (λ t. t ≡ true → (a .m ≤ℤ b .m) × (b .p ≤ a .p → a .m <ℤ b .m)) (λ h e. (omega (arith, int), λ k. h)) (λ h e. true-false (sym e))
+    (λ m h e. (omega (arith, int), λ k. absurd (omega arith))) (λ m h e. true-false (sym e))
 
 pub not-less-shows : (a b : Pair) → isLess b a ≡ false → (a .m ≤ℤ b .m) × (b .p < a .p → a .m <ℤ b .m)
-unfolding isLess
-not-less-shows a b e = go (ltZ (b .m) (a .m)) (ltZ (a .m) (b .m)) refl refl e
-  where
-    go : (s t : Bool) → ltZ (b .m) (a .m) ≡ s → ltZ (a .m) (b .m) ≡ t → cond s true (cond t false (ltb (b .p) (a .p))) ≡ false →
-        (a .m ≤ℤ b .m) × (b .p < a .p → a .m <ℤ b .m)
-    go true t f g h = true-false h
-    go false true f g h = let l = ltZ-true (a .m) (b .m) g in (omega (arith, int), λ k. l)
-    go false false f g h = (ltZ-false (b .m) (a .m) f, λ k. absurd (omega (arith, ltb-false (b .p) (a .p) h)))
+not-less-shows a b =
+    less-cases b a (λ t. t ≡ false → (a .m ≤ℤ b .m) × (b .p < a .p → a .m <ℤ b .m)) (λ h e. true-false e) (λ h e. (omega (arith, int), λ k. h))
+    (λ m h e. true-false e) (λ m h e. (omega (arith, int), λ k. absurd (omega arith)))
 
 -- ---- the threshold
 pub threshold-is : (a b : Pair) (k : ℕ) → k ≡ natAbs (b .m -ℤ a .m) → b .p < a .p → record { n = k; d = a .p - b .p } ≡ thresholdOf a b

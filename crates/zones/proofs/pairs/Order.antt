@@ -9,15 +9,16 @@ use mathlib.Core.Logic.{_⊎_, inl, inr}
 use borrow.Author.Tests.{le-ltb, ltb-true, ltb-false}
 use lib.Dec.{ltb}
 use lib.IntN.{pos}
-use lib.Signed.{_≤ℤ_, ltZ}
+use lib.Signed.{_≤ℤ_, _<ℤ_}
 use native.Mathlib.Omega.{arith}
+use native.Mathlib.Decide.{decLt}
 use native.Mathlib.Nat.{mul-le-mul-right}
 use Rattle.zones.specs.Integers.{up, down}
-use Rattle.zones.proofs.pairs.Integers.{int, le-read, lt-read, sum-law, ltZ-true, ltZ-false}
+use Rattle.zones.proofs.pairs.Integers.{le-read, lt-read, eq-read, eq-make, sum-law}
 use Rattle.zones.specs.declared.pair.Pair.{Pair}
 use Rattle.zones.specs.Pairs.{sumOf, isLess, thresholdOf, smallerOf}
 use Rattle.runs.proofs.Contradictions.{true-false}
-use Rattle.zones.proofs.pairs.Choices.{smaller-cases}
+use Rattle.zones.proofs.pairs.Choices.{less-cases, not-less-shows, smaller-cases}
 
 infix 4 _≼_
 pub record _≼_ (a b : Pair) : Type 0 where
@@ -35,32 +36,23 @@ pub record Lex (K : ℕ) (a b : Pair) : Type 0 where
   pub lex : hi K a + lo K b ≤ hi K b + lo K a
 
 pub lex-read : (K : ℕ) {a b : Pair} → a .p ≤ K → a ≼ b → Lex K a b
-unfolding isLess hi lo
-lex-read K {a} {b} h l = go (ltZ (b .m) (a .m)) (ltZ (a .m) (b .m)) refl refl (l .kept)
-  where
-    go : (s t : Bool) → ltZ (b .m) (a .m) ≡ s → ltZ (a .m) (b .m) ≡ t → cond s true (cond t false (ltb (b .p) (a .p))) ≡ false → Lex K a b
-    go true t e f g = true-false g
-    go false true e f g = omega (arith, mul-le-mul-right K (lt-read (ltZ-true (a .m) (b .m) f)))
-    go false false e f g = omega (arith, ltb-false (b .p) (a .p) g, mul-le-mul-right K (le-read (ltZ-false (b .m) (a .m) e)))
+unfolding hi lo
+lex-read K {a} {b} h l =
+    less-cases b a (λ t. t ≡ false → Lex K a b) (λ k e. true-false e) (λ k e. omega (arith, mul-le-mul-right K (lt-read k))) (λ m k e. true-false e)
+    (λ m k e. omega (arith, ap (λ (x : ℕ). x * K) (eq-read m))) (l .kept)
 
 pub lex-make : (K : ℕ) {a b : Pair} → b .p < K → Lex K a b → a ≼ b
-unfolding isLess hi lo
-lex-make K {a} {b} h l = record { kept = go (ltZ (b .m) (a .m)) (ltZ (a .m) (b .m)) refl refl }
-  where
-    go : (s t : Bool) → ltZ (b .m) (a .m) ≡ s → ltZ (a .m) (b .m) ≡ t → cond s true (cond t false (ltb (b .p) (a .p))) ≡ false
-    go true t e f = let z : ⊥ = omega (arith, mul-le-mul-right K (lt-read (ltZ-true (b .m) (a .m) e))) in absurd z
-    go false true e f = refl
-    go false false e f = le-ltb (b .p) (a .p) (omega (arith, mul-le-mul-right K (le-read (ltZ-false (a .m) (b .m) f))))
+unfolding hi lo
+lex-make K {a} {b} h l = record {
+  kept = less-cases b a (λ t. t ≡ false) (λ k. absurd (omega (arith, mul-le-mul-right K (lt-read k)))) (λ k. refl)
+      (λ m k. absurd (omega (arith, ap (λ (x : ℕ). x * K) (eq-read m)))) (λ m k. refl);
+}
 
 pub lex-lt : (K : ℕ) {a b : Pair} → a .p < K → isLess a b ≡ true → Lex K a b × (hi K a + lo K b < hi K b + lo K a)
-unfolding isLess hi lo
-lex-lt K {a} {b} h l = go (ltZ (a .m) (b .m)) (ltZ (b .m) (a .m)) refl refl l
-  where
-    go : (s t : Bool) → ltZ (a .m) (b .m) ≡ s → ltZ (b .m) (a .m) ≡ t → cond s true (cond t false (ltb (a .p) (b .p))) ≡ true →
-        Lex K a b × (hi K a + lo K b < hi K b + lo K a)
-    go true t e f g = omega (arith, mul-le-mul-right K (lt-read (ltZ-true (a .m) (b .m) e)))
-    go false true e f g = true-false (sym g)
-    go false false e f g = omega (arith, ltb-true (a .p) (b .p) g, mul-le-mul-right K (le-read (ltZ-false (b .m) (a .m) f)))
+unfolding hi lo
+lex-lt K {a} {b} h =
+    less-cases a b (λ t. t ≡ true → Lex K a b × (hi K a + lo K b < hi K b + lo K a)) (λ k e. omega (arith, mul-le-mul-right K (lt-read k)))
+    (λ k e. true-false (sym e)) (λ m k e. omega (arith, ap (λ (x : ℕ). x * K) (eq-read m))) (λ m k e. true-false (sym e))
 
 -- a number K above n, of which nothing else is known: omega takes `up x * K` as one unknown
 pub large {ℓ} : {X : Type ℓ} (n : ℕ) → ((K : ℕ) → n < K → X) → X
@@ -106,19 +98,21 @@ pub ≼-sum : {a b c d : Pair} → a ≼ b → c ≼ d → sumOf a c ≼ sumOf b
 
 -- equal only to itself: m × K + p says which pair it is
 pub ≼-antisym : {a b : Pair} → a ≼ b → b ≼ a → a ≡ b
-unfolding isLess
-≼-antisym {a} {b} h g = go (ltZ (b .m) (a .m)) (ltZ (a .m) (b .m)) refl refl (h .kept) (g .kept)
+≼-antisym {a} {b} h g = λ i. record { m = m i; p = p (decLt (a .p) (b .p)) (decLt (b .p) (a .p)) i }
   where
-    go : (s t : Bool) → ltZ (b .m) (a .m) ≡ s → ltZ (a .m) (b .m) ≡ t → cond s true (cond t false (ltb (b .p) (a .p))) ≡ false →
-        cond t true (cond s false (ltb (a .p) (b .p))) ≡ false → a ≡ b
-    go true t e f x y = true-false x
-    go false true e f x y = true-false y
-    go false false e f x y =
-        let lm = ltZ-false (b .m) (a .m) e in
-        let lm2 = ltZ-false (a .m) (b .m) f in
-        let m : a .m ≡ b .m = omega (arith, int) in
-        let p : a .p ≡ b .p = omega (arith, ltb-false (b .p) (a .p) x, ltb-false (a .p) (b .p) y) in
-        λ i. record { m = m i; p = p i }
+    x : (a .m ≤ℤ b .m) × (b .p < a .p → a .m <ℤ b .m)
+    x = not-less-shows a b (h .kept)
+
+    y : (b .m ≤ℤ a .m) × (a .p < b .p → b .m <ℤ a .m)
+    y = not-less-shows b a (g .kept)
+
+    m : a .m ≡ b .m
+    m = eq-make (a .m) (b .m) (omega (arith, le-read (x .0), le-read (y .0)))
+
+    p : Dec (a .p < b .p) → Dec (b .p < a .p) → a .p ≡ b .p
+    p (yes l) d = absurd (omega (arith, eq-read m, lt-read (y .1 l)))
+    p (no n) (yes l) = absurd (omega (arith, eq-read m, lt-read (x .1 l)))
+    p (no n) (no k) = omega arith
 
 -- ---- the smaller of two: one of them, and no larger than either
 module _ (a b : Pair) where

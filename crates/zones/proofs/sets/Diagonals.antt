@@ -32,14 +32,7 @@ use Rattle.zones.proofs.fractions.Thresholds.{lowered-n, lowered-sound,
 
 -- what is smaller than (0, 0) has m below 0
 less-zero : (q : Pair) → isLess q zeroPair ≡ true → q .m <ℤ pos 0
-unfolding isLess
-less-zero q e = go (ltZ (q .m) (pos 0)) (ltZ (pos 0) (q .m)) (ltb (q .p) 0) refl refl e
-  where
-    go : (a b c : Bool) → ltZ (q .m) (pos 0) ≡ a → ltb (q .p) 0 ≡ c → cond a true (cond b false c) ≡ true → q .m <ℤ pos 0
-    go true b c f g h = ltZ-true (q .m) (pos 0) f
-    go false true c f g h = true-false (sym h)
-    go false false true f g h = let z : ⊥ = omega (arith, ltb-true (q .p) 0 g) in absurd z
-    go false false false f g h = true-false (sym h)
+less-zero q e = less-shows q zeroPair e .1 (omega arith)
 
 -- the threshold of a pair with m below 0 against (0, 0) is not 0
 beside-zero : (q : Pair) → q .m <ℤ pos 0 → 0 < thresholdOf q zeroPair .n

@@ -51,7 +51,7 @@ module _ (n : ℕ) (z y : List Pair) (h : within n z y ≡ true) where
   inside-proper =
       inside-ind n z y (λ g. 0 < g .n) (n * 9)
       (λ k g hk hc q. lowered-n g (thresholdOf (placeOf z k) (placeOf y k)) q
-      (beside-n (placeOf z k) (placeOf y k) (within-shows n z y (n * 9) h k hk hc))) (omega arith) (n * 9) (omega arith)
+      (beside-n (placeOf z k) (placeOf y k) (within-shows n z y h k hk hc))) (omega arith) (n * 9) (omega arith)
 
   module _ (s e : ℕ) (s> : 0 < s) where
     -- the thresholds of the first k places
@@ -64,7 +64,7 @@ module _ (n : ℕ) (z y : List Pair) (h : within n z y ≡ true) where
         let c = ltb-true (k % 9) n q in
         let l =
         lowered-sound s e (insideTo n k z y) (thresholdOf (placeOf z k) (placeOf y k)) s>
-        (beside-n (placeOf z k) (placeOf y k) (within-shows n z y (n * 9) h k hk c)) b in
+        (beside-n (placeOf z k) (placeOf y k) (within-shows n z y h k hk c)) b in
         let i = ih (l .0) in
         record { each = up-to (λ m. m % 9 < n → Below s e (thresholdOf (placeOf z m) (placeOf y m))) k (i .each) (λ x. l .1) }
     next-tested k hk ih false q b =
@@ -88,7 +88,7 @@ module _ (n : ℕ) (z y : List Pair) (h : within n z y ≡ true) where
         let k = i * 9 + j in
         let col : k % 9 ≡ j = omega arith in
         threshold-sound s e (placeOf z k) (placeOf y k)
-        (not-less-shows (placeOf z k) (placeOf y k) (within-shows n z y (n * 9) h k (omega arith) (omega arith)) .0)
+        (not-less-shows (placeOf z k) (placeOf y k) (within-shows n z y h k (omega arith) (omega arith)) .0)
         (tested (n * 9) (omega arith) b .each k (omega arith) (omega arith))
 
 pub inside-has : (s e : ℕ) → 0 < s → (c : ℕ) → suc c ≤ 9 → (w u : Work) → within (suc c) (w .zone) (u .zone) ≡ true →

@@ -9,7 +9,7 @@ use native.Mathlib.Omega.{arith}
 use Rattle.zones.specs.declared.pair.Pair.{Pair}
 use Rattle.zones.specs.declared.zone.Work.{Work}
 use Rattle.zones.proofs.pairs.Integers.{int}
-use Rattle.zones.specs.Pairs.{zeroPair, sumOf, isLess}
+use Rattle.zones.specs.Pairs.{zeroPair, sumOf, compareOf, isBelow, isLess}
 use Rattle.runs.specs.Limits.{Limits}
 use Rattle.zones.specs.Zones.{entry, firstWork, home, meetLimits, resetOf}
 use Rattle.zones.specs.Reductions.{reduceSteps}
@@ -56,7 +56,7 @@ reset-settled n n≤ R w h =
 
 -- ---- the first zone
 none : isLess (sumOf zeroPair zeroPair) zeroPair ≡ false
-unfolding isLess sumOf
+unfolding compareOf isBelow isLess sumOf
 none = refl
 
 pub first-settled : (n : ℕ) → n ≤ 9 → Settled n firstWork

@@ -1,4 +1,4 @@
--- `line_of` meets its contract: the answer's text and the end of the line, behind no text.
+-- `line_of` meets its contract: the text of what was found and the end of the line, behind no text.
 -- Assumes nothing.
 use borrow.Author.Needs.{needs}
 use native.Mathlib.Omega.{arith}
@@ -10,7 +10,7 @@ use Rattle.robustness.proofs.line.line_of.Tie as tie
 returns : tie.Need-returns
 unfolding lineOf
 returns c =
-    let b = two (c .before .before .with-answer .ensures) (c .with-text .ensures) in
+    let b = two (c .before .before .with-findings .ensures) (c .with-text .ensures) in
     (record { room = b .writing .room; written = omega (arith, b .writing .written) }, b .text)
 
 pub line-of-spec : {M : Type 1} → statement M

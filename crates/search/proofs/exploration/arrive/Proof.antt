@@ -10,7 +10,7 @@ use Rattle.search.proofs.exploration.arrive.Tie as tie
 offer-requires : tie.Need-offer-requires
 offer-requires c κs =
     let pre = c .before .before .before .pre in
-    ((pre .0 .0, pre .0 .1), (pre .0 .2, subst (SoundResult _) (sym (c .before .enter .ensures)) (pre .1 .1)))
+    ((pre .0 .0, pre .0 .1), (pre .0 .2, subst (SoundResult _) (sym (c .before .enter .ensures)) (pre .1 .1 .0), pre .1 .1 .1))
 
 returns : tie.Need-returns
 returns c = gives-of _ _ _ _ _ _ refl (c .before .before .before .enter .ensures) (c .before .offer .ensures)

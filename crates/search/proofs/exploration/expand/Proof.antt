@@ -14,7 +14,7 @@ use Rattle.reachability.specs.Search.{Came, first-zone}
 use Rattle.search.specs.Exploring.{Live}
 use Rattle.search.specs.Instance.{ZoneState, workOf}
 use Rattle.search.proofs.exploration.Expanding.{Between, begins, passes, taken-fits, taken-sound, goes-on, offered-length, stops}
-use Rattle.search.proofs.exploration.Expanding.{between-going, ends}
+use Rattle.search.proofs.exploration.Expanding.{between-going, between-few, ends}
 use Rattle.search.proofs.exploration.Judging.{live-length, going-length}
 use borrow.Author.Needs.{needs}
 use Rattle.search.proofs.exploration.expand.Statement.{statement}
@@ -67,13 +67,19 @@ module _ (c : tie.After-edge-of Inv-loop μ-loop) where
 along-requires : tie.Need-along-requires Inv-loop μ-loop
 along-requires c κs =
     let edge = c .before .before .before in
-    (omega (arith, start edge .pre .1), omega (arith, within edge, start edge .pre .0 .0 .complete .edges≤))
+    (omega (arith, start edge .pre .1 .0), omega (arith, within edge, start edge .pre .0 .0 .complete .edges≤))
 
 follow-requires : tie.Need-follow-requires Inv-loop μ-loop
 follow-requires c κs =
     let edge = c .before .before .before .before .before in
     let pre = start edge .pre .0 in (
-      (pre .0, within edge, edge .edge-of .ensures),
+      (
+        pre .0,
+        within edge,
+        edge .edge-of .ensures,
+        between-few (some edge) (omega (arith, pre .1 .live .shown .again, pre .1 .live .shown .inside, start edge .pre .1 .1 .few))
+            (start edge .pre .1 .0) (omega (arith, within edge, pre .0 .complete .edges≤)),
+      ),
       (
         between-going (some edge) (pre .1 .long) (pre .1 .few),
         taken-sound (some edge) (within edge) (pre .0) (pre .2) (taken-is edge),

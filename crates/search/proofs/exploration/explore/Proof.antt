@@ -57,7 +57,7 @@ arrive-requires c κs =
       (a, rw (c .before .before .before .start .ensures) (a .start<), blank-going a _ (capacity≡ c)),
       (
         rw (c .first .ensures) (first-sized (10 * counts) _ (n≤ _ a), first-settled _ (n≤ _ a)),
-        subst (SoundResult _) (sym (arrived c)) (start-sound _ a),
+        (subst (SoundResult _) (sym (arrived c)) (start-sound _ a), record { few = omega arith }),
       ),
     )
 
@@ -76,7 +76,7 @@ take-requires : tie.Need-take-requires
 take-requires c κs =
     let goes = c .before in
     let first = goes .before .before .before in
-    (entry (first .before) .pre, offered first .goes-on (sym (goes .before .has-ended .ensures) ∙ goes .if1 .left))
+    (entry (first .before) .pre, offered first .goes-on (sym (goes .before .has-ended .ensures) ∙ goes .if1 .left), offered first .few)
 
 returns-2 : tie.Need-returns-2
 returns-2 c =

@@ -7,7 +7,7 @@ use mir.Syntax.{w32}
 use mir.Val.{ofZ}
 use lib.ListN.{length}
 use native.Mathlib.Omega.{arith}
-use native.Mathlib.Nat.{not-suc-le-zero, mul-le-mul}
+use native.Mathlib.Nat.{not-suc-le-zero}
 use Rattle.search.specs.Exploring.{Hits}
 use Rattle.slots.specs.Slots.{slotLength}
 use Rattle.search.proofs.exploration.Stores.{slot-fits, lent-length, hit, misses-more, miss-location, miss-inside}
@@ -54,7 +54,6 @@ is-within-requires c κs =
     let entry = start turn in (
       omega (arith, entry .pre .2),
       rw (lent-length (entry .args .store .now) (turn .before .loop .at)) (omega (arith, fits turn)),
-      omega (arith, mul-le-mul (entry .pre .0) (entry .pre .0)),
     )
 
 returns : tie.Need-returns Inv-loop μ-loop

@@ -60,18 +60,18 @@ module _ (c : tie.After-narrow) where
   unfolding guardOf
   met = meets _ _ (ap (λ x. x + 3) (place≡ (c .before))) (size≡ (c .before)) (c .narrow .ensures)
 
-after-lowering-requires : tie.Need-after-lowering-requires
-after-lowering-requires c κs =
-    let guard = c .before .before .before in
+emptied-requires : tie.Need-emptied-requires
+emptied-requires c κs =
+    let guard = c .before .before .before .before in
     let pre = start guard .pre in
     (going-safe _ (pre .0 .0) (pre .1 .0), emptied-fits _ (pre .0 .0) _ (pre .0 .1) _ (pre .1 .1) (pre .1 .2) (met guard))
 
 returns : tie.Need-returns
 returns c =
-    let none = c .before .before .before in
+    let none = c .before .before .before .before in
     let guard = none .before in
     let pre = start guard .pre in
-    follows-none _ (pre .0 .0) _ (pre .0 .1) _ (pre .1 .1) (pre .1 .2) (met guard) (none .if1 .taken) _ _ _ _ (c .after-lowering .ensures)
+    follows-none _ (pre .0 .0) _ (pre .0 .1) _ (pre .1 .1) (pre .1 .2) (met guard) (none .if1 .taken) _ _ _ _ (c .emptied .ensures)
 
 arrive-requires : tie.Need-arrive-requires
 arrive-requires c κs =
@@ -81,7 +81,10 @@ arrive-requires c κs =
     let hi = pre .0 .1 in
     let live = c .before .before .if1 .left in (
       (a, arrives-at _ a _ hi _ (pre .1 .1) (pre .1 .2) (met guard) live (pre .0 .2), pre .1 .0),
-      (arrives _ a _ hi _ (pre .1 .1) (pre .1 .2) (met guard) live, arrives-sound _ a _ hi _ (pre .1 .1) (pre .1 .2) (met guard) live (pre .0 .2)),
+      (
+        arrives _ a _ hi _ (pre .1 .1) (pre .1 .2) (met guard) live,
+        (arrives-sound _ a _ hi _ (pre .1 .1) (pre .1 .2) (met guard) live (pre .0 .2), pre .0 .3),
+      ),
     )
 
 returns-2 : tie.Need-returns-2
@@ -97,5 +100,5 @@ returns-2 c =
 pub follow-spec : {M : Type 1} → statement M
 follow-spec =
     tie.close
-    (tie.spec counts-of-requires edge-at-requires add-at narrow-requires after-lowering-requires returns arrive-requires
+    (tie.spec counts-of-requires edge-at-requires add-at narrow-requires emptied-requires returns arrive-requires
     (λ c. search needs) returns-2)

@@ -4,10 +4,9 @@ use Prim.Native.Nat.{ℕ, _+_, _*_, _≤_}
 use mathlib.Core.Path.{_≡_, ap}
 use lib.ListN.{length}
 use native.Mathlib.Omega.{arith}
-use Rattle.zones.specs.Ranges.{Fits32}
 use Rattle.slots.specs.Slots.{slotLength}
 use Rattle.search.proofs.exploration.Judging.{Entered, asks-encode, asks-find, asks-largest, slot-within, next-within}
-use Rattle.search.proofs.exploration.Judging.{asks-inside, asks-lowered, gives-inside, gives-big, gives-full, gives-kept}
+use Rattle.search.proofs.exploration.Judging.{asks-drop, gives-inside, gives-big, gives-full, gives-kept}
 use Rattle.automata.proofs.fields.Counting.{size≡, few-clocks}
 use borrow.Author.Needs.{needs}
 use Rattle.search.proofs.exploration.judge.Statement.{statement}
@@ -31,7 +30,8 @@ module _ (c : tie.After-counts-of) where
     location = start .pre .0 .1;
     away = start .pre .0 .2;
     sized = start .pre .1 .1 .0;
-    progress = start .pre .1 .0;
+    progress = start .pre .1 .0 .0;
+    few = start .pre .1 .0 .1;
     size≡ = size≡ _ (c .counts-of .ensures);
   }
 
@@ -44,15 +44,15 @@ module _ (c : tie.After-find) where
   numbers = stride .before
 
   abbrev counted : tie.After-counts-of
-  counted = numbers .before .before .before .before .before
+  counted = numbers .before .before .before .before
 
 encode-requires : tie.Need-encode-requires
-encode-requires c κs = asks-encode (entered (c .before .before .before .before))
+encode-requires c κs = asks-encode (entered (c .before .before .before))
 
 find-requires : tie.Need-find-requires
 find-requires c κs =
     let numbers = c .before .before .before in
-    asks-find (entered (numbers .before .before .before .before .before)) (numbers .encode .ensures)
+    asks-find (entered (numbers .before .before .before .before)) (numbers .encode .ensures)
 
 -- ---- a kept slot contains it
 module _ (c : tie.Then1) where
@@ -67,45 +67,27 @@ module _ (c : tie.Then1) where
 mul-at : tie.Need-mul-at
 mul-at c = omega (arith, slot-inside c)
 
-mul-inside-below : tie.Need-mul-inside-below
-mul-inside-below c = omega (arith, slot-inside (c .before))
+mul-drop-inside : tie.Need-mul-drop-inside
+mul-drop-inside c = omega (arith, slot-inside (c .before))
 
-sub-inside-below : tie.Need-sub-inside-below
-sub-inside-below c = omega (arith, slot-inside (c .before))
+sub-drop-inside : tie.Need-sub-drop-inside
+sub-drop-inside c = omega (arith, slot-inside (c .before))
 
-part-inside-below-start : tie.Need-part-inside-below-start
-part-inside-below-start c = omega (arith, slot-inside (c .before .before))
+part-drop-inside-start : tie.Need-part-drop-inside-start
+part-drop-inside-start c = omega (arith, slot-inside (c .before .before))
 
-inside-below-requires : tie.Need-inside-below-requires
-inside-below-requires c κs =
+drop-inside-requires : tie.Need-drop-inside-requires
+drop-inside-requires c κs =
     let hit = c .before .before .before in
     let find = hit .before in
-    asks-inside (entered (counted find)) (numbers find .encode .ensures) (find .find .ensures) (hit .if1 .taken) (place≡ hit)
-
--- what lowers both fractions is in range, and so are they
-lowered : (c : tie.After-inside-below) →
-    Fits32 (start (counted (c .before .before .before .before .before)) .args .w .fraction) ×
-    Fits32 (start (counted (c .before .before .before .before .before)) .args .turn .safe) × Fits32 (c .inside-below .result)
-lowered c =
-    let hit = c .before .before .before .before in
-    let find = hit .before in
-    asks-lowered (entered (counted find)) (numbers find .encode .ensures) (find .find .ensures) (hit .if1 .taken) (place≡ hit)
-    (c .inside-below .ensures)
-
-after-lowering-requires : tie.Need-after-lowering-requires
-after-lowering-requires c κs = let l = lowered c in (l .0, l .2)
-
-after-lowering-requires-2 : tie.Need-after-lowering-requires-2
-after-lowering-requires-2 c κs = let l = lowered (c .before) in (l .1, l .2)
+    asks-drop (entered (counted find)) (numbers find .encode .ensures) (find .find .ensures) (hit .if1 .taken) (place≡ hit)
 
 returns : tie.Need-returns
 returns c =
-    let exact = c .before in
-    let inside = exact .before in
-    let hit = inside .before .before .before .before in
+    let hit = c .before .before .before .before in
     let find = hit .before in
     gives-inside (entered (counted find)) (numbers find .encode .ensures) (find .find .ensures) (hit .if1 .taken) (place≡ hit)
-    (inside .inside-below .ensures) (exact .after-lowering .ensures) (c .after-lowering2 .ensures)
+    (c .drop-inside .ensures)
 
 -- ---- none does
 largest-count-requires : tie.Need-largest-count-requires
@@ -145,11 +127,11 @@ keep-requires c κs =
 
 returns-3 : tie.Need-returns-3
 returns-3 c =
-    let room = c .before .before .before .before in
+    let room = c .before .before .before .before .before .before in
     let small = room .before in
     let find = last room in
     gives-kept (entered (counted find)) (numbers find .encode .ensures) (find .find .ensures) (alone (small .before) .if1 .left)
-    (small .before .largest-count .ensures) (small .if2 .left) (room .if3 .taken) (stride find .slot-length .ensures) (c .before .keep .ensures)
+    (small .before .largest-count .ensures) (small .if2 .left) (room .if3 .taken) (stride find .slot-length .ensures) (c .before .before .before .keep .ensures)
 
 returns-4 : tie.Need-returns-4
 returns-4 c =
@@ -166,19 +148,17 @@ judge-spec =
     counts-of-requires
     (λ c. omega (arith, few (c .before)))
     encode-requires
-    (λ c κs. omega (arith, few (c .before .before .before .before .before)))
+    (λ c κs. omega (arith, few (c .before .before .before .before)))
     (λ c. search needs)
     find-requires
     mul-at
     (λ c. search needs)
-    mul-inside-below
-    sub-inside-below
-    part-inside-below-start
+    mul-drop-inside
+    sub-drop-inside
+    part-drop-inside-start
     (λ c. search needs)
     (λ c. search needs)
-    inside-below-requires
-    after-lowering-requires
-    after-lowering-requires-2
+    drop-inside-requires
     (λ c. search needs)
     returns
     (λ c. search needs)

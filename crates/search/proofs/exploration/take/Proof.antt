@@ -13,7 +13,7 @@ use Rattle.slots.specs.Slots.{slotLength}
 use Rattle.automata.proofs.fields.Counting.{size≡, few-clocks}
 use Rattle.search.proofs.exploration.Judging.{live-length, going-length}
 use Rattle.search.proofs.exploration.Taking.{reads-location, read-location, Onward, Turned, begins, ends, onward, few, slot-inside, location}
-use Rattle.search.proofs.exploration.Taking.{asks-decode, sound-zone, turned}
+use Rattle.search.proofs.exploration.Taking.{asks-decode, onward-few, sound-zone, turned}
 use borrow.Author.Needs.{needs}
 use Rattle.search.proofs.exploration.take.Statement.{statement}
 use Rattle.search.proofs.exploration.take.Tie as tie
@@ -108,7 +108,11 @@ expand-requires c κs =
         onward (pre .0) (on (head turn)) (turn .if1 .taken) (pre .1 .long) (pre .1 .few),
         sound-zone (pre .0) (on (head turn)) (turn .if1 .taken) (place≡ turn) (rw (head turn .loop .inv .0) at (c .before .decode .ensures)),
       ),
-      omega (arith, below turn, pre .1 .few),
+      (
+        omega (arith, below turn, pre .1 .few),
+        onward-few (pre .0) (on (head turn)) (turn .if1 .taken)
+            (omega (arith, pre .1 .live .shown .again, pre .1 .live .shown .inside, pre .2 .few)),
+      ),
     )
 
 -- ---- after the expansion

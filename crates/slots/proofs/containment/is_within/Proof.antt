@@ -1,12 +1,13 @@
 -- The containment test of two slots: so far every pair passed, and the first that fails decides.
 -- Assumes nothing.
-use Prim.Native.Nat.{_-_, _≤_}
-use mathlib.Core.Path.{_≡_, refl, sym}
+use Prim.Native.Nat.{ℕ, _-_, _≤_}
+use mathlib.Core.Path.{_≡_, refl, sym, ap, _∙_}
 use mathlib.Core.Bool.{true}
-use mathlib.Core.Logic.{⊎-elim}
+use borrow.Author.Tests.{not-true, not-false}
 use native.Mathlib.Omega.{arith}
-use Rattle.slots.specs.Containing.{withinSlots}
-use Rattle.slots.proofs.slot.Loops.{stops-m, stops-p, goes-m, goes-p}
+use Rattle.zones.specs.Pairs.{isAtMost}
+use Rattle.slots.specs.Containing.{compareNumbers, everyPair, withinSlots}
+use Rattle.slots.proofs.slot.Loops.{stops, goes}
 use Rattle.slots.proofs.containment.is_within.Statement.{statement}
 use Rattle.slots.proofs.containment.is_within.Tie as tie
 
@@ -17,36 +18,24 @@ abbrev μ-loop : tie.MeasureT-loop
 μ-loop new old pairs t₀ t = pairs - t
 
 loop-holds : tie.Need-loop-holds Inv-loop μ-loop
-unfolding withinSlots
+unfolding everyPair
 loop-holds c = (omega arith, refl)
 
 returns : tie.Need-returns Inv-loop μ-loop
 returns c =
     let loop = c .before .before .before .before in
-    stops-m _ _ (loop .loop .t) (record { sfits = c .before .before .if12 .given })
-    (record { sfits = c .before .if13 .given }) _ (omega arith) (c .if1 .taken)
-
-returns-2 : tie.Need-returns-2 Inv-loop μ-loop
-returns-2 c =
-    let two = c .before .before .before in
-    let one = two .before .before .before in
-    let loop = one .before .before .before .before in
-    stops-p _ _ (loop .loop .t) (record { sfits = two .before .before .if22 .given }) (record { sfits = two .before .if23 .given }) _
-    (omega arith) (two .if2 .taken) (record { sfits = c .before .before .if32 .given }) (record { sfits = c .before .if33 .given }) (c .if3 .taken)
+    stops _ (loop .loop .t) _ (omega arith)
+    (sym (c .before .is-at-most .ensures ∙ ap isAtMost (c .before .before .compare-at .ensures)) ∙ not-true _ (c .if1 .taken))
 
 loop-again : tie.Need-loop-again Inv-loop μ-loop
 loop-again c =
-    let one = c .before .before .before in
-    let loop = one .before .before .before .before in (
+    let loop = c .before .before .before .before in (
       omega arith,
-      ⊎-elim (λ w. goes-p _ _ (loop .loop .t) (record { sfits = c .before .before .if22 .given }) (record { sfits = c .before .if23 .given })
-          (w .0 .taken) (record { sfits = w .1 .given }) (record { sfits = w .2 .given }) (w .3 .left) (loop .loop .inv .1))
-          (λ w. goes-m _ _ (loop .loop .t) (record { sfits = c .before .before .if22 .given })
-          (record { sfits = c .before .if23 .given }) (one .if1 .left) (w .left) (loop .loop .inv .1)) (c .if2 .came),
+      goes _ (loop .loop .t) (sym (c .before .is-at-most .ensures ∙ ap isAtMost (c .before .before .compare-at .ensures)) ∙ not-false _ (c .if1 .left)) (loop .loop .inv .1),
     )
 
-returns-3 : tie.Need-returns-3 Inv-loop μ-loop
-returns-3 c =
+returns-2 : tie.Need-returns-2 Inv-loop μ-loop
+returns-2 c =
     let e : c .before .loop .t ≡ c .before .before .args .pairs = omega arith in
     sym (rw e at (c .before .loop .inv .1))
 
@@ -57,25 +46,10 @@ is-within-spec =
     Inv-loop
     μ-loop
     loop-holds
-    (λ c. omega arith)
-    (λ c. omega arith)
-    (λ c. omega arith)
-    (λ c. omega arith)
-    (λ c. omega arith)
-    (λ c. omega arith)
-    (λ c. omega arith)
-    (λ c. omega arith)
+    (λ c κs. omega arith)
+    (λ c κs. tt)
     returns
     (λ c. omega arith)
     (λ c. omega arith)
-    (λ c. omega arith)
-    (λ c. omega arith)
-    (λ c. omega arith)
-    (λ c. omega arith)
-    (λ c. omega arith)
-    (λ c. omega arith)
-    returns-2
-    (λ c. omega arith)
-    (λ c. omega arith)
     loop-again
-    returns-3)
+    returns-2)

@@ -1,0 +1,21 @@
+-- `Turn::dropped` meets its contract: both fractions lowered, and one zone counted.
+-- Assumes nothing.
+use borrow.Author.Needs.{needs}
+use Rattle.search.specs.declared.outcome.Outcome.the-variants.{Going}
+use Rattle.search.proofs.outcome.Turn.dropped.Statement.{statement}
+use Rattle.search.proofs.outcome.Turn.dropped.Tie as tie
+
+returns : tie.Need-returns
+returns c =
+    let safe = c .before in
+    let exact = safe .before in
+    λ i. record {
+      count = exact .before .args .self .count;
+      exact = exact .after-lowering .ensures i;
+      safe = safe .after-lowering2 .ensures i;
+      dropped = c .with .ensures i;
+      outcome = Going;
+    }
+
+pub dropped-spec : {M : Type 1} → statement M
+dropped-spec = tie.close (tie.spec (λ c κs. search needs) (λ c κs. search needs) (λ c κs. search needs) returns)
