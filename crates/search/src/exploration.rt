@@ -9,8 +9,7 @@ use automata::fields::start;
 use automata::fields::target;
 use automata::opened::counts_of;
 use automata::opened::edge_of;
-use slots::containment::inside_below;
-use slots::containment::is_equal;
+use slots::containment::inside_of;
 use slots::containment::is_within;
 use slots::containment::largest_count;
 use slots::slot::Origin;
@@ -75,8 +74,9 @@ fn drop_inside(turn: Turn, exact: Fraction, new: &[i32], old: &[i32], pairs: usi
     ensures { λ r. ⌜ r ≡ droppedBy turn exact (insideSlots (now (new .entry)) (now (old .entry)) pairs)
         (equalSlots (now (new .entry)) (now (old .entry)) pairs) ⌝ }
 {
-    let below = inside_below(new, old, pairs);
-    turn.dropped(exact, below, is_equal(new, old, pairs))
+    let inside = inside_of(new, old, pairs);
+    let below = inside.below;
+    turn.dropped(exact, below, inside.equal)
 }
 
 // A zone that has entered l, not the target: it is dropped inside a kept one, refused, or kept.

@@ -11,9 +11,10 @@ use Rattle.zones.specs.declared.pair.Comparison.{Comparison}
 use Rattle.zones.specs.declared.pair.Comparison.the-variants.{Below, Equal, Above}
 use Rattle.zones.specs.Containment.{larger}
 use Rattle.zones.specs.Fractions.{noLimit, loweredBy}
-use Rattle.zones.specs.Pairs.{isAtMost, isEqual, thresholdOf}
+use Rattle.zones.specs.Pairs.{compareOf, isAtMost, isEqual, thresholdOf}
 use Rattle.zones.specs.Ranges.{Bounded, lastCounts}
 use Rattle.runs.specs.Limits.{scale}
+use Rattle.slots.specs.declared.containment.Inside.{Inside}
 use Rattle.slots.specs.Slots.{mAt, pAt, slotPair}
 
 -- how pair t of `new` stands to that of `old`: the comparison of pairs, on their numbers
@@ -35,12 +36,15 @@ withinSlots new old t = everyPair t (λ i. isAtMost (compareNumbers new old i))
 
 -- each pair of `new` equals that of `old`
 abbrev pub equalSlots : List ℤ → List ℤ → ℕ → Bool
-equalSlots new old t = everyPair t (λ i. isEqual (compareNumbers new old i))
+equalSlots new old t = everyPair t (λ i. isEqual (compareOf (slotPair new i) (slotPair old i)))
 
 -- the lowest threshold of a test that holds: the pairs of `new` were chosen
 unfoldable pub insideSlots : List ℤ → List ℤ → ℕ → Fraction
 insideSlots new old zero = noLimit
 insideSlots new old (suc t) = loweredBy (insideSlots new old t) (thresholdOf (slotPair new t) (slotPair old t))
+
+abbrev pub insideOf : List ℤ → List ℤ → ℕ → Inside
+insideOf new old t = record { below = insideSlots new old t; equal = equalSlots new old t }
 
 unfoldable pub largestSlot : List ℤ → ℕ → ℕ
 largestSlot s zero = 0

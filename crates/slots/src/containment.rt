@@ -1,4 +1,4 @@
-// Two slots compared, on their numbers: containment, and whether they are equal; and the largest error count of one.
+// Two slots compared: containment, how one lies inside the other, and the largest error count of one.
 use crate::slot::FIRST_M;
 use crate::slot::FIRST_P;
 use crate::slot::get_pair;
@@ -8,7 +8,7 @@ ghost use mathlib.Core.Path.{_≡_};
 ghost use Prim.Native.Nat.{_≤_, _<_};
 ghost use lib.ListN.{length};
 ghost use Rattle.slots.specs.Slots.{mAt, pAt};
-ghost use Rattle.slots.specs.Containing.{compareNumbers, withinSlots, equalSlots, insideSlots, largestSlot, Readable, ComparableSlots};
+ghost use Rattle.slots.specs.Containing.{compareNumbers, withinSlots, insideOf, largestSlot, Readable, ComparableSlots};
 
 // How pair t of the new slot stands to that of the old one: the comparison of pairs, on their numbers.
 fn compare_at(new: &[i32], old: &[i32], t: usize) -> Comparison
@@ -17,17 +17,17 @@ fn compare_at(new: &[i32], old: &[i32], t: usize) -> Comparison
 {
     let m = FIRST_M + 2 * t;
     let p = FIRST_P + 2 * t;
-    if new[m] < old[m] {
-        return Comparison::Below;
-    }
     if old[m] < new[m] {
         return Comparison::Above;
     }
-    if new[p] < old[p] {
+    if old[m] != new[m] {
         return Comparison::Below;
     }
     if old[p] < new[p] {
         return Comparison::Above;
+    }
+    if old[p] != new[p] {
+        return Comparison::Below;
     }
     Comparison::Equal
 }
@@ -48,33 +48,30 @@ pub fn is_within(new: &[i32], old: &[i32], pairs: usize) -> bool
     true
 }
 
-// Whether each of the new slot's pairs equals the old one's.
-pub fn is_equal(new: &[i32], old: &[i32], pairs: usize) -> bool
-    requires { ⌜ (mAt pairs ≤ length (now new)) × (mAt pairs ≤ length (now old)) ⌝ }
-    ensures { λ r. ⌜ r ≡ equalSlots (now (new .entry)) (now (old .entry)) pairs ⌝ }
+// How a new slot lies inside an old one, by a test that holds: its lowest threshold, and whether every pair equals the old one's.
+pub struct Inside {
+    pub below: Fraction,
+    pub equal: bool,
+}
+
+// In one turn: a loop of its own for the second would cost the search a copy of the zone a step.
+pub fn inside_of(new: &[i32], old: &[i32], pairs: usize) -> Inside
+    requires { ⌜ ComparableSlots (now new) (now old) pairs ⌝ }
+    ensures { λ r. ⌜ r ≡ insideOf (now (new .entry)) (now (old .entry)) pairs ⌝ }
 {
+    let mut below = Fraction { n: 1, d: 0 };
+    let mut equal = true;
     let mut t = 0;
     while t < pairs {
-        if !compare_at(new, old, t).is_equal() {
-            return false;
+        let a = get_pair(new, t);
+        let b = get_pair(old, t);
+        below = below.after_choice(a, b);
+        if !a.compare(b).is_equal() {
+            equal = false;
         }
         t += 1;
     }
-    true
-}
-
-// The lowest threshold of a test that holds: the new slot's pairs were chosen.
-pub fn inside_below(new: &[i32], old: &[i32], pairs: usize) -> Fraction
-    requires { ⌜ ComparableSlots (now new) (now old) pairs ⌝ }
-    ensures { λ r. ⌜ r ≡ insideSlots (now (new .entry)) (now (old .entry)) pairs ⌝ }
-{
-    let mut f = Fraction { n: 1, d: 0 };
-    let mut t = 0;
-    while t < pairs {
-        f = f.after_choice(get_pair(new, t), get_pair(old, t));
-        t += 1;
-    }
-    f
+    Inside { below, equal }
 }
 
 // The largest error count of a slot.

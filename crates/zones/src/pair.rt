@@ -87,7 +87,7 @@ impl Pair {
     }
 
     // How this pair stands to o: the smaller m is below, and at equal m the smaller p.
-    pub(crate) fn compare(self, o: Pair) -> Comparison
+    pub fn compare(self, o: Pair) -> Comparison
         ensures { λ r. ⌜ r ≡ compareOf self o ⌝ }
     {
         let a = self.m;

@@ -2,7 +2,7 @@
 -- containment test and the largest error count are those of their zones.
 -- Assumes nothing.
 use Prim.Native.Nat.{ℕ, zero, suc, _+_, _-_, _*_, _%_, _<_, _≤_, min}
-use mathlib.Core.Path.{_≡_, refl, sym, _∙_, subst}
+use mathlib.Core.Path.{_≡_, refl, sym, ap, _∙_, subst}
 use mathlib.Core.Bool.{Bool, true, false, cond}
 use mathlib.Core.List.{List, [], _∷_, _++_, append-assoc}
 use borrow.Author.Tests.{lt-ltb, le-ltb, ltb-true, ltb-false}
@@ -14,7 +14,6 @@ use lib.Signed.{_≤ℤ_}
 use native.Mathlib.Decide.{ℕ-discrete, decLt}
 use native.Mathlib.Nat.{not-suc-le-zero}
 use native.Mathlib.Omega.{arith}
-use Rattle.zones.specs.declared.pair.Comparison.{Comparison}
 use Rattle.zones.specs.declared.fraction.Fraction.{Fraction}
 use Rattle.zones.specs.declared.pair.Pair.{Pair}
 use Rattle.zones.specs.Containment.{placeOf, compareAt, everyTo, within, equal, insideTo, insideBelow, countTo, largestCount}
@@ -298,18 +297,20 @@ module _ (n : ℕ) (hd : List ℤ) (hd≡ : length hd ≡ fields) (z : List Pair
   compare-slots k h c =
       rw (slot-m n hd hd≡ z rest k h c, slot-m n hd′ hd′≡ y rest′ k h c, slot-p n hd hd≡ z rest k h c, slot-p n hd′ hd′≡ y rest′ k h c)
 
-  every-slots : (passes : Comparison → Bool) → n ≤ 9 →
-      everyPair (n * n) (λ t. passes (compareNumbers new old t)) ≡ everyTo n (n * 9) (λ k. passes (compareAt z y k))
+  every-slots : (there here : ℕ → Bool) → ((k : ℕ) → k < n * 9 → k % 9 < n → there (counted n k) ≡ here k) → n ≤ 9 →
+      everyPair (n * n) there ≡ everyTo n (n * 9) here
   unfolding everyPair everyTo
-  every-slots passes =
-      counted-ind n (λ k t. everyPair t (λ i. passes (compareNumbers new old i)) ≡ everyTo n k (λ i. passes (compareAt z y i))) refl
-      (λ k h c ih. rw (lt-ltb (k % 9) n c, compare-slots k h c, ih)) (λ k c ih. rw (le-ltb (k % 9) n c) ih)
+  every-slots there here f =
+      counted-ind n (λ k t. everyPair t there ≡ everyTo n k here) refl (λ k h c ih. rw (lt-ltb (k % 9) n c, f k h c, ih))
+      (λ k c ih. rw (le-ltb (k % 9) n c) ih)
 
   pub within-slots : n ≤ 9 → withinSlots new old (n * n) ≡ within n z y
-  within-slots = every-slots isAtMost
+  within-slots = every-slots _ _ (λ k h c. ap isAtMost (compare-slots k h c))
 
   pub equal-slots : n ≤ 9 → equalSlots new old (n * n) ≡ equal n z y
-  equal-slots = every-slots isEqual
+  equal-slots =
+      every-slots _ _
+      (λ k h c. let x = slot-pair-at n hd hd≡ z rest k h c in let o = slot-pair-at n hd′ hd′≡ y rest′ k h c in λ i. isEqual (compareOf (x i) (o i)))
 
   -- and so is its lowest threshold
   pub inside-slots : n ≤ 9 → insideSlots new old (n * n) ≡ insideBelow n z y

@@ -17,13 +17,14 @@ use native.Mathlib.Nat.{zero-add, mul-le-mul}
 use native.Mathlib.Numerals.{add-one}
 use native.Mathlib.Omega.{arith}
 use Rattle.zones.specs.declared.fraction.Fraction.{Fraction}
+use Rattle.zones.specs.declared.pair.Comparison.{Comparison}
 use Rattle.zones.specs.declared.pair.Comparison.the-variants.{Below, Equal, Above}
 use Rattle.zones.specs.declared.pair.Pair.{Pair}
 use Rattle.zones.specs.Integers.{up}
-use Rattle.zones.proofs.pairs.Integers.{int, lt-read, ltZ-true, ltZ-false, abs-fits}
+use Rattle.zones.proofs.pairs.Integers.{int, le-read, le-make, lt-read, eq-make, ltZ-true, ltZ-false, le-ltZ, abs-fits}
 use Rattle.zones.specs.Containment.{placeOf, larger}
 use Rattle.zones.specs.Fractions.{loweredBy}
-use Rattle.zones.specs.Pairs.{isAtMost, thresholdOf}
+use Rattle.zones.specs.Pairs.{compareOf, isEqual, isAtMost, thresholdOf}
 use Rattle.zones.specs.Ranges.{Bounded, Fits32, ChoiceReady, lastCounts, widest}
 use Rattle.runs.specs.Limits.{scale}
 use Rattle.runs.proofs.Contradictions.{true-false}
@@ -42,6 +43,20 @@ module _ {x y : ℤ} (hx : SFits w32 x) (hy : SFits w32 y) where
   pub same-bits : ofZ w32 x ≡ ofZ w32 y → x ≡ y
   same-bits e = sym (toZ-ofZ w32 x hx) ∙ ap (toZ w32) e ∙ toZ-ofZ w32 y hy
 
+irreflexive : (x : ℤ) → ltZ x x ≡ false
+irreflexive x = le-ltZ x x (omega (arith, int))
+
+-- what is above is not below, and what is neither above nor the same is below
+not-below : (x y : ℤ) → ltZ y x ≡ true → ltZ x y ≡ false
+not-below x y e = le-ltZ x y (le-make y x (omega (arith, lt-read (ltZ-true y x e))))
+
+below : (x y : ℤ) → ltZ y x ≡ false → (ofZ w32 y ≡ ofZ w32 x → ⊥) → ltZ x y ≡ true
+below x y e d = go (ltZ x y) refl
+  where
+    go : (b : Bool) → ltZ x y ≡ b → ltZ x y ≡ true
+    go true g = g
+    go false g = absurd (d (ap (ofZ w32) (eq-make y x (omega (arith, le-read (ltZ-false y x e), le-read (ltZ-false x y g))))))
+
 module _ (new old : List ℤ) (t : ℕ) where
   abbrev oldM : ℤ
   oldM = getD old (mAt t) (pos 0)
@@ -56,30 +71,30 @@ module _ (new old : List ℤ) (t : ℕ) where
   newP = getD new (pAt t) (pos 0)
 
   module _ (ho : SFits w32 oldM) (hn : SFits w32 newM) where
-    pub tells-lower : ltZ (toZ w32 (ofZ w32 newM)) (toZ w32 (ofZ w32 oldM)) ≡ true → Below ≡ compareNumbers new old t
+    pub tells-higher : ltZ (toZ w32 (ofZ w32 oldM)) (toZ w32 (ofZ w32 newM)) ≡ true → Above ≡ compareNumbers new old t
     unfolding compareNumbers
-    tells-lower e = rw (tested hn ho true e)
+    tells-higher e = rw (not-below newM oldM (tested ho hn true e), tested ho hn true e)
 
-    module _ (e : ltZ (toZ w32 (ofZ w32 newM)) (toZ w32 (ofZ w32 oldM)) ≡ false) where
-      pub tells-higher : ltZ (toZ w32 (ofZ w32 oldM)) (toZ w32 (ofZ w32 newM)) ≡ true → Above ≡ compareNumbers new old t
+    pub tells-lower : ltZ (toZ w32 (ofZ w32 oldM)) (toZ w32 (ofZ w32 newM)) ≡ false → (ofZ w32 oldM ≡ ofZ w32 newM → ⊥) →
+        Below ≡ compareNumbers new old t
+    unfolding compareNumbers
+    tells-lower e d = rw (below newM oldM (tested ho hn false e) d)
+
+    module _ (m : ofZ w32 oldM ≡ ofZ w32 newM) (po : SFits w32 oldP) (pn : SFits w32 newP) where
+      pub tells-more : ltZ (toZ w32 (ofZ w32 oldP)) (toZ w32 (ofZ w32 newP)) ≡ true → Above ≡ compareNumbers new old t
       unfolding compareNumbers
-      tells-higher f = rw (tested hn ho false e, tested ho hn true f)
+      tells-more e = rw (same-bits ho hn m, irreflexive newM, not-below newP oldP (tested po pn true e), tested po pn true e)
 
-      module _ (f : ltZ (toZ w32 (ofZ w32 oldM)) (toZ w32 (ofZ w32 newM)) ≡ false) (po : SFits w32 oldP) (pn : SFits w32 newP) where
-        pub tells-fewer : ltZ (toZ w32 (ofZ w32 newP)) (toZ w32 (ofZ w32 oldP)) ≡ true → Below ≡ compareNumbers new old t
-        unfolding compareNumbers
-        tells-fewer g = rw (tested hn ho false e, tested ho hn false f, tested pn po true g)
+      pub tells-fewer : ltZ (toZ w32 (ofZ w32 oldP)) (toZ w32 (ofZ w32 newP)) ≡ false → (ofZ w32 oldP ≡ ofZ w32 newP → ⊥) →
+          Below ≡ compareNumbers new old t
+      unfolding compareNumbers
+      tells-fewer e d = rw (same-bits ho hn m, irreflexive newM, below newP oldP (tested po pn false e) d)
 
-        module _ (g : ltZ (toZ w32 (ofZ w32 newP)) (toZ w32 (ofZ w32 oldP)) ≡ false) where
-          pub tells-more : ltZ (toZ w32 (ofZ w32 oldP)) (toZ w32 (ofZ w32 newP)) ≡ true → Above ≡ compareNumbers new old t
-          unfolding compareNumbers
-          tells-more h = rw (tested hn ho false e, tested ho hn false f, tested pn po false g, tested po pn true h)
+      pub tells-same : ofZ w32 oldP ≡ ofZ w32 newP → Equal ≡ compareNumbers new old t
+      unfolding compareNumbers
+      tells-same e = rw (same-bits ho hn m, irreflexive newM, same-bits po pn e, irreflexive newP)
 
-          pub tells-same : ltZ (toZ w32 (ofZ w32 oldP)) (toZ w32 (ofZ w32 newP)) ≡ false → Equal ≡ compareNumbers new old t
-          unfolding compareNumbers
-          tells-same h = rw (tested hn ho false e, tested ho hn false f, tested pn po false g, tested po pn false h)
-
--- ---- `is_within`, `is_equal`: the first pair that fails decides
+-- ---- `is_within`, `inside_of`: what every pair passes
 module _ (passes : ℕ → Bool) (t : ℕ) where
   fails : passes t ≡ false → (d : ℕ) → everyPair (d + suc t) passes ≡ false
   unfolding everyPair
@@ -97,20 +112,31 @@ module _ (passes : ℕ → Bool) (t : ℕ) where
   unfolding everyPair
   goes e w = rw add-one (rw (e, w))
 
--- ---- `inside_below`: where the test holds, the new pair's m is not above the old one's
+  -- so far, whatever it was
+  pub stays-so : {b : Bool} → passes t ≡ true → b ≡ everyPair t passes → b ≡ everyPair (t + 1) passes
+  unfolding everyPair
+  stays-so e w = rw add-one (rw e w)
+
+  pub fails-now : passes t ≡ false → false ≡ everyPair (t + 1) passes
+  unfolding everyPair
+  fails-now e = rw add-one (rw e)
+
+-- ---- `inside_of`: where the test holds, the new pair's m is not above the old one's
 module _ (new old : List ℤ) (t : ℕ) where
   not-above : (pairs : ℕ) → t < pairs → withinSlots new old pairs ≡ true → newM new old t ≤ℤ oldM new old t
   unfolding compareNumbers isAtMost
-  not-above pairs h w = go (ltZ (newM new old t) (oldM new old t)) refl (ltZ (oldM new old t) (newM new old t)) refl
+  not-above pairs h w = go (ltZ (oldM new old t) (newM new old t)) refl
     where
-      go : (a : Bool) → ltZ (newM new old t) (oldM new old t) ≡ a → (b : Bool) → ltZ (oldM new old t) (newM new old t) ≡ b →
-          newM new old t ≤ℤ oldM new old t
-      go true d b e = omega (arith, int, lt-read (ltZ-true (newM new old t) (oldM new old t) d))
-      go false d true e = true-false (sym w ∙ sym (stops (λ i. isAtMost (compareNumbers new old i)) t pairs h (rw (d, e))))
-      go false d false e = ltZ-false _ _ e
+      go : (b : Bool) → ltZ (oldM new old t) (newM new old t) ≡ b → newM new old t ≤ℤ oldM new old t
+      go true e = true-false (sym w ∙ sym (stops (λ i. isAtMost (compareNumbers new old i)) t pairs h (rw (not-below (newM new old t) (oldM new old t) e, e))))
+      go false e = ltZ-false _ _ e
 
   -- a turn, x and y being the pairs that it read
   module _ {x y : Pair} (ex : x ≡ slotPair new t) (ey : y ≡ slotPair old t) where
+    -- whether the two are equal is as the comparison says
+    pub turn-equal : {c : Comparison} {b : Bool} → c ≡ compareOf x y → b ≡ isEqual c → isEqual (compareOf (slotPair new t) (slotPair old t)) ≡ b
+    turn-equal e f = sym (f ∙ ap isEqual (e ∙ (λ i. compareOf (ex i) (ey i))))
+
     pub turn-lowers : {f : Fraction} → f ≡ insideSlots new old t → loweredBy f (thresholdOf x y) ≡ insideSlots new old (t + 1)
     unfolding insideSlots
     turn-lowers e = rw add-one (λ i. loweredBy (e i) (thresholdOf (ex i) (ey i)))
