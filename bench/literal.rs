@@ -1,5 +1,5 @@
-// Document 01's search in plain Rust, step for step, with document 02's slots and two fractions, on an
-// automaton that is free of 1 to 8.
+// Document 01's search in plain Rust, step for step, with document 02's slots, two fractions and counts of
+// the zones dropped, on an automaton that is free of 1 to 8.
 
 // Each program takes some of it.
 #![allow(dead_code)]
@@ -35,6 +35,8 @@ pub struct Search<'a> {
     slots: usize,
     pub kept: Vec<Kept>,
     fractions: Fractions,
+    again: u64,
+    inside: u64,
     stop: Stop,
 }
 
@@ -71,6 +73,8 @@ impl<'a> Search<'a> {
             slots,
             kept: vec![],
             fractions: NO_LIMITS,
+            again: 0,
+            inside: 0,
             stop: Stop::No,
         };
         let start = automaton[7] as usize;
@@ -117,6 +121,11 @@ impl<'a> Search<'a> {
     // Beside each verdict.
     pub fn exact(&self) -> [u64; 2] {
         terms(self.fractions.exact)
+    }
+
+    // The zones dropped by containment, as again and as inside, beside each verdict.
+    pub fn dropped(&self) -> [u64; 2] {
+        [self.again, self.inside]
     }
 
     // The kept zones into their slots; the rest of the store stands.
@@ -199,13 +208,17 @@ impl<'a> Search<'a> {
             self.stop = Stop::Reached;
             return;
         }
-        let inside = |k: &&Kept| k.location == location && is_within(zone, &k.zone, size);
-        if let Some(old) = self.kept.iter().find(inside) {
+        let contains = |k: &&Kept| k.location == location && is_within(zone, &k.zone, size);
+        if let Some(old) = self.kept.iter().find(contains) {
             let Fractions { exact, safe } = &mut self.fractions;
+            let mut equal = true;
             for at in (0..size * 9).filter(|at| at % 9 < size) {
                 *exact = lowered(*exact, zone[at], old.zone[at]);
                 *safe = lowered(*safe, zone[at], old.zone[at]);
+                equal &= zone[at] == old.zone[at];
             }
+            self.again += u64::from(equal);
+            self.inside += u64::from(!equal);
         } else if (0..size * 9).any(|at| at % 9 < size && COUNTS < zone[at].p) {
             self.stop = Stop::Refused(9);
         } else if self.kept.len() == self.slots {

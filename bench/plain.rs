@@ -1,6 +1,6 @@
 // Pairs, the two running fractions and reduction in plain Rust, for the benchmarks to time the proved
 // code against.
-#[derive(Clone, Copy)]
+#[derive(Clone, Copy, PartialEq)]
 pub struct Pair {
     pub m: i64,
     pub p: u64,

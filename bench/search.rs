@@ -1,6 +1,7 @@
 // Times the search of the proved crate exports beside two in Rust: bench/literal.rs, which makes
 // the same comparisons in the same order, and the independent one that the tests hold ours to.
-// All must give the same answer, with both fractions, and store; a ratio fails nothing.
+// All must give the same answer, with both fractions and the zones dropped, and store; a ratio fails
+// nothing.
 //
 // search: the table. search FAMILY ...: the rows of these families. search one SIDE AUTOMATON: one
 // search alone, for its instructions to be counted.

@@ -1,11 +1,11 @@
 // The searches that are timed: the proved crate's, and two in Rust.
 use crate::lengths::slot;
 use crate::library;
-use crate::literal::{Search, Verdict};
-use crate::oracle::{self, Outcome};
+use crate::literal::Search;
+use crate::oracle;
 use crate::times::opaque;
 
-// All numbers of an answer, the exact fraction too.
+// All numbers of an answer: the exact fraction and the zones dropped, too.
 pub type Answer = Result<library::Answer, u32>;
 
 pub struct Side {
@@ -28,27 +28,19 @@ pub const SIDES: [Side; 3] = [
     },
 ];
 
-fn told([kind, n, d, zones]: Verdict, [exact_n, exact_d]: [u64; 2]) -> library::Answer {
-    [kind, n, d, zones, exact_n, exact_d, 0, 0]
-}
-
 fn literal(automaton: &[u8], store: &mut [i32]) -> Answer {
     let search = Search::of(automaton, store.len() / slot(automaton));
     search.store(store);
-    let verdict = search.answer()?;
-    Ok(told(verdict, search.exact()))
+    let [kind, n, d, zones] = search.answer()?;
+    let ([exact_n, exact_d], [again, inside]) = (search.exact(), search.dropped());
+    Ok([kind, n, d, zones, exact_n, exact_d, again, inside])
 }
 
 fn independent(automaton: &[u8], store: &mut [i32]) -> Answer {
-    let (outcome, (n, d)) = oracle::search_with_exact(automaton, store);
-    let exact = [n as u64, d as u64];
-    let verdict = match outcome {
-        Outcome::Reached { zones } => [0, 0, 0, zones as u64],
-        Outcome::HoldsAny { zones } => [1, 1, 0, zones as u64],
-        Outcome::Holds { n, d, zones } => [1, n as u64, d as u64, zones as u64],
-        Outcome::Refused(number) => return Err(number.into()),
-    };
-    Ok(told(verdict, exact))
+    let (outcome, (exact_n, exact_d)) = oracle::search_with_exact(automaton, store);
+    let [kind, n, d, zones, again, inside] = outcome.numbers()?;
+    let [exact_n, exact_d] = [exact_n, exact_d].map(|number| number as u64);
+    Ok([kind, n, d, zones, exact_n, exact_d, again, inside])
 }
 
 // By this name valgrind knows what to count.

@@ -8,8 +8,12 @@
 pub type Verdict = [u64; 4];
 /// N and d of the exact fraction, the next two.
 pub type Exact = [u64; 2];
-/// All numbers of an answer: the last two are 0.
+/// The zones that were dropped as again and as inside, the last two.
+pub type Dropped = [u64; 2];
+/// All numbers of an answer.
 pub type Answer = [u64; 8];
+/// The same as a search tells them.
+pub type Findings = (Verdict, Exact, Dropped);
 
 // A slice goes as where it begins and its length. The functions ask nothing of their arguments but
 // that they are there, and reply 0 or a refusal's number.
@@ -90,7 +94,7 @@ fn told(number: u32, lent: [u64; LENT]) -> Result<Answer, u32> {
     Ok(answer)
 }
 
-/// A record has no exact fraction.
+/// A record has neither the exact fraction nor the counts of zones that were dropped.
 fn filed(answer: Answer) -> Verdict {
     let [kind, n, d, zones, later @ ..] = answer;
     assert_eq!(later, [0; 4], "what a record does not have");
@@ -106,16 +110,17 @@ fn common(a: u64, b: u64) -> u64 {
 }
 
 /// The exact fraction is in lowest terms, 1/0 for no limit, and never above the safe one of a verdict
-/// that holds.
-fn searched(answer: Answer) -> (Verdict, Exact) {
-    let [kind, n, d, zones, exact_n, exact_d, later @ ..] = answer;
-    assert_eq!(later, [0; 2], "later ones");
+/// that holds. Only a zone that is kept contains others.
+fn searched(answer: Answer) -> Findings {
+    let [kind, n, d, zones, exact_n, exact_d, again, inside] = answer;
+    let contained = zones > 0 || (again, inside) == (0, 0);
+    assert!(contained, "no zone, again {again}, inside {inside}");
     let lowest = exact_n >= 1 && common(exact_n, exact_d) == 1;
     assert!(lowest, "exact {exact_n}/{exact_d}");
     let product = |n: u64, d: u64| u128::from(n) * u128::from(d);
     let above = kind == 1 && product(exact_n, d) > product(n, exact_d);
     assert!(!above, "exact {exact_n}/{exact_d} is above {n}/{d}");
-    ([kind, n, d, zones], [exact_n, exact_d])
+    ([kind, n, d, zones], [exact_n, exact_d], [again, inside])
 }
 
 pub fn refusal(automaton: &[u8]) -> u32 {
@@ -144,22 +149,21 @@ pub fn search_answer(automaton: &[u8], store: &mut [i32]) -> Result<Answer, u32>
     told(number, lent)
 }
 
-/// The search's verdict with the exact fraction, or a refusal.
-pub fn search_exact(automaton: &[u8], store: &mut [i32]) -> Result<(Verdict, Exact), u32> {
+/// The same in its parts.
+pub fn search_findings(automaton: &[u8], store: &mut [i32]) -> Result<Findings, u32> {
     search_answer(automaton, store).map(searched)
 }
 
 pub fn search(automaton: &[u8], store: &mut [i32]) -> Result<Verdict, u32> {
-    search_exact(automaton, store).map(|(verdict, _)| verdict)
+    search_findings(automaton, store).map(|(verdict, ..)| verdict)
 }
 
-/// The search's verdict with the exact fraction, and a run in its buffer where it is reached, or a
-/// refusal.
-pub fn write_run_exact(
+/// The search's findings, and a run in its buffer where it is reached, or a refusal.
+pub fn write_run_findings(
     automaton: &[u8],
     store: &mut [i32],
     run: &mut [i64],
-) -> Result<(Verdict, Exact), u32> {
+) -> Result<Findings, u32> {
     let mut lent = [BEFORE; LENT];
     let (a, a_len) = (automaton.as_ptr(), automaton.len());
     let (s, s_len) = (store.as_mut_ptr(), store.len());
@@ -170,7 +174,7 @@ pub fn write_run_exact(
 }
 
 pub fn write_run(automaton: &[u8], store: &mut [i32], run: &mut [i64]) -> Result<Verdict, u32> {
-    write_run_exact(automaton, store, run).map(|(verdict, _)| verdict)
+    write_run_findings(automaton, store, run).map(|(verdict, ..)| verdict)
 }
 
 /// Whether the buffer begins with a run to the target, or a refusal.

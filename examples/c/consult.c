@@ -69,7 +69,8 @@ static void write_cache(const struct bytes *cache, const char *name)
         fail(fresh);
 }
 
-/* After 12 it is tried once more, with room for one record more: that of the form, which stands in its buffer. */
+/* After 12 it is tried once more, with room for one record more: that of the form, which stands in its buffer. The line is that of
+ * the program but for its end: consulting does not tell what is again or inside. */
 static void consult(struct bytes *cache, const char *name, const struct bytes *automaton, int32_t *store, size_t store_len)
 {
     static uint8_t form[ROBUSTNESS_LONGEST];

@@ -92,14 +92,15 @@ fn exceeding(to: u8) -> Draft {
 pub fn at_target(tally: &mut Tally) {
     let what = "a large count at the target";
     let draft = exceeding(LOCATIONS);
-    let reached = Ok([0, 0, 0, 65_535]);
+    let reached = Ok(([0, 0, 0, 65_535], [0, 0]));
     must(tally, what, &draft, 65_535, (reached, MOST));
     let target = ASIDE;
     is_refused(tally, "elsewhere", &Draft { target, ..draft });
 }
 
 /// Nor of a zone that a kept one contains: the threshold of that very test is the fraction. Without
-/// the kept one it is refused.
+/// the kept one it is refused. By hand: it is the one inside; from the kept one the ring's first zone and
+/// the kept one itself come again.
 pub fn contained(tally: &mut Tally) {
     let what = "a large count in a zone contained";
     let mut draft = exceeding(ASIDE);
@@ -108,7 +109,7 @@ pub fn contained(tally: &mut Tally) {
     is_refused(tally, "not contained", &draft);
     let wide = [(LATE - 1, NO_UPPER), FREE];
     draft.edges.push(edge(ASIDE, ASIDE, 2, wide));
-    let holds = Ok([1, 1, 65_534, 65_537]);
+    let holds = Ok(([1, 1, 65_534, 65_537], [2, 1]));
     must(tally, what, &draft, 65_537, (holds, MOST));
 }
 

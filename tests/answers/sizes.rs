@@ -3,6 +3,7 @@
 use crate::borders;
 use crate::draft::{Draft, Limit, NO_UPPER};
 use crate::drawn::{self, Dice, Lean, Size};
+use crate::dropped;
 use crate::lengths::slot;
 use crate::tally::{Answer, Left, Tally};
 
@@ -36,7 +37,7 @@ fn sizes(dice: &mut Dice, slot: usize, zones: usize) -> Vec<usize> {
 fn lawful(left: &Left, lent: usize, slot: usize, large: &Left) -> bool {
     let zones = large
         .answer
-        .map_or(usize::MAX, |[_, _, _, zones]| zones as usize);
+        .map_or(usize::MAX, |(verdict, _)| verdict[3] as usize);
     let answer: Answer = if lent / slot < zones {
         Err(10)
     } else {
@@ -52,7 +53,7 @@ fn every_size(tally: &mut Tally, dice: &mut Dice, what: &str, automaton: &[u8]) 
     let slot = slot(automaton);
     let large = tally.search(dice, what, automaton, ENOUGH * slot + slot / 2);
     // Where even the large store is full, the sizes of its first slots.
-    let zones = large.answer.map_or(5, |[_, _, _, zones]| zones as usize);
+    let zones = large.answer.map_or(5, |(verdict, _)| verdict[3] as usize);
     for lent in sizes(dice, slot, zones) {
         let left = tally.search(dice, what, automaton, lent);
         tally.check(lawful(&left, lent, slot, &large), || {
@@ -66,13 +67,14 @@ fn every_size(tally: &mut Tally, dice: &mut Dice, what: &str, automaton: &[u8]) 
 
 fn automaton(dice: &mut Dice, turn: usize) -> Draft {
     let size = Size::drawn(dice);
-    match turn % 8 {
+    match turn % 9 {
         0 => drawn::drawn(dice, Lean::Plain, &size),
         1 => drawn::drawn(dice, Lean::Calm, &size),
         2 => drawn::drawn(dice, Lean::Guarded, &size),
         3 => drawn::drawn(dice, Lean::Wheel, &size),
         4 => drawn::shortcut(dice),
         5 => drawn::crowd(dice.range(2, 8) as usize, dice.range(1, 12) as usize),
+        6 => dropped::drawn(dice),
         _ => borders::drawn(dice),
     }
 }

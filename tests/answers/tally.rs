@@ -1,9 +1,10 @@
 //! One search by the library and by the second search, what failed, and which answers were met.
 
+use crate::account;
 use crate::checks::Checks;
 use crate::drawn::Dice;
-use crate::library::{self, robustness_refusal, Exact, Verdict};
-use crate::oracle::{self, Outcome};
+use crate::library::{self, robustness_refusal, Dropped, Findings, Verdict};
+use crate::oracle::{self, End};
 use std::collections::BTreeMap;
 use std::process::ExitCode;
 
@@ -16,8 +17,13 @@ const RUN: [i64; 9] = [2, 0, -7, 5, i64::MAX, i64::MIN, 0, 1, 77];
 pub const LARGE: &str = "n from 900,000 on";
 pub const BELOW: &str = "holds, the exact fraction below the safe one";
 pub const REACHED_EXACT: &str = "reached, an exact fraction n/d";
+pub const AGAIN: &str = "again";
+pub const INSIDE: &str = "inside";
+pub const BOTH: &str = "again and inside";
+pub const REACHED_AGAIN: &str = "reached, again";
+pub const REACHED_INSIDE: &str = "reached, inside";
 
-pub type Answer = Result<Verdict, u32>;
+pub type Answer = Result<(Verdict, Dropped), u32>;
 
 /// What the second search leaves, and what it was lent and the numbers past that were before.
 pub struct Left {
@@ -32,28 +38,34 @@ pub struct Tally {
     met: BTreeMap<String, usize>,
 }
 
-fn answer(outcome: Outcome) -> Answer {
-    match outcome {
-        Outcome::Reached { zones } => Ok([0, 0, 0, zones as u64]),
-        Outcome::Holds { n, d, zones } => Ok([1, n as u64, d as u64, zones as u64]),
-        Outcome::HoldsAny { zones } => Ok([1, 1, 0, zones as u64]),
-        Outcome::Refused(number) => Err(u32::from(number)),
-    }
+/// What the second search tells.
+fn findings(end: &End) -> Result<Findings, u32> {
+    let [kind, n, d, zones, again, inside] = end.outcome.numbers()?;
+    let exact = [end.exact.0 as u64, end.exact.1 as u64];
+    Ok(([kind, n, d, zones], exact, [again, inside]))
 }
 
-/// What the two fractions are to be met as, beside the kind of a verdict.
-fn fractions(([kind, n, d, _], exact): (Verdict, Exact)) -> Option<&'static str> {
-    match kind {
-        0 if exact[1] > 0 => Some(REACHED_EXACT),
-        1 if exact != [n, d] => Some(BELOW),
-        _ => None,
-    }
+/// What the fractions and the counts are to be met as, beside the kind of a verdict.
+fn labels(([kind, n, d, _], exact, [again, inside]): Findings) -> Vec<&'static str> {
+    let reached = kind == 0;
+    let met = [
+        (REACHED_EXACT, reached && exact[1] > 0),
+        (BELOW, !reached && exact != [n, d]),
+        (LARGE, n >= 900_000),
+        (AGAIN, again > 0),
+        (INSIDE, inside > 0),
+        (BOTH, again > 0 && inside > 0),
+        (REACHED_AGAIN, reached && again > 0),
+        (REACHED_INSIDE, reached && inside > 0),
+    ];
+    let met = met.into_iter().filter(|(_, met)| *met);
+    met.map(|(label, _)| label).collect()
 }
 
 fn kind(answer: Answer) -> String {
     match answer {
-        Ok([0, ..]) => "reached".into(),
-        Ok([_, _, 0, _]) => "holds any".into(),
+        Ok(([0, ..], _)) => "reached".into(),
+        Ok(([_, _, 0, _], _)) => "holds any".into(),
         Ok(_) => "holds n/d".into(),
         Err(number) => format!("refused {number}"),
     }
@@ -68,17 +80,16 @@ impl Tally {
         *self.met.entry(label).or_default() += 1;
     }
 
-    /// Lends both searches an equal store of random numbers and compares their answers, the exact
-    /// fraction beside each verdict too, and all that they leave. Gives back the second search's side,
-    /// so that what follows does not build on a failure.
+    /// Lends both searches an equal store of random numbers and compares their answers, with the exact
+    /// fraction and the counts beside each verdict, and all that they leave. Gives back the second
+    /// search's side, so that what follows does not build on a failure.
     pub fn search(&mut self, dice: &mut Dice, what: &str, automaton: &[u8], lent: usize) -> Left {
         let number = |_| dice.range(1, u32::MAX) as i32;
         let before: Vec<i32> = (0..lent + PAST).map(number).collect();
         let (mut ours, mut store) = (before.clone(), before.clone());
-        let got = library::search_exact(automaton, &mut ours[..lent]);
-        let (outcome, (n, d)) = oracle::search_with_exact(automaton, &mut store[..lent]);
-        let answer = answer(outcome);
-        let told = answer.map(|verdict| (verdict, [n as u64, d as u64]));
+        let got = library::search_findings(automaton, &mut ours[..lent]);
+        let end = oracle::end(automaton, &mut store[..lent]);
+        let told = findings(&end);
         let differs = (0..ours.len()).find(|&i| ours[i] != store[i]);
         self.check(got == told && differs.is_none(), || {
             format!(
@@ -86,12 +97,16 @@ impl Tally {
                  automaton {automaton:02x?}"
             )
         });
-        self.meet(kind(answer));
-        if let Some(label) = told.ok().and_then(fractions) {
-            self.meet(label.into());
+        if let Ok(findings) = got {
+            let (counted, entered) = account::of(automaton, &ours, findings, &end);
+            self.check(entered == Some(counted), || {
+                format!("{what}: {counted} zones of {entered:?}\n  automaton {automaton:02x?}")
+            });
         }
-        if matches!(answer, Ok([_, n, _, _]) if n >= 900_000) {
-            self.meet(LARGE.into());
+        let answer = told.map(|(verdict, _, dropped)| (verdict, dropped));
+        self.meet(kind(answer));
+        for label in told.map_or(Vec::new(), labels) {
+            self.meet(label.into());
         }
         Left {
             answer,

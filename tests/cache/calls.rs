@@ -8,10 +8,11 @@ use crate::library::{
     robustness_make_empty, robustness_refusal, robustness_search, robustness_sound,
     robustness_write_run,
 };
-use crate::oracle::{self, Verdict};
+use crate::oracle::{self, Beside, Verdict};
 
-/// In place of the exact fraction where a verdict is from a cache, whose records do not have it.
-const NO_EXACT: [u64; 2] = [0, 0];
+/// What stands beside a verdict from a cache, whose records have neither the exact fraction nor the zones
+/// that were dropped.
+const FILED: Beside = [0; 4];
 
 #[derive(Clone, Copy, PartialEq, Eq, Debug)]
 pub enum Call {
@@ -106,11 +107,11 @@ impl Lent {
         self.answer[..4].try_into().expect("four numbers")
     }
 
-    /// Kind, n, d and zones, the exact fraction or 0 and 0, then two of 0, as many as are lent.
-    fn tell(&mut self, verdict: Verdict, exact: [u64; 2]) {
+    /// Kind, n, d and zones, and what stands beside them, as many as are lent.
+    fn tell(&mut self, verdict: Verdict, beside: Beside) {
         let Verdict { kind, n, d, zones } = verdict;
         let first = [u32::from(kind), n, d, zones].map(u64::from);
-        let numbers = first.into_iter().chain(exact).chain([0, 0]);
+        let numbers = first.into_iter().chain(beside);
         for (place, number) in self.answer.iter_mut().zip(numbers) {
             *place = number;
         }
@@ -242,17 +243,17 @@ pub fn expected(call: Call, lent: &mut Lent) -> u32 {
             oracle::canonical(automaton, form).map(|form| lent.length = form.len() as u64)
         }
         Call::Search => {
-            oracle::searched(automaton, store).map(|(verdict, exact)| lent.tell(verdict, exact))
+            oracle::searched(automaton, store).map(|(verdict, beside)| lent.tell(verdict, beside))
         }
         Call::WriteRun | Call::Judge => unreachable!("tests/story holds them to document 02"),
         Call::MakeEmpty => oracle::make_empty(cache),
         Call::Sound => oracle::sound(cache),
         Call::LookUp => oracle::look_up(cache, automaton, form).map(|found| {
             lent.filed = u64::from(found.is_some());
-            found.into_iter().for_each(|v| lent.tell(v, NO_EXACT));
+            found.into_iter().for_each(|v| lent.tell(v, FILED));
         }),
         Call::Consult => {
-            oracle::consult(cache, automaton, form, store).map(|v| lent.tell(v, NO_EXACT))
+            oracle::consult(cache, automaton, form, store).map(|v| lent.tell(v, FILED))
         }
     };
     done.err().unwrap_or(0)

@@ -37,11 +37,12 @@ mod unsound;
 
 use calls::Call;
 use std::process::ExitCode;
-use tally::{Tally, SPARE};
+use tally::{Tally, DROPPED, SPARE};
 
 /// Every label that the comparison has to meet.
 fn labels() -> Vec<String> {
     let mut labels: Vec<String> = vec!["LookUp not there".into()];
+    labels.extend(DROPPED.map(String::from));
     for verdict in ["reached", "n/d", "any error", "in part"] {
         for call in ["Search", "LookUp", "Consult filed", "Consult searched"] {
             labels.push(format!("{} {}", call, verdict));

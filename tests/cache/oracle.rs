@@ -20,6 +20,9 @@ pub struct Verdict {
     pub zones: u32,
 }
 
+/// What a search tells beside a verdict, and no record has: n and d of the exact fraction, again and inside.
+pub type Beside = [u64; 4];
+
 #[derive(Clone)]
 pub struct Record {
     pub verdict: Verdict,
@@ -60,20 +63,14 @@ impl Verdict {
         }
     }
 
-    fn of(outcome: Outcome) -> Result<Verdict, u32> {
-        let (kind, n, d, zones) = match outcome {
-            Outcome::Reached { zones } => (0, 0, 0, zones),
-            Outcome::Holds { n, d, zones } => (1, n, d, zones),
-            Outcome::HoldsAny { zones } => (1, 1, 0, zones),
-            Outcome::Refused(number) => return Err(u32::from(number)),
-        };
-        let four = |number: i64| u32::try_from(number).expect("a verdict's number has four bytes");
-        Ok(Verdict {
-            kind,
+    fn of([kind, n, d, zones]: [u64; 4]) -> Verdict {
+        let four = |number: u64| u32::try_from(number).expect("a verdict's number has four bytes");
+        Verdict {
+            kind: kind as u8,
             n: four(n),
             d: four(d),
-            zones: four(zones as i64),
-        })
+            zones: four(zones),
+        }
     }
 }
 
@@ -176,10 +173,11 @@ pub fn canonical(automaton: &[u8], lent: &mut [u8]) -> Result<Vec<u8>, u32> {
     Ok(form)
 }
 
-/// With the exact fraction, which no record has.
-pub fn searched(automaton: &[u8], store: &mut [i32]) -> Result<(Verdict, [u64; 2]), u32> {
-    let (outcome, (n, d)) = search::search_with_exact(automaton, store);
-    Ok((Verdict::of(outcome)?, [n as u64, d as u64]))
+pub fn searched(automaton: &[u8], store: &mut [i32]) -> Result<(Verdict, Beside), u32> {
+    let (outcome, (exact_n, exact_d)) = search::search_with_exact(automaton, store);
+    let [kind, n, d, zones, again, inside] = outcome.numbers()?;
+    let beside = [exact_n as u64, exact_d as u64, again, inside];
+    Ok((Verdict::of([kind, n, d, zones]), beside))
 }
 
 pub fn make_empty(lent: &mut [u8]) -> Result<(), u32> {

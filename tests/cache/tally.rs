@@ -94,6 +94,18 @@ fn label(call: Call, before: &Lent, left: &Left) -> String {
 /// shorter.
 pub const SPARE: &str = ", as many bytes as drawn";
 
+/// Of searches that dropped a zone as again, or as inside, and were lent the place that tells it.
+pub const DROPPED: [&str; 2] = ["Search, again", "Search, inside"];
+
+fn dropped(call: Call, left: &Left) -> Vec<&'static str> {
+    let told = DROPPED.into_iter().zip(left.lent.answer.iter().skip(6));
+    let some = told.filter(|(_, count)| **count > 0);
+    match (call, left.reply) {
+        (Call::Search, 0) => some.map(|(label, _)| label).collect(),
+        _ => Vec::new(),
+    }
+}
+
 fn spares(before: &Lent, left: &Left) -> bool {
     let form = &left.lent.form;
     *form != before.form && form.len() == before.automaton.len() && lengths::said(form) < form.len()
@@ -121,6 +133,9 @@ impl Tally {
         self.meet(&label, true);
         if spares(before, &left) {
             self.meet(&(label + SPARE), true);
+        }
+        for label in dropped(call, &left) {
+            self.meet(label, true);
         }
         self.check(got == Some(reply) && ours == left.lent, || {
             format!(

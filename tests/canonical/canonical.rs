@@ -51,7 +51,7 @@ mod writer;
 
 use calls::Call;
 use std::process::ExitCode;
-use tally::{Tally, SPARE};
+use tally::{Tally, DROPPED, SPARE};
 
 /// What must be met, lest the checks say little.
 fn labels() -> Vec<String> {
@@ -59,6 +59,7 @@ fn labels() -> Vec<String> {
     let verdicts = ["reached", "n/d", "any error"];
     let mut labels: Vec<String> = vec![shuffles::DIFFER.into(), shuffles::MANY_DIFFER.into()];
     labels.extend(same_runs::LABELS.map(String::from));
+    labels.extend(DROPPED.map(String::from));
     labels.extend(changes.map(|change| format!("Canonical {change}")));
     labels.push(format!("Canonical without repeats{SPARE}"));
     labels.extend(verdicts.map(|verdict| format!("Search {verdict}")));

@@ -120,7 +120,7 @@ pub fn every_list(tally: &mut Tally) {
     let ordered = offices::drawn(&[0, 1, 2]).bytes();
     let filed = first(tally, &mut dice, "the offices' form", &ordered);
     let (told, lists) = (filed.lent.verdict(), lists());
-    let right = told == offices::numbers(offices::SOUTH) && lists.len() == 6 + 36 + 150;
+    let right = told == offices::numbers(offices::FORM) && lists.len() == 6 + 36 + 150;
     tally.check(right, || format!("{} lists, {told:?}", lists.len()));
     for list in lists {
         let what = format!("the offices' edges {list:?}");

@@ -23,8 +23,8 @@ const POSSIBLE: [(Call, &[u32]); 9] = [
 
 /// What else is to be met: a slice of length 0, an automaton that is filed or comes to be, one that
 /// is not its own form, in a cache too, a buffer with no byte more than the form, a run that is
-/// written, passes or does not, also one whose count is past its buffer.
-const OTHERS: [&str; 18] = [
+/// written, passes or does not, also one whose count is past its buffer, zones that are dropped.
+const OTHERS: [&str; 20] = [
     "Refusal, no automaton",
     "Search, no store",
     "Sound, no cache",
@@ -43,6 +43,8 @@ const OTHERS: [&str; 18] = [
     "Judge, passes and is followed",
     "Judge, a count past the buffer",
     "Judge, does not pass",
+    "Search, again",
+    "Search, inside",
 ];
 
 /// Whether the first record's automaton is not its own form.
@@ -66,6 +68,7 @@ fn others(call: Call, before: &Lent, after: &Lent) -> &'static [&'static str] {
         Call::Canonical => &OTHERS[7..8],
         Call::Refusal if before.automaton.is_empty() => &OTHERS[..1],
         Call::Search if before.store.is_empty() => &OTHERS[1..2],
+        Call::Search if after.answer != before.answer => dropped(&after.answer),
         Call::Sound if before.cache.is_empty() => &OTHERS[2..3],
         Call::Sound if is_disordered(&before.cache) => &OTHERS[9..10],
         Call::LookUp if after.filed == 1 => &OTHERS[3..4],
@@ -84,6 +87,16 @@ fn others(call: Call, before: &Lent, after: &Lent) -> &'static [&'static str] {
         Call::Judge if counts(before, |count, all| count > all) => &OTHERS[16..18],
         Call::Judge => &OTHERS[17..18],
         _ => &[],
+    }
+}
+
+/// What a search dropped, where it was lent the places that tell it.
+fn dropped(answer: &[u64]) -> &'static [&'static str] {
+    match answer.get(6..8) {
+        None | Some([0, 0]) => &[],
+        Some([_, 0]) => &OTHERS[18..19],
+        Some([0, _]) => &OTHERS[19..20],
+        Some(_) => &OTHERS[18..20],
     }
 }
 

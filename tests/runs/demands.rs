@@ -1,11 +1,12 @@
 //! The library's answer for one automaton, held to the runs that the explorer finds.
 
+use crate::account;
 use crate::checks::Checks;
 use crate::claims::{Bound, Claim};
 use crate::draft::Draft;
 use crate::explorer::{Explorer, Grid, Loosening};
 use crate::kept::Kept;
-use crate::library::{self, Exact, Verdict};
+use crate::library::{self, Dropped, Findings};
 use crate::own;
 use std::collections::BTreeMap;
 use std::process::ExitCode;
@@ -25,8 +26,12 @@ const LARGER: &str = "a zone larger than its own runs, from the exact fraction o
 const BETWEEN: &str = "a zone larger than its own runs, between the fractions";
 const REACHED_LARGER: &str = "a zone larger than its own runs, reached";
 const BRANCHES: &str = "zones behind another than the first";
+const AGAIN: &str = "holds, again";
+const INSIDE: &str = "holds, inside";
+const BOTH: &str = "holds, again and inside";
+const EMPTY: &str = "holds, empty zones";
 /// What must be met, and how often at least, lest the checks say little.
-const LEAST: [(&str, usize); 16] = [
+const LEAST: [(&str, usize); 20] = [
     ("holds any", 1_000),
     ("holds n/d", 5_000),
     ("holds n/d, three zones or more", 1_000),
@@ -43,6 +48,10 @@ const LEAST: [(&str, usize); 16] = [
     (BETWEEN, 100),
     (REACHED_LARGER, 100),
     (BRANCHES, 2_000),
+    (AGAIN, 1_000),
+    (INSIDE, 1_000),
+    (BOTH, 100),
+    (EMPTY, 1_000),
 ];
 
 const fn no_error(scale: u32) -> Loosening {
@@ -71,9 +80,9 @@ impl Tally {
     }
 }
 
-fn sort(tally: &mut Tally, automaton: &Draft, answer: Result<(Verdict, Exact), u32>) {
+fn sort(tally: &mut Tally, automaton: &Draft, answer: Result<Findings, u32>) {
     let clocks = automaton.invariants[0].len();
-    let told = answer.map(|(verdict, exact)| (Claim::of(verdict), verdict[3], exact));
+    let told = answer.map(|(verdict, exact, _)| (Claim::of(verdict), verdict[3], exact));
     match told {
         Ok((Claim::Reached, _, [_, d])) => {
             tally.meet("reached", true);
@@ -194,13 +203,27 @@ fn two_fractions(tally: &mut Tally, automaton: &Draft, kept: &Kept, safe: Bound,
     }
 }
 
-pub fn judge(tally: &mut Tally, automaton: &Draft) -> Result<(Verdict, Exact), u32> {
+/// Each zone that has entered is kept, or dropped as again, as inside or as empty.
+fn accounted(tally: &mut Tally, automaton: &Draft, kept: &Kept, [again, inside]: Dropped) {
+    let (all, empty) = account::entered(automaton, kept);
+    let counted = kept.zones() as u64 + again + inside + empty;
+    tally.checks.check(counted == all, || {
+        let bytes = automaton.bytes();
+        format!("{again} again, {inside} inside, {empty} empty, {all} entered\n  {bytes:02x?}")
+    });
+    tally.meet(AGAIN, again > 0);
+    tally.meet(INSIDE, inside > 0);
+    tally.meet(BOTH, again > 0 && inside > 0);
+    tally.meet(EMPTY, empty > 0);
+}
+
+pub fn judge(tally: &mut Tally, automaton: &Draft) -> Result<Findings, u32> {
     let bytes = automaton.bytes();
     let mut store = vec![0; STORE];
-    let answer = library::search_exact(&bytes, &mut store);
+    let answer = library::search_findings(&bytes, &mut store);
     sort(tally, automaton, answer);
     match answer {
-        Ok((verdict, exact)) => {
+        Ok((verdict, exact, dropped)) => {
             let (claim, exact) = (Claim::of(verdict), Bound::new(exact));
             let kept = Kept::new(automaton, &store, verdict[3] as usize);
             let (below, end) = (exact.errors_below(), claim != Claim::Reached);
@@ -210,6 +233,7 @@ pub fn judge(tally: &mut Tally, automaton: &Draft) -> Result<(Verdict, Exact), u
             contained(tally, automaton, &kept, claim, exact);
             if let Claim::Holds(safe) = claim {
                 two_fractions(tally, automaton, &kept, safe, exact);
+                accounted(tally, automaton, &kept, dropped);
             }
         }
         Err(number) => {

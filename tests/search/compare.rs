@@ -6,6 +6,8 @@ mod checks;
 #[path = "../draft.rs"]
 mod draft;
 mod drawn;
+#[path = "../dropped.rs"]
+mod dropped;
 #[path = "../lengths.rs"]
 mod lengths;
 #[path = "../long.rs"]
@@ -18,7 +20,7 @@ use checks::Checks;
 use draft::{recount, Draft};
 use drawn::{Dice, Lean, Size};
 use lengths::slot_of;
-use oracle::Outcome;
+use oracle::{Counts, Outcome};
 use spoilt::spoilt;
 use std::collections::BTreeMap;
 use std::io::Write;
@@ -31,13 +33,18 @@ const STORE: usize = 16_384;
 const READ: usize = 21_260;
 const SOUND: u64 = 4_000;
 const SHORTCUTS: u64 = 300;
+const DROPPING: u64 = 1_000;
 const SPOILT: u64 = 2_000;
 /// A comparison in which an answer hardly occurs would say little about it.
 const LEAST: usize = 40;
 const BELOW: &str = "holds, the exact fraction below the safe one";
+const AGAIN: &str = "again";
+const INSIDE: &str = "inside";
+const BOTH: &str = "again and inside";
+const REACHED: &str = "reached, zones dropped";
 /// Which the program does not print: document 01's, which every comparison lowers. By hand: a guard with
-/// lo 5, or document 02's lo 1, of a clock that may be 0 has the threshold 5/1, or 1/1.
-const EXACT: [(&str, (i64, i64)); 8] = [
+/// lo 5, document 02's lo 1, or a lo 2 of ours, of a clock that may be 0 has the threshold 5/1, 1/1, or 2/1.
+const EXACT: [(&str, (i64, i64)); 11] = [
     ("A", (1, 1)),
     ("B", (5, 1)),
     ("C", (1, 1)),
@@ -46,6 +53,9 @@ const EXACT: [(&str, (i64, i64)); 8] = [
     ("G", (3, 1)),
     ("H", (1, 0)),
     ("looping", (1, 1)),
+    ("inside", (2, 1)),
+    ("oldest", (2, 1)),
+    ("dropped-then-reached", (2, 1)),
 ];
 
 /// All that the program writes for an automaton, or how it ended.
@@ -123,23 +133,17 @@ fn examples(checks: &mut Checks, program: &Path, folder: &Path) {
 /// Document 01's results for stores that the program does not lend, with document 02's slots.
 fn other_stores(checks: &mut Checks) {
     let wheel = slot_of(2);
+    let none = "holds 2/1 zones 0 again 0 inside 0";
+    let one = "holds 1/1 zones 1 again 0 inside 0";
+    let target = "E at its target with an empty store";
+    let enough = "the wheel with slots enough";
     let holds = [
-        ("E with an empty store", "E", 0, "holds 2/1 zones 0"),
-        (
-            "E at its target with an empty store",
-            "E-start-is-target",
-            0,
-            "holds 2/1 zones 0",
-        ),
+        ("E with an empty store", "E", 0, none),
+        (target, "E-start-is-target", 0, none),
         ("I with 10 numbers", "A", 10, "refused 10"),
-        ("I with 11 numbers", "A", 11, "holds 1/1 zones 1"),
+        ("I with 11 numbers", "A", 11, one),
         ("the wheel with 12 slots", "K", 12 * wheel, "refused 10"),
-        (
-            "the wheel with slots enough",
-            "K",
-            65_535 * wheel,
-            "refused 9",
-        ),
+        (enough, "K", 65_535 * wheel, "refused 9"),
     ];
     for (what, name, numbers, line) in holds {
         let got = oracle::search(&named(name), &mut vec![0; numbers]).to_string();
@@ -163,11 +167,18 @@ fn exact_fractions(checks: &mut Checks) {
     }
 }
 
+/// Document 02's Change 5, by hand.
+fn dropped_zones(checks: &mut Checks, program: &Path) {
+    for case in dropped::all() {
+        both_say(checks, program, &case.name, &case.automaton, &case.line());
+    }
+}
+
 /// Automata that need every slot of the program's store, and one slot more.
 fn full_stores(checks: &mut Checks, program: &Path) {
     for clocks in 5..=8 {
         let slots = STORE / slot_of(clocks);
-        let full = format!("holds any zones {}", slots);
+        let full = format!("holds any zones {} again 0 inside 0", slots);
         for (edges, line) in [(slots - 1, full.as_str()), (slots, "refused 10")] {
             let automaton = drawn::crowd(clocks, edges).bytes();
             let what = format!("{} clocks, {} edges", clocks, edges);
@@ -224,11 +235,30 @@ fn kind(outcome: Outcome) -> String {
     }
 }
 
+/// Which zones were dropped by containment.
+fn drops(outcome: Outcome) -> Vec<&'static str> {
+    let (counts, reached) = match outcome {
+        Outcome::Reached { counts } => (counts, true),
+        Outcome::Holds { counts, .. } | Outcome::HoldsAny { counts } => (counts, false),
+        Outcome::Refused(_) => return Vec::new(),
+    };
+    let Counts { again, inside, .. } = counts;
+    let met = [
+        (AGAIN, again > 0),
+        (INSIDE, inside > 0),
+        (BOTH, again > 0 && inside > 0),
+        (REACHED, reached && again + inside > 0),
+    ];
+    let met = met.into_iter().filter(|(_, met)| *met);
+    met.map(|(label, _)| label).collect()
+}
+
 fn random_automata(round: u64) -> Vec<Vec<u8>> {
     let mut dice = Dice::new(1 + 1_000 * round);
     let mut automata = long_inputs();
     automata.extend((0..SOUND).map(|turn| sound(&mut dice, turn).bytes()));
     automata.extend((0..SHORTCUTS).map(|_| drawn::shortcut(&mut dice).bytes()));
+    automata.extend((0..DROPPING).map(|_| dropped::drawn(&mut dice).bytes()));
     automata.extend((0..SPOILT).map(|turn| {
         let draft = sound(&mut dice, turn);
         spoilt(&mut dice, draft)
@@ -243,6 +273,9 @@ fn comparison(checks: &mut Checks, program: &Path) {
         let (expected, exact) = searched(automaton);
         *seen.entry(kind(expected)).or_default() += 1;
         *seen.entry(BELOW.into()).or_default() += usize::from(is_below(expected, exact));
+        for label in drops(expected) {
+            *seen.entry(label.into()).or_default() += 1;
+        }
         let got = program_says(program, automaton);
         checks.check(got == format!("{}\n", expected), || {
             format!(
@@ -256,7 +289,8 @@ fn comparison(checks: &mut Checks, program: &Path) {
     // slots are too few for.
     let refusals = [1, 2, 3, 4, 5, 6, 7, 8, 10].map(|number| format!("refused {}", number));
     let verdicts = ["reached", "holds n/d", "holds any", BELOW].map(String::from);
-    for answer in refusals.iter().chain(&verdicts) {
+    let dropped = [AGAIN, INSIDE, BOTH, REACHED].map(String::from);
+    for answer in refusals.iter().chain(&verdicts).chain(&dropped) {
         let times = seen.get(answer).copied().unwrap_or(0);
         checks.check(times >= LEAST, || {
             format!("only {} random automata give {}", times, answer)
@@ -275,6 +309,7 @@ fn main() -> ExitCode {
     examples(&mut checks, program, folder);
     other_stores(&mut checks);
     exact_fractions(&mut checks);
+    dropped_zones(&mut checks, program);
     full_stores(&mut checks, program);
     comparison(&mut checks, program);
     checks.sum_up()

@@ -128,7 +128,7 @@ impl Automaton {
 }
 
 /// m + p × error.
-#[derive(Clone, Copy)]
+#[derive(Clone, Copy, PartialEq, Eq)]
 struct Pair {
     m: i64,
     p: i64,
@@ -316,21 +316,52 @@ impl Zone {
     }
 }
 
+/// What a verdict comes with: the zones kept, and those "dropped by containment", which are counted "as
+/// again when every pair equals that of the kept zone, and as inside otherwise".
+#[derive(Clone, Copy, PartialEq, Eq, Debug, Default)]
+pub struct Counts {
+    pub zones: usize,
+    pub again: usize,
+    pub inside: usize,
+}
+
 /// The verdict carries the safe fraction.
 #[derive(Clone, Copy, PartialEq, Eq, Debug)]
 pub enum Outcome {
-    Reached { zones: usize },
-    Holds { n: i64, d: i64, zones: usize },
-    HoldsAny { zones: usize },
+    Reached { counts: Counts },
+    Holds { n: i64, d: i64, counts: Counts },
+    HoldsAny { counts: Counts },
     Refused(u8),
+}
+
+impl Outcome {
+    /// Kind, n, d, zones, again and inside, or a refusal.
+    pub fn numbers(self) -> Result<[u64; 6], u8> {
+        let (kind, n, d, counts) = match self {
+            Outcome::Reached { counts } => (0, 0, 0, counts),
+            Outcome::Holds { n, d, counts } => (1, n, d, counts),
+            Outcome::HoldsAny { counts } => (1, 1, 0, counts),
+            Outcome::Refused(number) => return Err(number),
+        };
+        let counts = [counts.zones, counts.again, counts.inside];
+        let [zones, again, inside] = counts.map(|count| count as u64);
+        Ok([kind, n as u64, d as u64, zones, again, inside])
+    }
+}
+
+impl fmt::Display for Counts {
+    fn fmt(&self, f: &mut fmt::Formatter) -> fmt::Result {
+        let (zones, again, inside) = (self.zones, self.again, self.inside);
+        write!(f, "zones {} again {} inside {}", zones, again, inside)
+    }
 }
 
 impl fmt::Display for Outcome {
     fn fmt(&self, f: &mut fmt::Formatter) -> fmt::Result {
         match self {
-            Outcome::Reached { zones } => write!(f, "reached zones {}", zones),
-            Outcome::Holds { n, d, zones } => write!(f, "holds {}/{} zones {}", n, d, zones),
-            Outcome::HoldsAny { zones } => write!(f, "holds any zones {}", zones),
+            Outcome::Reached { counts } => write!(f, "reached {}", counts),
+            Outcome::Holds { n, d, counts } => write!(f, "holds {}/{} {}", n, d, counts),
+            Outcome::HoldsAny { counts } => write!(f, "holds any {}", counts),
             Outcome::Refused(number) => write!(f, "refused {}", number),
         }
     }
@@ -373,6 +404,8 @@ struct Search<'a> {
     /// The numbers of the kept zones by location, oldest first.
     at_location: Vec<Vec<usize>>,
     fractions: Fractions,
+    counts: Counts,
+    empty: usize,
 }
 
 impl Search<'_> {
@@ -401,7 +434,7 @@ impl Search<'_> {
         zone.meet(&edge.guard, &mut self.fractions.exact);
         match zone.reduce(&mut self.fractions) {
             Some(zone) => self.arrive(zone.reset(edge.reset), edge.to, origin),
-            None => Ok(()),
+            None => self.drop_empty(),
         }
     }
 
@@ -412,8 +445,13 @@ impl Search<'_> {
                 origin,
                 zone,
             }),
-            None => Ok(()),
+            None => self.drop_empty(),
         }
+    }
+
+    fn drop_empty(&mut self) -> Result<(), Stop> {
+        self.empty += 1;
+        Ok(())
     }
 
     fn judge(&mut self, new: Kept) -> Result<(), Stop> {
@@ -425,8 +463,14 @@ impl Search<'_> {
             .iter()
             .find(|&&k| zone.within(&kept[k].zone))
         {
-            for (a, b) in zone.pairs.iter().zip(&kept[old].zone.pairs) {
+            let old = &kept[old].zone;
+            for (a, b) in zone.pairs.iter().zip(&old.pairs) {
                 self.fractions.contained(*a, *b);
+            }
+            if zone.pairs == old.pairs {
+                self.counts.again += 1;
+            } else {
+                self.counts.inside += 1;
             }
             return Ok(());
         }
@@ -447,6 +491,7 @@ impl Search<'_> {
         }
         self.at_location[new.location].push(slot);
         self.kept.push(new);
+        self.counts.zones += 1;
         Ok(())
     }
 
@@ -468,44 +513,65 @@ pub fn refusal(bytes: &[u8]) -> Result<(), u8> {
 }
 
 /// How a search ended.
-struct End {
-    outcome: Outcome,
-    exact: (i64, i64),
-    branch: Option<Vec<usize>>,
+pub struct End {
+    pub outcome: Outcome,
+    /// The exact fraction, which "the bare search gives beside each verdict".
+    pub exact: (i64, i64),
+    /// Where it is reached the edges of the search's branch to the target.
+    pub branch: Option<Vec<usize>>,
+    /// How many zones came out empty, of which the answer tells nothing.
+    pub empty: usize,
 }
 
-fn end(bytes: &[u8], store: &mut [i32]) -> End {
+impl End {
+    fn refused(number: u8) -> End {
+        End {
+            outcome: Outcome::Refused(number),
+            exact: Fractions::NO_LIMIT.exact.given_out(),
+            branch: None,
+            empty: 0,
+        }
+    }
+
+    fn of(search: &Search, stop: Result<(), Stop>) -> End {
+        let (counts, fractions) = (search.counts, search.fractions);
+        let mut branch = None;
+        let outcome = match (stop, fractions.safe.given_out()) {
+            (Err(Stop::Refused(number)), _) => Outcome::Refused(number),
+            (Err(Stop::Reached(origin)), _) => {
+                branch = Some(search.branch(origin));
+                Outcome::Reached { counts }
+            }
+            (Ok(()), (_, 0)) => Outcome::HoldsAny { counts },
+            (Ok(()), (n, d)) => Outcome::Holds { n, d, counts },
+        };
+        End {
+            outcome,
+            exact: fractions.exact.given_out(),
+            branch,
+            empty: search.empty,
+        }
+    }
+}
+
+/// The search of these bytes, with this store lent.
+pub fn end(bytes: &[u8], store: &mut [i32]) -> End {
     let automaton = match Automaton::read(bytes) {
         Ok(automaton) => automaton,
-        Err(number) => {
-            return End {
-                outcome: Outcome::Refused(number),
-                exact: Fractions::NO_LIMIT.exact.given_out(),
-                branch: None,
-            }
-        }
+        Err(number) => return End::refused(number),
     };
     let at_location = vec![Vec::new(); automaton.invariants.len()];
-    let mut s = Search {
+    let mut search = Search {
         automaton: &automaton,
         store,
         kept: Vec::new(),
         at_location,
         fractions: Fractions::NO_LIMIT,
+        counts: Counts::default(),
+        empty: 0,
     };
-    let stop = s.run();
-    let zones = s.kept.len();
-    let (outcome, branch) = match (stop, s.fractions.safe.given_out()) {
-        (Err(Stop::Refused(number)), _) => (Outcome::Refused(number), None),
-        (Err(Stop::Reached(origin)), _) => (Outcome::Reached { zones }, Some(s.branch(origin))),
-        (Ok(()), (_, 0)) => (Outcome::HoldsAny { zones }, None),
-        (Ok(()), (n, d)) => (Outcome::Holds { n, d, zones }, None),
-    };
-    End {
-        outcome,
-        exact: s.fractions.exact.given_out(),
-        branch,
-    }
+    let stop = search.run();
+    End::of(&search, stop)
 }
 
 /// The program's answer for these bytes, with this store lent.
@@ -513,14 +579,13 @@ pub fn search(bytes: &[u8], store: &mut [i32]) -> Outcome {
     end(bytes, store).outcome
 }
 
-/// The same, and the exact fraction as the search ended, which "the bare search gives beside each
-/// verdict".
+/// The same, and the exact fraction as the search ended.
 pub fn search_with_exact(bytes: &[u8], store: &mut [i32]) -> (Outcome, (i64, i64)) {
     let end = end(bytes, store);
     (end.outcome, end.exact)
 }
 
-/// The program's answer, and where it is reached the edges of the search's branch to the target.
+/// The same, and the branch to the target.
 pub fn search_with_branch(bytes: &[u8], store: &mut [i32]) -> (Outcome, Option<Vec<usize>>) {
     let end = end(bytes, store);
     (end.outcome, end.branch)

@@ -1,5 +1,5 @@
 //! The automata of document 01's table, its cards, and of document 02's Change 4, built as their words
-//! describe them.
+//! describe them; and some of our own for its Change 5.
 
 use crate::draft::{Draft, Edge, Limit, NO_UPPER};
 
@@ -102,6 +102,39 @@ fn looping() -> Named {
     ("looping", but(usual((1, NO_UPPER), 1), stays))
 }
 
+/// Five locations with 0 to 5, the last the target, and no resets. Location 1 is entered at 2 or more, then
+/// by way of 2 at any time, then by way of 3 at 2 or more.
+fn oldest() -> Vec<u8> {
+    let (free, late) = ((0, NO_UPPER), (2, NO_UPPER));
+    let edges = [
+        (0, 1, late),
+        (0, 2, free),
+        (0, 3, free),
+        (2, 1, free),
+        (3, 1, late),
+    ];
+    let draft = Draft {
+        start: 0,
+        target: 4,
+        invariants: vec![vec![(0, 5)]; 5],
+        edges: edges.map(|(from, to, x)| edge(from, to, 0, &[x])).to_vec(),
+    };
+    draft.bytes()
+}
+
+/// Searches that drop zones. Before B's edge to the target, the one to be reached has an edge from 0 to 0
+/// with lo 2, and one that resets.
+fn dropping() -> Vec<Named> {
+    let (free, late) = ((0, NO_UPPER), (2, NO_UPPER));
+    let loops = [edge(0, 0, 0, &[late]), edge(0, 0, 1, &[free])];
+    let before = |d: &mut Draft| d.edges = [&loops, &d.edges[..]].concat();
+    vec![
+        ("inside", but(usual(late, 0), |d| d.edges[0].to = 0)),
+        ("oldest", oldest()),
+        ("dropped-then-reached", but(usual((5, NO_UPPER), 0), before)),
+    ]
+}
+
 /// At and past the ends of what a limit may be.
 fn limits() -> Vec<Named> {
     const MOST: u32 = 1_000_000;
@@ -143,7 +176,7 @@ fn counts() -> Vec<Named> {
 }
 
 pub fn automata() -> Vec<Named> {
-    [letters(), vec![looping()], limits(), counts()].concat()
+    [letters(), vec![looping()], dropping(), limits(), counts()].concat()
 }
 
 pub fn named(name: &str) -> Vec<u8> {

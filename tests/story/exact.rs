@@ -4,7 +4,7 @@
 use crate::calls::{self, Call, Lent};
 use crate::drawn::Dice;
 use crate::hand::{draft, edge};
-use crate::library::{self, Exact};
+use crate::library::{self, Dropped, Exact};
 use crate::rings::FREE;
 use crate::table::{named, with_byte};
 use crate::tally::{Judged, Tally};
@@ -14,9 +14,17 @@ const BEHIND: i64 = -7;
 /// So many numbers more than are needed.
 const MORE: usize = 9;
 const ANSWERS: [usize; 8] = [0, 1, 3, 4, 7, 8, 9, 20];
+const DROPPING: &str = "dropped-then-reached";
 
-/// A name, the automaton, the run, all slots that are kept and the exact fraction.
-type Case = (&'static str, Vec<u8>, &'static [i64], &'static [i32], Exact);
+/// A name, the automaton, the run, all slots that are kept, the exact fraction and the zones dropped.
+type Case = (
+    &'static str,
+    Vec<u8>,
+    &'static [i64],
+    &'static [i32],
+    Exact,
+    Dropped,
+);
 
 /// The first slot of a start with 0 to 5, as of document 01's A: its location, −1 and −1, its pairs.
 const START: &[i32] = &[0, -1, -1, 0, 0, 0, 0, 5, 1, 0, 0];
@@ -33,27 +41,37 @@ fn between() -> Vec<u8> {
 }
 
 /// By hand, the exact fraction: a guard with lo 5 of a clock that may be 0 has the threshold 5/1; of those
-/// with lo 4 and lo 3 the second is the lower.
-fn cases() -> [Case; 3] {
+/// with lo 4 and lo 3 the second is the lower, and so is that with lo 2 before one with lo 5. What is
+/// dropped, before B's edge, which there is the third: tests/dropped.rs.
+fn cases() -> [Case; 4] {
+    let (smallest, dropping) = (named("smallest"), named(DROPPING));
     [
-        ("B", named("B"), &[4, 5, 0, 0], START, [5, 1]),
-        ("start is target", named("smallest"), &[2, 0], &[], [1, 0]),
-        ("between", between(), &[6, 5, 0, 3, 1, 0], BOTH, [3, 1]),
+        ("B", named("B"), &[4, 5, 0, 0], START, [5, 1], [0, 0]),
+        ("start is target", smallest, &[2, 0], &[], [1, 0], [0, 0]),
+        (
+            "between",
+            between(),
+            &[6, 5, 0, 3, 1, 0],
+            BOTH,
+            [3, 1],
+            [0, 0],
+        ),
+        (DROPPING, dropping, &[4, 5, 2, 0], START, [2, 1], [1, 1]),
     ]
 }
 
 /// The same run in every buffer that is long enough, in every store with enough slots.
 pub fn runs(tally: &mut Tally) {
-    for (name, automaton, run, slots, exact) in cases() {
+    for (name, automaton, run, slots, exact, dropped) in cases() {
         tally.must(name, &Judged::new(&automaton), run, true);
         for (more, spare) in (0..=MORE).flat_map(|more| [(more, 0), (more, 5), (more, 40)]) {
             let mut buffer = vec![BEHIND; run.len() + more];
             let mut store = vec![UNTOUCHED; slots.len() + spare];
-            let reply = library::write_run_exact(&automaton, &mut store, &mut buffer);
+            let reply = library::write_run_findings(&automaton, &mut store, &mut buffer);
             let expected = [run, &vec![BEHIND; more]].concat();
             let kept = [slots, &vec![UNTOUCHED; spare]].concat();
             let zones = slots.len() as u64 / START.len() as u64;
-            let told = reply == Ok(([0, 0, 0, zones], exact));
+            let told = reply == Ok(([0, 0, 0, zones], exact, dropped));
             let right = told && buffer == expected && store == kept;
             tally.check(right, || {
                 format!("{name}, {more} more: {reply:?}, {buffer:?}, {store:?}")
@@ -90,13 +108,18 @@ pub fn answers(tally: &mut Tally) {
     let mut dice = Dice::new(11);
     let foreign = with_byte(&named("B"), 4, 2);
     let reached = Some([0, 0, 0, 1, 5, 1, 0, 0]);
+    let dropped = Some([0, 0, 0, 1, 2, 1, 1, 1]);
     let holds = Some([1, 1, 1, 1, 1, 1, 0, 0]);
+    let again = Some([1, 1, 0, 1, 1, 0, 1, 0]);
     for length in ANSWERS {
-        let cases: [(Vec<u8>, usize, Reply); 5] = [
+        let cases: [(Vec<u8>, usize, Reply); 8] = [
             (named("B"), 4, (0, reached, &[4, 5, 0, 0])),
             (named("B"), 6, (0, reached, &[4, 5, 0, 0])),
             (named("B"), 3, (14, None, &[])),
+            (named(DROPPING), 6, (0, dropped, &[4, 5, 2, 0])),
+            (named(DROPPING), 3, (14, None, &[])),
             (named("A"), 6, (0, holds, &[])),
+            (named("H"), 6, (0, again, &[])),
             (foreign.clone(), 6, (3, None, &[])),
         ];
         for (automaton, numbers, reply) in cases {

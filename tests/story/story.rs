@@ -59,6 +59,7 @@ fn labels() -> Vec<String> {
     let mut labels = [PASSES, DOES_NOT, written::RUN, written::HOLDS]
         .map(String::from)
         .to_vec();
+    labels.extend([written::RUN_AGAIN, written::RUN_INSIDE].map(String::from));
     labels.extend(written::NARROW.map(written::narrow_label));
     labels.extend(changed::labels());
     labels.extend(jumps.map(|jumps| format!("{jumps} jumps")));

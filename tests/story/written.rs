@@ -9,7 +9,7 @@ use crate::drawn::{self, Dice, Lean, Size};
 use crate::forms;
 use crate::lengths::slot;
 use crate::mazes;
-use crate::search::{self, Outcome};
+use crate::search;
 use crate::spoilt::spoilt;
 use crate::table::{self, named};
 use crate::tally::{Judged, Tally};
@@ -23,6 +23,8 @@ const ALL: usize = 8;
 const UNREACHED: [usize; 4] = [0, 1, 2, 30];
 pub const RUN: &str = "WriteRun 0, a run";
 pub const HOLDS: &str = "WriteRun 0, holds";
+pub const RUN_AGAIN: &str = "WriteRun 0, a run, again";
+pub const RUN_INSIDE: &str = "WriteRun 0, a run, inside";
 /// The kinds of automata for which a store with a number too few must be met.
 pub const NARROW: [&str; 4] = ["plain", "guarded", "wheel", "maze"];
 
@@ -73,8 +75,14 @@ pub fn searched(tally: &mut Tally, what: &str, before: &Lent) -> Searched {
     }
 }
 
-/// The library's judge passes what its writer left, and changes nothing else.
+/// The library's judge passes what its writer left, and changes nothing else. Beside such a run what was
+/// dropped is to be met, where the answer has a place for it.
 fn passes(tally: &mut Tally, what: &str, written: &Lent) {
+    for (place, label) in [(6, RUN_AGAIN), (7, RUN_INSIDE)] {
+        if matches!(written.answer.get(place), Some(1..)) {
+            tally.meet(label);
+        }
+    }
     let mut after = written.clone();
     let reply = calls::proved(Call::Judge, &mut after);
     let expected = Lent {
@@ -183,10 +191,8 @@ pub fn narrow_label(kind: &str) -> String {
 fn narrow(tally: &mut Tally, dice: &mut Dice, what: &str, kind: &str, automaton: &[u8]) {
     let mut store = vec![0; STORE];
     let outcome = search::search(automaton, &mut store);
-    if let Outcome::Reached { zones } | Outcome::Holds { zones, .. } | Outcome::HoldsAny { zones } =
-        outcome
-    {
-        let exact = zones * slot(automaton);
+    if let Ok([_, _, _, zones, ..]) = outcome.numbers() {
+        let exact = zones as usize * slot(automaton);
         let reply = every_length(tally, dice, what, automaton, exact);
         tally.check(reply == 0, || format!("{what}: {reply} of {zones} slots"));
         if exact > 0 {

@@ -93,17 +93,17 @@ impl Pair {
         let a = self.m;
         let b = o.m;
         let p = self.p;
-        let r = o.p;
+        let q = o.p;
         if a < b {
             return Comparison::Below;
         }
         if b < a {
             return Comparison::Above;
         }
-        if p < r {
+        if p < q {
             return Comparison::Below;
         }
-        if r < p {
+        if q < p {
             return Comparison::Above;
         }
         Comparison::Equal
