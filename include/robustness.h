@@ -64,8 +64,11 @@ enum robustness_place {
                                edges reach. It is never above n/d of a verdict that holds; from it on a zone may have more states.
                                From a cache, whose records do not have it: 0 and 0 */
     ROBUSTNESS_EXACT_D = 5,
-    ROBUSTNESS_AGAIN = 6, /* this and the next: 0, until a later change says more */
-    ROBUSTNESS_INSIDE = 7,
+    ROBUSTNESS_AGAIN = 6, /* of robustness_search and robustness_write_run, beside every verdict, reached too: zones that were not
+                             kept, since every pair equals that of a kept zone. A search that only adds to these goes round exactly.
+                             From robustness_look_up and robustness_consult, also where it has searched: 0 */
+    ROBUSTNESS_INSIDE = 7, /* likewise, zones that were not kept, since a kept zone contains them and is not equal. Where the automaton
+                              holds, zones, again and inside add up to the zones that came out not empty */
     ROBUSTNESS_ANSWER = 8 /* how many there are */
 };
 

@@ -26,7 +26,8 @@ short = pos 7 ∷ pos 7 ∷ pos 7 ∷ []
 
 pub record AllRight : Type 0 where
   -- wait 5, take edge 0, wait 0; the number behind is as it was
-  pub told : runFindings cardB 11 5 ≡ Found Reached (record { zones = 1; exact = record { n = 5; d = 1 }; dropped = record { again = 0; inside = 0 } })
+  pub told : runFindings cardB 11 5
+      ≡ Found Reached (record { zones = 1; exact = record { n = 5; d = 1 }; dropped = record { again = 0; inside = 0 } })
   pub run : runBuffer cardB 11 lent ≡ pos 4 ∷ pos 5 ∷ pos 0 ∷ pos 0 ∷ pos 7 ∷ []
   -- 14 where one number lacks
   pub refused : runFindings cardB 11 3 ≡ Refused 14

@@ -53,6 +53,5 @@ abbrev pub searchAnswer : List ℕ → ℕ → Answer
 searchAnswer b amount = answerIn (searchFindings b amount)
 
 -- the store that it leaves
-
 unfoldable pub searchStore : List ℕ → List ℤ → List ℤ
 searchStore b s = cond (eqb (refusalOf b) 0) (storeOf (suc (clocks b)) (stateOf b (length s) .kept) s) s

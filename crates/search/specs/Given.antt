@@ -39,8 +39,8 @@ Beside (findings.Found (Holds h) x) = Terms (x .exact) × AtMost (x .exact) (fra
 Beside (findings.Found Reached x) = Terms (x .exact)
 Beside (findings.Refused k) = Unit {0}
 
--- ---- document 02, Change 5, added up, where the automaton holds: the zones kept and those dropped, as again and as inside, are those that have entered
--- and are not empty; with the empty ones they are all that have entered. `count` says what each counts for
+-- ---- document 02, Change 5, added up, where the automaton holds: the zones kept and those dropped, as again and as inside, are those that have
+-- entered and are not empty; with the empty ones they are all that have entered. `count` says what each counts for
 abbrev pub enteredBy : List ℕ → (Result (List Pair) Fractions → ℕ) → ℕ → ℕ
 enteredBy b count amount = entered (systemOf b) (zonesOf b) (zonesOf b .top) count (stateOf b amount .kept)
 

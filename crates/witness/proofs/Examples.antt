@@ -11,5 +11,6 @@ use Rattle.witness.specs.Witnesses.{placesOf, waitTo, leastTo, backOf, l
 
 pub all-right : AllRight
 unfolding loweredBy sumOf compareOf isBelow isLess thresholdOf smallerOf relaxed rowSteps roundSteps emptyIn afterMiddle reduceSteps andThen meetOf
-    enterOf startOf pairAt firstWork lowerAt meetUpper meetClock meetLimits raiseLimits home resetPlaces resetOf placesOf waitTo leastTo backOf landingOf
+    enterOf startOf pairAt firstWork lowerAt meetUpper meetClock meetLimits raiseLimits home resetPlaces resetOf placesOf waitTo leastTo backOf
+    landingOf
 all-right = record { one = refl; two = refl; lands = refl }

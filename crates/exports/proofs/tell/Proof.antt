@@ -11,8 +11,8 @@ returns c =
     let wrote = c .before .before in
     let numbers = wrote .before .before in
     let beside = numbers .before in
-    tells-found _ _ _ (beside .before .before .found .given .1) (numbers .verdict-numbers .ensures ∙ ap (verdictNumbers _) (beside .filed-figures .ensures))
-    (wrote .write-over .ensures)
+    tells-found _ _ _ (beside .before .before .found .given .1)
+    (numbers .verdict-numbers .ensures ∙ ap (verdictNumbers _) (beside .filed-figures .ensures)) (wrote .write-over .ensures)
 
 returns-2 : tie.Need-returns-2
 returns-2 c = tells-refused _ _ (c .before .found2 .given .1)

@@ -8,12 +8,11 @@ use Rattle.zones.specs.declared.fraction.Fraction.{Fraction}
 use Rattle.zones.specs.declared.reduction.Reduced.{Reduced}
 use Rattle.zones.proofs.places.Regardless.{follow-regardless}
 use Rattle.automata.specs.Automata.{clocks, to, invariantOf, guardOf, resetsOf}
-use Rattle.automata.specs.Refusals.{refusalOf}
 use Rattle.automata.specs.Semantics.{systemOf}
 use Rattle.reachability.specs.Accounts.{oneIfLive, Regardless}
 use Rattle.reachability.specs.Search.{Outcome, going, ended, reached, refused}
 use Rattle.reachability.proofs.Accounts.{accounted}
-use Rattle.search.specs.Answers.{findingsOf, droppedIn, stateFindings, stateOf, searchFindings}
+use Rattle.search.specs.Answers.{findingsOf, stateFindings, stateOf, searchFindings}
 use Rattle.search.specs.Given.{AddsUp}
 use Rattle.search.specs.Instance.{resultOf, following, zonesOf}
 use Rattle.search.specs.Store.{capacityOf}

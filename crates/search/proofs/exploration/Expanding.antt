@@ -67,7 +67,9 @@ module _ (b : List ℕ) (capacity j l : ℕ) (z : List Pair) (c : Came) (p : Lis
 
   follow-off : (i : ℕ) (q : ZoneState) → q .outcome ≡ going → (from b i ≡ l → ⊥) → follow (systemOf b) (zonesOf b) capacity j node i q ≡ q
   unfolding follow
-  follow-off i q e h = rw (follow, e, ne-eqb (from b i) l h) (λ k. record { kept = q .kept; frac = q .frac; outcome = e k; again = q .again; inside = q .inside })
+  follow-off i q e h =
+      rw (follow, e, ne-eqb (from b i) l h)
+      (λ k. record { kept = q .kept; frac = q .frac; outcome = e k; again = q .again; inside = q .inside })
 
 module _ {b : List ℕ} {capacity j l : ℕ} {z : List Pair} {c : Came} {p : List ℕ} {s₀ : List ℤ} {q₀ : ZoneState} {i : ℕ} {s : List ℤ} {t : Turn}
     (w : Between b capacity j l z c p s₀ q₀ i s t) where
@@ -142,7 +144,12 @@ module _ {b : List ℕ} {capacity j l : ℕ} {z : List Pair} {c : Came} {p : Lis
           state = next;
           live = still shown sound f;
           rest = rest;
-          few = omega (arith, w .few, offer-drops (systemOf b) (zonesOf b) capacity (w .state) (child (systemOf b) j (nodeAt l c p z) i) (zonesOf b .succ i z (w .state .frac)));
+          few = omega (
+            arith,
+            w .few,
+            offer-drops (systemOf b) (zonesOf b) capacity (w .state) (child (systemOf b) j (nodeAt l c p z) i)
+                (zonesOf b .succ i z (w .state .frac)),
+          );
         }
 
         -- a search that has stopped stays as it is

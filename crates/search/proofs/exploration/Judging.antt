@@ -18,8 +18,7 @@ use Rattle.zones.specs.Containment.{equal, insideBelow, largestCount}
 use Rattle.zones.specs.Fractions.{loweredBy}
 use Rattle.zones.specs.Ranges.{AllBounded, Sized, Fits32, counts, lastCounts}
 use Rattle.runs.specs.Limits.{scale}
-use Rattle.search.specs.declared.outcome.Outcome.{Outcome}
-use Rattle.search.specs.declared.outcome.Outcome.the-variants.{Going, Reached, Refused}
+use Rattle.search.specs.declared.outcome.Outcome.the-variants.{Going, Reached}
 use Rattle.search.specs.declared.outcome.Turn.{Turn}
 use Rattle.search.specs.Outcomes.{cameOf, outcomeOf, Few, mostOffers, droppedWith, emptiedBy, droppedBy, keptBy, reachedBy, refusedBy}
 use Rattle.automata.specs.Accepted.{Accepted}
@@ -37,7 +36,6 @@ use Rattle.search.specs.Store.{originOf, storeOf}
 use Rattle.reachability.proofs.Judged.{Judged, was-target, was-inside, was-big, was-kept, was-full, computes}
 use Rattle.slots.proofs.slot.Codec.{head-size, slot-taken, slot-counts, slot-readable, slot-bounded, zone-of-slot, inside-slots}
 use Rattle.slots.proofs.slot.Codec.{equal-slots, largest-slot}
-use Rattle.slots.proofs.slot.Loops.{slots-fit}
 use Rattle.search.proofs.exploration.Stores.{slotAs, SlotAt, slot-at, store-length, store-more, hit-none, hit-first, slot-fits, lent-part}
 
 -- the outcome that tells the origin is the definition's

@@ -14,7 +14,6 @@ use lib.Signed.{_≤ℤ_}
 use native.Mathlib.Decide.{ℕ-discrete, decLt}
 use native.Mathlib.Nat.{not-suc-le-zero}
 use native.Mathlib.Omega.{arith}
-use Rattle.zones.specs.declared.fraction.Fraction.{Fraction}
 use Rattle.zones.specs.declared.pair.Pair.{Pair}
 use Rattle.zones.specs.Containment.{placeOf, compareAt, everyTo, within, equal, insideTo, insideBelow, countTo, largestCount}
 use Rattle.zones.specs.Integers.{up}

@@ -128,7 +128,9 @@ module _ (new old : List ℤ) (t : ℕ) where
   not-above pairs h w = go (ltZ (oldM new old t) (newM new old t)) refl
     where
       go : (b : Bool) → ltZ (oldM new old t) (newM new old t) ≡ b → newM new old t ≤ℤ oldM new old t
-      go true e = true-false (sym w ∙ sym (stops (λ i. isAtMost (compareNumbers new old i)) t pairs h (rw (not-below (newM new old t) (oldM new old t) e, e))))
+      go true e =
+          let above = not-below (newM new old t) (oldM new old t) e in
+          true-false (sym w ∙ sym (stops (λ i. isAtMost (compareNumbers new old i)) t pairs h (rw (above, e))))
       go false e = ltZ-false _ _ e
 
   -- a turn, x and y being the pairs that it read

@@ -1,10 +1,9 @@
 -- Lowering by the lower of two is lowering by the one and then by the other, to the same term.
 -- Assumes nothing.
-use Prim.Native.Nat.{ℕ, zero, suc, _+_, _*_, _%_, _<_, _≤_}
+use Prim.Native.Nat.{ℕ, zero, suc, _*_, _%_, _<_, _≤_}
 use mathlib.Core.Path.{_≡_, refl, sym, ap, _∙_}
 use mathlib.Core.Bool.{Bool, true, false, cond}
 use mathlib.Core.List.{List}
-use borrow.Author.Tests.{ltb-true}
 use lib.Dec.{ltb}
 use lib.IntN.{pos}
 use lib.Signed.{ltZ}
@@ -18,7 +17,7 @@ use Rattle.zones.specs.Fractions.{noLimit, loweredBy}
 use Rattle.zones.specs.Pairs.{zeroPair, thresholdOf}
 use Rattle.zones.specs.Zones.{entry}
 use Rattle.zones.specs.Reductions.{emptyBelow}
-use Rattle.zones.specs.Containment.{placeOf, within, insideTo, insideBelow}
+use Rattle.zones.specs.Containment.{placeOf, within, insideTo}
 use Rattle.zones.specs.InTurn.{diagonalsLower, placesLower}
 use Rattle.zones.proofs.pairs.Choices.{lowered-new, lowered-old, lowered-none}
 use Rattle.zones.proofs.fractions.Thresholds.{lowered-n, beside-n}

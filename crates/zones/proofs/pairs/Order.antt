@@ -4,10 +4,8 @@
 -- Assumes nothing.
 use Prim.Native.Nat.{ℕ, suc, _+_, _*_, _<_, _≤_}
 use mathlib.Core.Path.{_≡_, refl, sym, ap}
-use mathlib.Core.Bool.{Bool, true, false, cond}
+use mathlib.Core.Bool.{Bool, true, false}
 use mathlib.Core.Logic.{_⊎_, inl, inr}
-use borrow.Author.Tests.{le-ltb, ltb-true, ltb-false}
-use lib.Dec.{ltb}
 use lib.IntN.{pos}
 use lib.Signed.{_≤ℤ_, _<ℤ_}
 use native.Mathlib.Omega.{arith}

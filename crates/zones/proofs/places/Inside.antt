@@ -49,7 +49,8 @@ module _ (n : ℕ) (passes : ℕ → Bool) where
   every-all zero f = refl
   every-all (suc k) f = go (every-all k (λ m h. f m (omega arith))) (ltb (k % 9) n) refl
     where
-      go : everyTo n k passes ≡ true → (s : Bool) → ltb (k % 9) n ≡ s → cond s (cond (passes k) (everyTo n k passes) false) (everyTo n k passes) ≡ true
+      go : everyTo n k passes ≡ true → (s : Bool) → ltb (k % 9) n ≡ s →
+          cond s (cond (passes k) (everyTo n k passes) false) (everyTo n k passes) ≡ true
       go ih true e = rw (f k (omega arith) (ltb-true (k % 9) n e)) ih
       go ih false e = ih
 

@@ -1,13 +1,11 @@
 -- The diagonal: an entry is (0, 0), or it has m below 0 and, below the running fraction, a value below 0; and what the safe fraction is lowered by.
 -- Assumes nothing.
 use Prim.Native.Nat.{ℕ, zero, suc, _<_, _≤_}
-use mathlib.Core.Path.{_≡_, refl, sym, ap, subst}
+use mathlib.Core.Path.{_≡_, refl, ap, subst}
 use mathlib.Core.Bool.{Bool, true, false, cond}
 use mathlib.Core.Logic.{_⊎_, inl, inr, ⊎-elim}
-use borrow.Author.Tests.{ltb-true}
 use native.Mathlib.Decide.{ℕ-discrete}
 use native.Mathlib.Nat.{not-suc-le-zero}
-use lib.Dec.{ltb}
 use lib.ListN.{length}
 use lib.IntN.{pos}
 use lib.Signed.{_≤ℤ_, _<ℤ_, ltZ}
@@ -23,7 +21,6 @@ use Rattle.zones.specs.Reductions.{emptyBelow}
 use Rattle.zones.specs.Zones.{entry, lowerAt}
 use Rattle.zones.specs.Values.{valueOf, Below}
 use Rattle.zones.specs.Sets.{In, squareOf}
-use Rattle.runs.proofs.Contradictions.{true-false}
 use Rattle.zones.proofs.pairs.Choices.{less-shows, smaller-cases}
 use Rattle.zones.proofs.sets.Lowering.{lower-limits}
 use Rattle.zones.proofs.places.Places.{lower-place}

@@ -131,7 +131,8 @@ returns-3 c =
     let small = room .before in
     let find = last room in
     gives-kept (entered (counted find)) (numbers find .encode .ensures) (find .find .ensures) (alone (small .before) .if1 .left)
-    (small .before .largest-count .ensures) (small .if2 .left) (room .if3 .taken) (stride find .slot-length .ensures) (c .before .before .before .keep .ensures)
+    (small .before .largest-count .ensures) (small .if2 .left) (room .if3 .taken) (stride find .slot-length .ensures)
+    (c .before .before .before .keep .ensures)
 
 returns-4 : tie.Need-returns-4
 returns-4 c =

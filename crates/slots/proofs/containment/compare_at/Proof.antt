@@ -12,7 +12,8 @@ returns c =
 returns-2 : tie.Need-returns-2
 returns-2 c =
     let one = c .before .before .before in
-    tells-lower _ _ _ (record { sfits = one .before .before .if12 .given }) (record { sfits = one .before .if13 .given }) (one .if1 .left) (c .if2 .taken)
+    tells-lower _ _ _ (record { sfits = one .before .before .if12 .given }) (record { sfits = one .before .if13 .given }) (one .if1 .left)
+    (c .if2 .taken)
 
 returns-3 : tie.Need-returns-3
 returns-3 c =

@@ -1,12 +1,12 @@
 -- The containment test of two slots: so far every pair passed, and the first that fails decides.
 -- Assumes nothing.
-use Prim.Native.Nat.{ℕ, _-_, _≤_}
+use Prim.Native.Nat.{_-_, _≤_}
 use mathlib.Core.Path.{_≡_, refl, sym, ap, _∙_}
 use mathlib.Core.Bool.{true}
 use borrow.Author.Tests.{not-true, not-false}
 use native.Mathlib.Omega.{arith}
 use Rattle.zones.specs.Pairs.{isAtMost}
-use Rattle.slots.specs.Containing.{compareNumbers, everyPair, withinSlots}
+use Rattle.slots.specs.Containing.{everyPair, withinSlots}
 use Rattle.slots.proofs.slot.Loops.{stops, goes}
 use Rattle.slots.proofs.containment.is_within.Statement.{statement}
 use Rattle.slots.proofs.containment.is_within.Tie as tie
@@ -29,10 +29,9 @@ returns c =
 
 loop-again : tie.Need-loop-again Inv-loop μ-loop
 loop-again c =
-    let loop = c .before .before .before .before in (
-      omega arith,
-      goes _ (loop .loop .t) (sym (c .before .is-at-most .ensures ∙ ap isAtMost (c .before .before .compare-at .ensures)) ∙ not-false _ (c .if1 .left)) (loop .loop .inv .1),
-    )
+    let loop = c .before .before .before .before in
+    let passed = sym (c .before .is-at-most .ensures ∙ ap isAtMost (c .before .before .compare-at .ensures)) ∙ not-false _ (c .if1 .left) in
+    (omega arith, goes _ (loop .loop .t) passed (loop .loop .inv .1))
 
 returns-2 : tie.Need-returns-2 Inv-loop μ-loop
 returns-2 c =
