@@ -41,8 +41,8 @@ emptiedBy t exact below =
     record { count = t .count; exact = exact; safe = loweredBy (t .safe) below; dropped = t .dropped; outcome = Going }
 
 -- a zone inside a kept one: both are
-abbrev pub droppedBy : Turn → Fraction → Fraction → Bool → Turn
-droppedBy t exact below equal =
+abbrev pub containedBy : Turn → Fraction → Fraction → Bool → Turn
+containedBy t exact below equal =
     record {
       count = t .count;
       exact = loweredBy exact below;

@@ -39,7 +39,7 @@ ghost use Rattle.automata.specs.Semantics.{systemOf};
 ghost use Rattle.slots.specs.Slots.{slotLength, Framed};
 ghost use Rattle.search.specs.Store.{mostSlots, capacityOf};
 ghost use Rattle.search.specs.Answers.{stateOf};
-ghost use Rattle.search.specs.Outcomes.{Few, mostOffers, droppedBy};
+ghost use Rattle.search.specs.Outcomes.{Few, mostOffers, containedBy};
 ghost use Rattle.slots.specs.Containing.{ComparableSlots, insideSlots, equalSlots};
 
 // A zone to be kept whose error count is larger is refused by 9.
@@ -71,12 +71,12 @@ fn find(store: &[i32], new: &[i32], count: usize, size: usize) -> usize
 // The new zone is dropped inside the old one, which contains it: the test's thresholds lower both fractions.
 fn drop_inside(turn: Turn, exact: Fraction, new: &[i32], old: &[i32], pairs: usize) -> Turn
     requires { ⌜ ComparableSlots (now new) (now old) pairs × Fits32 exact × Fits32 (turn .safe) × Few mostOffers (turn .dropped) ⌝ }
-    ensures { λ r. ⌜ r ≡ droppedBy turn exact (insideSlots (now (new .entry)) (now (old .entry)) pairs)
+    ensures { λ r. ⌜ r ≡ containedBy turn exact (insideSlots (now (new .entry)) (now (old .entry)) pairs)
         (equalSlots (now (new .entry)) (now (old .entry)) pairs) ⌝ }
 {
     let inside = inside_of(new, old, pairs);
     let below = inside.below;
-    turn.dropped(exact, below, inside.equal)
+    turn.contained(exact, below, inside.equal)
 }
 
 // A zone that has entered l, not the target: it is dropped inside a kept one, refused, or kept.

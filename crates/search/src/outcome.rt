@@ -4,7 +4,7 @@ use zones::fraction::Fraction;
 use zones::fraction::after_lowering;
 ghost use mathlib.Core.Path.{_≡_};
 ghost use Rattle.zones.specs.Ranges.{Fits32};
-ghost use Rattle.search.specs.Outcomes.{outcomeOf, hasEnded, Few, mostOffers, droppedWith, emptiedBy, droppedBy, refusedBy};
+ghost use Rattle.search.specs.Outcomes.{outcomeOf, hasEnded, Few, mostOffers, droppedWith, emptiedBy, containedBy, refusedBy};
 
 // A search that goes on, or has stopped: at the target, by a zone of the origin told, or by the number of a refusal. One that goes on when
 // no zone is left to take holds.
@@ -78,9 +78,9 @@ impl Turn {
     }
 
     // The search goes on after a zone that was dropped inside a kept one, equal to it or not: `below` lowers both fractions.
-    pub(crate) fn dropped(self, exact: Fraction, below: Fraction, equal: bool) -> Turn
+    pub(crate) fn contained(self, exact: Fraction, below: Fraction, equal: bool) -> Turn
         requires { ⌜ Fits32 exact × Fits32 (self .safe) × Fits32 below × Few mostOffers (self .dropped) ⌝ }
-        ensures { λ r. ⌜ r ≡ droppedBy self exact below equal ⌝ }
+        ensures { λ r. ⌜ r ≡ containedBy self exact below equal ⌝ }
     {
         let lowered = after_lowering(exact, below);
         let safe = after_lowering(self.safe, below);

@@ -20,7 +20,7 @@ use Rattle.zones.specs.Ranges.{AllBounded, Sized, Fits32, counts, lastCounts}
 use Rattle.runs.specs.Limits.{scale}
 use Rattle.search.specs.declared.outcome.Outcome.the-variants.{Going, Reached}
 use Rattle.search.specs.declared.outcome.Turn.{Turn}
-use Rattle.search.specs.Outcomes.{cameOf, outcomeOf, Few, mostOffers, droppedWith, emptiedBy, droppedBy, keptBy, reachedBy, refusedBy}
+use Rattle.search.specs.Outcomes.{cameOf, outcomeOf, Few, mostOffers, droppedWith, emptiedBy, containedBy, keptBy, reachedBy, refusedBy}
 use Rattle.automata.specs.Accepted.{Accepted}
 use Rattle.automata.specs.Automata.{clocks, locations, target}
 use Rattle.search.specs.Exploring.{FirstHit, SoundNode, SoundState, Shown, Live, Continues, Led, nodeAt}
@@ -155,7 +155,7 @@ module _ (b : List ℕ) (a : Accepted b) where
 
     -- and one with one zone dropped
     dropped-as : (below : Fraction) {f : Fractions} {t u : Bool} → t ≡ u → loweredBy (w .fraction) below ≡ f .exact →
-        loweredBy (turn .safe) below ≡ f .safe → Shown n s₀ (dropping q f u) s (droppedBy turn (w .fraction) below t)
+        loweredBy (turn .safe) below ≡ f .safe → Shown n s₀ (dropping q f u) s (containedBy turn (w .fraction) below t)
     unfolding outcomeOf dropping droppedWith
     dropped-as below {u = true} e x y = rw e (record {
       number = d .shown .number;
@@ -182,7 +182,7 @@ module _ (b : List ℕ) (a : Accepted b) where
     judged-inside : j < turn .count → {at : ℕ} → at ≡ j * slotLength n → {below : Fraction} {t : Bool} →
         below ≡ insideSlots (slotOf n (headOf l o) (w .zone) ++ rest) (take (length s - at) (drop at s)) (n * n) →
         t ≡ equalSlots (slotOf n (headOf l o) (w .zone) ++ rest) (take (length s - at) (drop at s)) (n * n) →
-        Shown n s₀ after s (droppedBy turn (w .fraction) below t)
+        Shown n s₀ after s (containedBy turn (w .fraction) below t)
     unfolding loweredInside
     judged-inside hj {at} e g u =
         let m = nth-at (q .kept) j (omega (arith, d .shown .number)) in
@@ -308,7 +308,7 @@ module _ {b : List ℕ} {l : ℕ} {o : Origin} {w : Work} {capacity : ℕ} {turn
           Few mostOffers (turn .dropped)
       asks-drop = (asks-inside, entered .sized .narrow, going-safe b a i, entered .few)
 
-      pub gives-inside : {r : Turn} → r ≡ droppedBy turn (w .fraction) (insideSlots new (take (length s - at) (drop at s)) (size * size))
+      pub gives-inside : {r : Turn} → r ≡ containedBy turn (w .fraction) (insideSlots new (take (length s - at) (drop at s)) (size * size))
           (equalSlots new (take (length s - at) (drop at s)) (size * size)) → (p : Led o) → Continues b capacity s turn (op p) s r
       gives-inside x p = record {
         shows = λ s₀ q d. rw x (judged-inside b a d (entered .away) w p _ hits hj here

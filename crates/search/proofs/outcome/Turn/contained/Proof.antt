@@ -1,9 +1,9 @@
--- `Turn::dropped` meets its contract: both fractions lowered, and one zone counted.
+-- `Turn::contained` meets its contract: both fractions lowered, and one zone counted.
 -- Assumes nothing.
 use borrow.Author.Needs.{needs}
 use Rattle.search.specs.declared.outcome.Outcome.the-variants.{Going}
-use Rattle.search.proofs.outcome.Turn.dropped.Statement.{statement}
-use Rattle.search.proofs.outcome.Turn.dropped.Tie as tie
+use Rattle.search.proofs.outcome.Turn.contained.Statement.{statement}
+use Rattle.search.proofs.outcome.Turn.contained.Tie as tie
 
 returns : tie.Need-returns
 returns c =
@@ -17,5 +17,5 @@ returns c =
       outcome = Going;
     }
 
-pub dropped-spec : {M : Type 1} → statement M
-dropped-spec = tie.close (tie.spec (λ c κs. search needs) (λ c κs. search needs) (λ c κs. search needs) returns)
+pub contained-spec : {M : Type 1} → statement M
+contained-spec = tie.close (tie.spec (λ c κs. search needs) (λ c κs. search needs) (λ c κs. search needs) returns)
