@@ -1,4 +1,6 @@
 // Automata as bytes: the reader with its refusals, and an opened automaton, whose limits and edges are fetched.
+#![tactic(auto)]
+
 pub mod fields;
 pub mod opened;
 mod refusals;

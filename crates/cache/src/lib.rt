@@ -1,4 +1,6 @@
 // The cache of verdicts, document 01's shelf: asked first, and filled by the search.
+#![tactic(auto)]
+
 mod layout;
 pub mod lookup;
 mod record;

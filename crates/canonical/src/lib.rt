@@ -1,4 +1,6 @@
 // Document 02, Change 1: automata with their edges in one order.
+#![tactic(auto)]
+
 mod edges;
 mod ordering;
 pub mod reply;

@@ -1,10 +1,10 @@
 // Numbers in bytes, both ways, big-endian in every format; byte strings compared, and put at a place of others.
+#![tactic(auto)]
+
 ghost use Rattle.std.specs.Prelude.{◌≡◌, ◌+◌, ◌≤◌, ◌<◌, eqb, length};
 ghost use Rattle.encoding.specs.Numbers.{be16_at, be32_at, le32_at, be16, be32};
 ghost use Rattle.encoding.specs.Placing.{placed};
 ghost use Rattle.encoding.specs.Bytes.{same_bytes, Two, Four};
-
-use bytes::copy;
 
 // A byte as a number.
 pub fn wide(x: u8) -> u32
@@ -135,5 +135,5 @@ pub fn put(to: &mut [u8], at: usize, bytes: &[u8])
     requires { at + length bytes.now ≤ length to.old }
     ensures { to.new ≡ placed at bytes.now to.old }
 {
-    copy(bytes, &mut to[at..]);
+    to[at..at + bytes.len()].copy_from_slice(bytes);
 }

@@ -1,4 +1,6 @@
 // The comparison of byte strings for programs that are not Rattle: bench/ and tests/.
+#![tactic(auto)]
+
 ghost use Rattle.std.specs.Prelude.{◌≡◌};
 ghost use Rattle.encoding.specs.Bytes.{same_bytes};
 

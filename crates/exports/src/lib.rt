@@ -1,4 +1,6 @@
 // The search, the run and its judge, and the cache, open to C and to Rust (include/robustness.h).
+#![tactic(auto)]
+
 ghost use Rattle.std.specs.Prelude.{◌≡◌, length, ◌↔◌};
 ghost use Rattle.automata.specs.Refusals.{refusal_of};
 ghost use Rattle.search.specs.Answers.{search_findings, search_store};

@@ -1,4 +1,6 @@
 // One automaton on standard input, its verdict as one line on standard output.
+#![tactic(auto)]
+
 mod line;
 
 use crate::line::line_of;

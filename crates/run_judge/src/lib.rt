@@ -1,5 +1,7 @@
 // Document 02, Change 2: "A separate judge takes any card and any buffer, refuses by 1 to 8, and says yes exactly when the buffer
 // begins with a run of the card in this form, ending at the target."
+#![tactic(auto)]
+
 mod clocks;
 pub mod judgement;
 mod numbers;

@@ -1,5 +1,7 @@
 // Document 02, Change 2: "A run in whole time units with no loosening is written by a call over the bare search into a lent buffer of 64-bit
 // signed numbers".
+#![tactic(auto)]
+
 mod branch;
 mod crossing;
 

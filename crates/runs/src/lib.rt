@@ -1,1 +1,3 @@
 // Timed automata, their loosened limits and their runs: what a reader must believe. Definitions and theorems alone.
+
+#![tactic(auto)]

@@ -1,4 +1,6 @@
 // The search for the verdict of an automaton.
+#![tactic(auto)]
+
 pub mod exploration;
 pub mod outcome;
 pub mod successor;

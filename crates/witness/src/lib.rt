@@ -1,4 +1,6 @@
 // The step back through zones: from a state of a successor, the wait before it and a state before the jump.
+#![tactic(auto)]
+
 ghost use Rattle.std.specs.Prelude.{◌≡◌, nat_abs, ◌-◌, ◌<◌, ◌≤◌, min, max};
 ghost use Rattle.runs.specs.Limits.{scale};
 ghost use Rattle.zones.specs.Integers.{up, down};

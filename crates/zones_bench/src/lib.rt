@@ -1,4 +1,6 @@
 // Reductions of a fixed zone, many times over, for a benchmark (bench/README.md).
+#![tactic(auto)]
+
 ghost use Rattle.std.specs.Prelude.{◌≡◌, ◌<◌, ◌≤◌};
 ghost use Rattle.zones_bench.specs.Bench.{bench_pair, bench_square, bench_work, probe_of, bench_once, bench_total, bench_of};
 
