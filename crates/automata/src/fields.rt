@@ -10,7 +10,7 @@ use encoding::{be16, be32, wide};
 // The hi of a guard without an upper limit.
 pub const NO_UPPER: u32 = 4294967295;
 
-#[derive(Drop)]
+#[derive(Clone, Copy)]
 pub struct Counts {
     pub clocks: usize,
     pub locations: usize,
@@ -18,7 +18,7 @@ pub struct Counts {
 }
 
 // The ends of an edge and, for each clock by its number, whether it is reset.
-#[derive(Drop)]
+#[derive(Clone, Copy)]
 pub struct Edge {
     pub from: usize,
     pub to: usize,
@@ -26,7 +26,7 @@ pub struct Edge {
 }
 
 // The limits of one clock.
-#[derive(Drop)]
+#[derive(Clone, Copy)]
 pub struct Limits {
     pub lo: u32,
     pub hi: u32,

@@ -7,7 +7,7 @@ ghost use Rattle.automata.specs.Opened.{Opened, opened_of, counts_of, edge_of, l
 
 use crate::fields::{Counts, Edge, Limits, clocks, edges, locations};
 
-#[derive(Drop)]
+#[derive(Clone, Copy)]
 pub(crate) struct Automaton<'a> {
     pub bytes: &'a [u8],
     pub n: usize,

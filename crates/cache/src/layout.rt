@@ -11,7 +11,7 @@ pub const HEADER: usize = 5;
 pub const LONGEST: usize = 4294967295;
 
 // The version's number, where the fields of a record stand, and the bytes before its automaton.
-#[derive(Drop)]
+#[derive(Clone, Copy)]
 pub struct Layout {
     pub version: u8,
     pub kind: usize,

@@ -2,7 +2,7 @@
 use search::verdict::Verdict;
 
 // A verdict filed with the number of zones kept, nothing, or the number of a refusal.
-#[derive(Drop)]
+#[derive(Clone, Copy)]
 pub enum Lookup {
     Filed(Verdict, u32),
     Absent,

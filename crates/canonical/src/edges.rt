@@ -8,7 +8,7 @@ use crate::ordering::{Order, order_of};
 use automata::opened::counts_of;
 
 // The place of the first, the size of each, and their number.
-#[derive(Drop)]
+#[derive(Clone, Copy)]
 pub(crate) struct Edges {
     pub at: usize,
     pub size: usize,

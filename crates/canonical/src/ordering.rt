@@ -9,14 +9,14 @@ ghost use Rattle.canonical.specs.Numbers.{Lies, Listed, Positioned, Inserted, Li
 use encoding::{same, wide, word};
 
 // The numbers of edges in order, of which the first `count` are there. A byte holds the number of one of 256 edges.
-#[derive(Drop)]
+#[derive(Clone, Copy)]
 pub(crate) struct Order {
     pub numbers: [u8; 256],
     pub count: usize,
 }
 
 // Where an edge belongs among the listed ones, and whether its bytes are not there.
-#[derive(Drop)]
+#[derive(Clone, Copy)]
 struct Position {
     pub at: usize,
     pub fresh: bool,

@@ -6,7 +6,7 @@ use bytes::copy;
 use search::verdict::{Findings, Holding, Verdict};
 
 // A line that is being written: the first `length` bytes have been.
-#[derive(Drop)]
+#[derive(Clone, Copy)]
 pub struct Line {
     pub bytes: [u8; 136],
     pub length: usize,

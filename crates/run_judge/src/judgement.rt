@@ -1,7 +1,7 @@
 // What the judge says.
 
 // Whether a buffer begins with a run, or the number of a refusal.
-#[derive(Drop)]
+#[derive(Clone, Copy)]
 pub enum Judgement {
     Refused(u32),
     Yes,

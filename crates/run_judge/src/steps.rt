@@ -13,7 +13,7 @@ use automata::opened::{counts_of, edge_of};
 const SCALE: u64 = 1000000;
 
 // The state after a step that may be made; where it may not, `made` is false.
-#[derive(Drop)]
+#[derive(Clone, Copy)]
 pub(crate) struct Moved {
     pub made: bool,
     pub location: usize,

@@ -15,7 +15,7 @@ use automata::fields::{start, target};
 const FURTHER: usize = 31;
 
 // Where a stretch ended: the judging goes on with the wait at `at`, or it is over.
-#[derive(Drop)]
+#[derive(Clone, Copy)]
 pub(crate) struct Stretch {
     pub going: bool,
     pub passed: bool,

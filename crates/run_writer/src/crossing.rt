@@ -20,7 +20,7 @@ use zones::reduction::Reduced;
 use zones::zone::Work;
 
 // The squares of a zone that meets the guard and of what arrives after the reset, and the clocks that are reset.
-#[derive(Drop)]
+#[derive(Clone, Copy)]
 pub(crate) struct Crossing {
     guarded: [Pair; 81],
     arrived: [Pair; 81],

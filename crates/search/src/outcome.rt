@@ -8,7 +8,7 @@ use zones::fraction::{Fraction, after_lowering};
 
 // A search that goes on, or has stopped: at the target, by a zone of the origin told, or by the number of a refusal. One that goes on when
 // no zone is left to take holds.
-#[derive(Drop)]
+#[derive(Clone, Copy)]
 pub enum Outcome {
     Going,
     Reached(Origin),
@@ -16,7 +16,7 @@ pub enum Outcome {
 }
 
 // How many zones were dropped by containment: as again, of which every pair equals that of the kept zone, and as inside.
-#[derive(Drop)]
+#[derive(Clone, Copy)]
 pub struct Dropped {
     pub again: u64,
     pub inside: u64,
@@ -42,7 +42,7 @@ impl Dropped {
 }
 
 // The number of kept zones, the exact and the safe fraction, the zones dropped, and the outcome so far.
-#[derive(Drop)]
+#[derive(Clone, Copy)]
 pub struct Turn {
     pub count: usize,
     pub exact: Fraction,

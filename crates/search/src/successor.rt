@@ -17,7 +17,7 @@ use zones::reduction::Reduced;
 use zones::zone::{Bounds, Work};
 
 // A zone on which limits were met, and whether it is known to be settled.
-#[derive(Drop)]
+#[derive(Clone, Copy)]
 struct Met {
     work: Work,
     settled: bool,

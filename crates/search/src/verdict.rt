@@ -7,28 +7,28 @@ ghost use Rattle.search.specs.Answers.{answer_in};
 ghost use Rattle.search.specs.Verdicts.{holding_of, numbers_of, verdict_of, sound_numbers};
 
 // Up to which error an automaton holds.
-#[derive(Drop)]
+#[derive(Clone, Copy)]
 pub enum Holding {
     anyhow::Error,
     Below(Fraction),
 }
 
 // Document 01's verdict.
-#[derive(Drop)]
+#[derive(Clone, Copy)]
 pub enum Verdict {
     Reached,
     Holds(Holding),
 }
 
 // A verdict with the number of zones kept, or the number of a refusal: what is printed, and what a cache gives back.
-#[derive(Drop)]
+#[derive(Clone, Copy)]
 pub enum Answer {
     Found(Verdict, u32),
     Refused(u32),
 }
 
 // What stands beside a verdict of the bare search: the number of zones kept, the exact fraction, and the zones dropped.
-#[derive(Drop)]
+#[derive(Clone, Copy)]
 pub struct Figures {
     pub zones: u32,
     pub exact: Fraction,
@@ -36,7 +36,7 @@ pub struct Figures {
 }
 
 // What the bare search finds: a verdict, which has the safe fraction, with its figures, or the number of a refusal.
-#[derive(Drop)]
+#[derive(Clone, Copy)]
 pub enum Findings {
     Found(Verdict, Figures),
     Refused(u32),
@@ -55,7 +55,7 @@ impl Findings {
 }
 
 // A verdict as numbers: its kind, and the n and d of its fraction.
-#[derive(Drop)]
+#[derive(Clone, Copy)]
 pub struct Numbers {
     pub kind: u8,
     pub n: u64,

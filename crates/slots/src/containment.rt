@@ -46,7 +46,7 @@ pub fn is_within(new: &[i32], old: &[i32], pairs: usize) -> bool
 }
 
 // How a new slot lies inside an old one, by a test that holds: its lowest threshold, and whether every pair equals the old one's.
-#[derive(Drop)]
+#[derive(Clone, Copy)]
 pub struct Inside {
     pub below: Fraction,
     pub equal: bool,

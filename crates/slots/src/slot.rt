@@ -20,7 +20,7 @@ pub const FIRST_P: usize = FIELDS + 1;
 const LONGEST: usize = 165;
 
 // Where a zone came from: the slot, and the edge taken; both −1 for the first zone.
-#[derive(Drop)]
+#[derive(Clone, Copy)]
 pub struct Origin {
     pub parent: i32,
     pub edge: i32,

@@ -11,7 +11,7 @@ ghost use Rattle.witness.specs.Witnesses.{less_bound, plus_bound, wait_to, earli
 use zones::pair::Pair;
 
 // The wait before a state, and the state before the jump that the wait follows.
-#[derive(Drop)]
+#[derive(Clone, Copy)]
 pub struct Back {
     pub wait: u64,
     pub state: [u64; 9],

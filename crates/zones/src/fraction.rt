@@ -4,7 +4,7 @@ ghost use Rattle.zones.specs.Fractions.{lowered_by, gcd_of, lowest_terms};
 ghost use Rattle.zones.specs.Ranges.{Fits32};
 
 // n/d: the error e/s must stay below it. 1/0 is no limit.
-#[derive(Drop)]
+#[derive(Clone, Copy)]
 pub struct Fraction {
     pub n: u64,
     pub d: u64,

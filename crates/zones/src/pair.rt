@@ -7,14 +7,14 @@ ghost use Rattle.zones.specs.Ranges.{Small, Fits32, ChoiceReady};
 use crate::fraction::{Fraction, after_lowering};
 
 // A pair stands for m + p × error.
-#[derive(Drop)]
+#[derive(Clone, Copy)]
 pub struct Pair {
     pub m: i64,
     pub p: u64,
 }
 
 // How a pair stands to another.
-#[derive(Drop)]
+#[derive(Clone, Copy)]
 pub enum Comparison {
     Below,
     Equal,
@@ -54,7 +54,7 @@ impl Comparison {
 }
 
 // The smaller of two pairs, and the comparison's threshold.
-#[derive(Drop)]
+#[derive(Clone, Copy)]
 pub(crate) struct Choice {
     pub pair: Pair,
     pub threshold: Fraction,

@@ -10,7 +10,7 @@ use crate::zone::Work;
 
 // What a reduction leaves; of an empty zone, where work on it stopped. Below `safe`, which the safe fraction is lowered by, an empty
 // zone has no valuation; it is 1/0 of one that is not empty.
-#[derive(Drop)]
+#[derive(Clone, Copy)]
 pub struct Reduced {
     pub work: Work,
     pub empty: bool,
@@ -18,7 +18,7 @@ pub struct Reduced {
 }
 
 // What the pairs of a diagonal show: whether one has m below 0, and the lowest of the thresholds of such pairs against (0, 0).
-#[derive(Drop)]
+#[derive(Clone, Copy)]
 pub(crate) struct Diagonal {
     pub empty: bool,
     pub safe: Fraction,

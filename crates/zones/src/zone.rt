@@ -7,7 +7,7 @@ use crate::fraction::{Fraction, after_lowering};
 use crate::pair::Pair;
 
 // A square of pairs, nine to a row, and the running fraction.
-#[derive(Drop)]
+#[derive(Clone, Copy)]
 pub struct Work {
     pub zone: [Pair; 81],
     pub fraction: Fraction,
@@ -49,7 +49,7 @@ impl Work {
 
 // A clock's entries (x, 0) and (0, x), with the running fraction. Limits are met on these,
 // so that a loop over the clocks need not pass the whole square on for each.
-#[derive(Drop)]
+#[derive(Clone, Copy)]
 pub struct Bounds {
     pub upper: Pair,
     pub lower: Pair,
