@@ -19,7 +19,7 @@ use Rattle.reachability.proofs.Keeps.{begin_room, expand_room}
 
 -- ---- no offer drops more than one, whatever its outcome
 module _ {Z F : Type 0} (A : System) (O : Zones Z F) (cap : ℕ) where
-  judged_drops : {q q' : State Z F} {k : Node Z} {f : F} → Judged A O cap q k f q' → q'.again + q'.inside ≤ suc (q.again + q.inside)
+  judged_drops : {q : State Z F} {k : Node Z} {f : F} {q' : State Z F} → Judged A O cap q k f q' → q'.again + q'.inside ≤ suc (q.again + q.inside)
   judged_drops (was_target e) = omega arith
   judged_drops (was_inside y e g) = rw dropping_drops (omega arith)
   judged_drops (was_big e g h) = omega arith
@@ -51,7 +51,7 @@ module _ {Z F : Type 0} (A : System) (O : Zones Z F) (cap : ℕ) where
   abbrev counted : State Z F → ℕ
   counted q = length q.kept + (q.again + q.inside)
 
-  judged_live : {q q' : State Z F} {k : Node Z} {f : F} → Judged A O cap q k f q' → q'.outcome ≡ going → counted q' ≡ suc (counted q)
+  judged_live : {q : State Z F} {k : Node Z} {f : F} {q' : State Z F} → Judged A O cap q k f q' → q'.outcome ≡ going → counted q' ≡ suc (counted q)
   judged_live (was_target e) o = ended_going o
   judged_live (was_inside y e g) o = rw (dropping-kept, dropping_drops) (omega arith)
   judged_live (was_big e g h) o = ended_going o

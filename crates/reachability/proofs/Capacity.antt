@@ -28,7 +28,7 @@ module _ {Z F : Type 0} (A : System) (O : Zones Z F) where
   }
 
   module _ (c c' : ℕ) where
-    moved : {q q' : State Z F} {k : Node Z} {f : F} → Fine c' q' → Judged A O c q k f q' → Judged A O c' q k f q'
+    moved : {q : State Z F} {k : Node Z} {f : F} {q' : State Z F} → Fine c' q' → Judged A O c q k f q' → Judged A O c' q k f q'
     moved n (was_target e) = was_target e
     moved n (was_inside y e g) = was_inside y e g
     moved n (was_big e g h) = was_big e g h

@@ -53,7 +53,7 @@ module _ {Z F : Type 0} (A : System) (O : Zones Z F) (M : Meaning A Z F) (K : Cl
   earlier : {q q' : State Z F} → Later O q q' → Good q' → Good q
   earlier h g = record { sound = earlier_all h g.sound; goes = later_going h g.goes; safe = h.falls B fall g.safe }
 
-  judged_covers : {q q' : State Z F} {k : Node Z} {f : F} (l : ℕ) (v : A.Val) → Judged A O cap q k f q' → All (Sound A O M) q.kept
+  judged_covers : {q : State Z F} {k : Node Z} {f : F} {q' : State Z F} (l : ℕ) (v : A.Val) → Judged A O cap q k f q' → All (Sound A O M) q.kept
       → q'.outcome ≡ going → B q'.frac → k.at ≡ l → M.Shape k.zone → Keeps l k.zone v → Covers q'.kept l v
   judged_covers l v (was_target d) a c b x w h = ended_going c
   judged_covers {q} {k = k} {f = f} l v (was_inside y d g) a c b x w h =

@@ -98,7 +98,7 @@ module _ {Z F : Type 0} (A : System) (O : Zones Z F) where
 
   module _ (cap : ℕ) where
     -- ---- what an offer leaves: its kept nodes, its fraction, and where the target was reached
-    judge_kept : (P : List (Node Z) → Type 0) {q q' : State Z F} {k : Node Z} {f : F} → Judged cap q k f q' → P q.kept
+    judge_kept : (P : List (Node Z) → Type 0) {q : State Z F} {k : Node Z} {f : F} {q' : State Z F} → Judged cap q k f q' → P q.kept
         → ((k.at ≡ A.target → ⊥) → O.big k.zone ≡ false → length q.kept < cap → P (q.kept ++ (k ∷ []))) → P q'.kept
     judge_kept P (was_target e) s t = s
     judge_kept P (was_inside y e g) s t = rw dropping-kept s
@@ -113,7 +113,7 @@ module _ {Z F : Type 0} (A : System) (O : Zones Z F) where
     offer_kept P q c (empty f) s t = s
     offer_kept P q c (zone z f) s t = judge_kept P (judged cap q (c z) f) s (t z f refl)
 
-    judge_frac : (P : F → Type 0) {q q' : State Z F} {k : Node Z} {f : F} → Judged cap q k f q' → P f
+    judge_frac : (P : F → Type 0) {q : State Z F} {k : Node Z} {f : F} {q' : State Z F} → Judged cap q k f q' → P f
         → ((y : Node Z) → Inside q.kept k.at k.zone y → P (O.lowered k.zone y.zone f)) → P q'.frac
     judge_frac P (was_target e) s t = s
     judge_frac P (was_inside y e g) s t = rw dropping_frac (t y (find_inside _ _ _ y g))
@@ -137,7 +137,7 @@ module _ {Z F : Type 0} (A : System) (O : Zones Z F) where
       pub came : (c met).came ≡ x
       pub same : q'.kept ≡ q.kept
 
-    judge_met : {q q' : State Z F} {f : F} {x : Came} (c : Z → Node Z) (z : Z) → Judged cap q (c z) f q' → q'.outcome ≡ ended (reached x)
+    judge_met : {q : State Z F} {f : F} {x : Came} (c : Z → Node Z) (z : Z) {q' : State Z F} → Judged cap q (c z) f q' → q'.outcome ≡ ended (reached x)
         → Met q q' c (zone z f) x
     judge_met {f = f} c z (was_target e) h = record { met = z; after = f; made = refl; there = eqb-true _ _ e; came = cc; same = refl }
     judge_met c z (was_inside y e g) h = ended_going (sym h ∙ dropping_going _ _ _)
