@@ -4,15 +4,16 @@ use Prim.Native.Nat.{ℕ, ◌+◌, ◌-◌, ◌≤◌}
 use mathlib.Core.List.{List, [], ◌++◌, append_assoc, append-nil}
 use mathlib.Core.Path.{◌≡◌, sym, ap, ◌∙◌}
 use lib.ListN.{length, take, drop, length-append, length-drop, drop_of_length-le}
-use lib.Seq.{take-length, take_all, take_at, drop_at, drop-drop, length-take-le}
+use lib.Seq.{take_all, take_at, drop_at, drop-drop, length-take-le}
 use native.Mathlib.Nat.{zero-add}
 use native.Mathlib.Omega.{arith}
 use Rattle.encoding.specs.Placing.{placed}
 
--- ---- a copy is a put at 0, and in the part from `at` on a put at `at`
-pub copied : (s xs : List ℕ) → take (length xs) xs ++ drop (length xs) s ≡ placed 0 xs s
+-- ---- bytes that take the place of a lent part from `at` on: of one as long as they are, or of all that follows
+pub part_placed : (s xs : List ℕ) (at n : ℕ) {ys : List ℕ} → n ≡ length xs → ys ≡ xs
+    → take at s ++ (ys ++ drop n (drop at s)) ≡ placed at xs s
 unfolding placed
-copied s xs = rw (take-length xs) (simp zero-add)
+part_placed s xs at n e f = rw (f, e) (simp drop-drop)
 
 pub lent_placed : (s xs : List ℕ) (at : ℕ) {ys : List ℕ} → ys ≡ placed 0 xs (take (length s - at) (drop at s))
     → take at s ++ (ys ++ drop (length s - at) (drop at s)) ≡ placed at xs s

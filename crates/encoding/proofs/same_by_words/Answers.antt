@@ -1,5 +1,4 @@
 -- `same_by_words` meets its contract: the bytes before i and from j on are the same.
-use Prim.Native.Nat.{◌-◌}
 use mathlib.Core.Path.{sym, ◌∙◌}
 use native.Mathlib.Omega.{arith}
 use Rattle.encoding.proofs.Words.{words_differ}

@@ -1,5 +1,5 @@
 -- `same_singly` meets its contract: the bytes before i are the same.
-use Prim.Native.Nat.{ℕ, ◌-◌}
+use Prim.Native.Nat.{ℕ}
 use mathlib.Core.List.{List}
 use mathlib.Core.Path.{sym, ap}
 use lib.ListN.{get_or}
