@@ -1,7 +1,7 @@
 -- How large the numbers get through the three reductions of one step. With |m| ≤ C and p ≤ P before, a zone that is not empty has |m| ≤ C
 -- after each reduction, and p at most ten times what it was; and each threshold is within N and D.
 -- Assumes nothing.
-use Prim.Native.Nat.{ℕ, zero, suc, ◌+◌, ◌*◌, ◌<◌, ◌≤◌}
+use Prim.Native.Nat.{ℕ, suc, ◌+◌, ◌*◌, ◌<◌, ◌≤◌}
 use mathlib.Core.Path.{◌≡◌, refl, ap, ◌∙◌}
 use mathlib.Core.Bool.{Bool, false}
 use mathlib.Core.Logic.{inl}

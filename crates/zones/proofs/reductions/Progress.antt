@@ -1,6 +1,6 @@
 -- The reduction: where it stops, and what holds along it while the zone is not empty.
 -- Assumes nothing.
-use Prim.Native.Nat.{ℕ, zero, suc, ◌+◌, ◌-◌, ◌<◌, ◌≤◌}
+use Prim.Native.Nat.{ℕ, zero, suc, ◌+◌, ◌<◌, ◌≤◌}
 use mathlib.Core.Path.{◌≡◌, refl, sym, ap, ◌∙◌, subst}
 use mathlib.Core.Bool.{Bool, true, false, cond}
 use lib.ListN.{length}
@@ -19,7 +19,7 @@ use Rattle.zones.proofs.pairs.Integers.{lt_z_false, le_lt_z}
 use Rattle.zones.specs.Fractions.{no_limit, lowered_by}
 use Rattle.zones.specs.Pairs.{zero_pair, threshold_of}
 use Rattle.zones.specs.Zones.{entry}
-use Rattle.zones.specs.Reductions.{round_steps, empty_in, empty_below, seen_with, non_empty, after_middle, reduce_steps}
+use Rattle.zones.specs.Reductions.{round_steps, empty_in, empty_below, seen_with, after_middle, reduce_steps}
 use Rattle.runs.proofs.Contradictions.{true_false}
 use Rattle.zones.proofs.reductions.Rounds.{RoundDone, round_done}
 
