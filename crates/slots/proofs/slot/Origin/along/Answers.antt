@@ -5,17 +5,12 @@ use mir.Syntax.{w32}
 use mir.Val.{to_z}
 use mir.ValLaws.{to_z_pos}
 use native.Mathlib.Omega.{arith}
-use borrow.Author.Rules.{rules}
 use Rattle.slots.specs.declared.slot.Origin.{Origin}
 use Rattle.slots.specs.Slots.{origin_along}
-use Rattle.slots.proofs.slot.Origin.along.Statement.{statement}
-use Rattle.slots.proofs.slot.Origin.along.Tie as tie
+use Rattle.slots.proofs.slot.Origin.along.Goals as goal
 
 both : (j i : ℕ) → j < 2147483648 → i < 2147483648 → ◌≡◌ {A = Origin} (record { parent = to_z w32 j; edge = to_z w32 i }) (origin_along j i)
 both j i p q = rw (to_z_pos w32 j (omega arith), to_z_pos w32 i (omega arith))
 
-returns : tie.Need-returns
+pub returns : goal.returns
 returns c = both _ _ c.requires.0 c.requires.1
-
-pub along-spec : {M : Type 1} → statement M
-along-spec = tie.close (tie.spec (λ c. search rules) (λ c. search rules) returns)

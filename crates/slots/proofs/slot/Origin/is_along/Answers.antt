@@ -8,18 +8,15 @@ use native.Mathlib.Omega.{arith}
 use mir.Syntax.{w32}
 use mir.Val.{SFits}
 use mir.ValLaws.{to_z-of_z}
-use Rattle.slots.proofs.slot.Origin.is_along.Statement.{statement}
-use Rattle.slots.proofs.slot.Origin.is_along.Tie as tie
+use Rattle.slots.proofs.slot.Origin.is_along.Goals as goal
+use Rattle.slots.proofs.slot.Origin.is_along.Goals.{Start}
 
-fits : (c : tie.Start) → SFits w32 c.args.self.parent
+fits : (c : Start) → SFits w32 c.args.self.parent
 fits c = search rules
 
 at_least : (z : ℤ) → le_z (pos 0) z ≡ non_neg z
 at_least (pos n) = le-leb 0 n (omega arith)
 at_least (negsuc n) = refl
 
-returns : tie.Need-returns
-returns c = ap (le_z (pos 0)) (to_z-of_z w32 _ (fits c.before)) ∙ at_least c.before.args.self.parent
-
-pub is-along-spec : {M : Type 1} → statement M
-is-along-spec = tie.close (tie.spec returns)
+pub returns : goal.returns
+returns c = ap (le_z (pos 0)) (to_z-of_z w32 _ (fits (goal.at.returns c).Start)) ∙ at_least c.args.self.parent
