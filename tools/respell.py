@@ -36,7 +36,7 @@ def declared():
                 m = pattern.match(line)
                 if m and m.group(1) not in KEYWORDS:
                     names[m.group(1)] += 1
-                    if pattern is HEAD and re.match(r"(abbrev|unfoldable|pub record|record|pub data)", line):
+                    if re.match(r"\s*(abbrev|unfoldable|pub record|record|pub data)\b", line):
                         definitions.add(m.group(1))
     return names, definitions
 
@@ -50,7 +50,7 @@ def spelled(name, definitions):
     parts = [p if p[:1].isupper() else snake(p) for p in name.split("-")]
     out = parts[0]
     for a, b in zip(parts, parts[1:]):
-        both = (a in definitions or a in STD or a[:1].isupper()) and (b in definitions or b in STD or b[:1].isupper())
+        both = name not in definitions and (a in definitions or a in STD or a[:1].isupper()) and (b in definitions or b in STD or b[:1].isupper())
         out += ("-" if both else "_") + b
     return out
 

@@ -8,8 +8,8 @@ use lib.Dec.{eqb}
 use lib.ListN.{length, drop, length-append, drop_of_length-le}
 use native.Mathlib.Omega.{arith}
 use Rattle.runs.specs.Runs.{System}
-use Rattle.reachability.specs.Search.{Result, empty, zone, Zones, Node, State, going, first-node, child, judge, offer, follow, expand}
-use Rattle.reachability.specs.Search.{take-from, nothing, begin, search}
+use Rattle.reachability.specs.Search.{Result, empty, zone, Zones, Node, State, going, first_node, child, judge, offer, follow, expand}
+use Rattle.reachability.specs.Search.{take_from, nothing, begin, search}
 use Rattle.reachability.specs.Accounts.{one, one_if_empty, one_if_live, along, from, entered, Regardless, Accounted}
 use Rattle.reachability.proofs.Lists.{nth_tail}
 use Rattle.reachability.proofs.Judged.{ended_going, dropping-kept, dropping_drops, Judged, was_target, was_inside, was_big, was_kept, was_full}
@@ -95,9 +95,9 @@ module _ {Z F : Type 0} (A : System) (O : Zones Z F) (cap : ℕ) where
         let p = later_going (expand_later A O cap j k m (suc i) q₁) o in
         omega (arith, follow_live j k m i q p, expand_live j k m (suc i) q₁ o)
 
-    take-live : (left next : ℕ) (q : State Z F) → left + next ≡ cap → length q.kept ≤ cap → (take-from A O cap left next q).outcome ≡ going
-        → counted (take-from A O cap left next q) ≡ counted q + nodes next (take-from A O cap left next q)
-    unfolding take-from from
+    take-live : (left next : ℕ) (q : State Z F) → left + next ≡ cap → length q.kept ≤ cap → (take_from A O cap left next q).outcome ≡ going
+        → counted (take_from A O cap left next q) ≡ counted q + nodes next (take_from A O cap left next q)
+    unfolding take_from from
     take-live zero next q f r = λ o. rw (drop_of_length-le q.kept {i = next} (omega arith)) (omega arith)
     take-live (suc left) next q f r =
         take_cases A O cap (λ (x : State Z F). x.outcome ≡ going → counted x ≡ counted q + nodes next x) left next q
@@ -114,7 +114,7 @@ module _ {Z F : Type 0} (A : System) (O : Zones Z F) (cap : ℕ) where
     live o =
         let b = begin A O cap in
         let p = later_going (take-later A O cap cap 0 b) o in
-        let first = offer_live (nothing A O cap) (first-node A) (O.enter O.top) p in
+        let first = offer_live (nothing A O cap) (first_node A) (O.enter O.top) p in
         omega (arith, first, take-live cap 0 b (omega arith) (begin_room A O cap) o)
 
 -- ---- each zone that has entered is empty or not

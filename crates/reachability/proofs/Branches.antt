@@ -5,7 +5,7 @@ use mathlib.Core.Path.{◌≡◌, refl, sym, subst}
 use mathlib.Core.Logic.{⊎_elim}
 use lib.ListN.{length}
 use Rattle.runs.specs.Runs.{System}
-use Rattle.reachability.specs.Search.{Result, zone, frac_of, Zones, Came, first_zone, by_edge, Node, Nth, State, reached, ended, first-node}
+use Rattle.reachability.specs.Search.{Result, zone, frac_of, Zones, Came, first_zone, by_edge, Node, Nth, State, reached, ended, first_node}
 use Rattle.reachability.specs.Search.{child, offer, nothing, begin, search}
 use Rattle.reachability.specs.Laws.{Falls}
 use Rattle.reachability.specs.Branches.{Branch, BranchOf, Branches, Arrived, path_of}
@@ -40,7 +40,7 @@ module _ {Z F : Type 0} (A : System) (O : Zones Z F) (B : F → Type 0) where
 
   -- ---- of each kind of node
   first_branch : (ks : List (Node Z)) (z : Z) (f g : F) → O.enter f ≡ zone z g → B g
-      → BranchOf A O B ks (length ks) (first-node A z)
+      → BranchOf A O B ks (length ks) (first_node A z)
   first_branch ks z f g e b = record { at = refl; path = refl; before = f; after = g; made = e; fine = b }
 
   child_branch : (ks : List (Node Z)) (j : ℕ) (k : Node Z) (i : ℕ) (z : Z) (f g : F) → Nth ks j k → i < A.edges → A.from i ≡ k.at
@@ -91,7 +91,7 @@ module _ {Z F : Type 0} (A : System) (O : Zones Z F) (B : F → Type 0) where
     }
 
     starts : Branched (begin A O cap)
-    starts = offered (nothing A O cap) (first-node A) (O.enter O.top) (λ d j k n. absurd n) (λ z f e b. first_branch [] z O.top f e b)
+    starts = offered (nothing A O cap) (first_node A) (O.enter O.top) (λ d j k n. absurd n) (λ z f e b. first_branch [] z O.top f e b)
 
     goes_on : Steady A O cap Branched
     goes_on = record {

@@ -8,8 +8,8 @@ use lib.Dec.{eqb}
 use native.Mathlib.Omega.{arith}
 use native.Mathlib.Decide.{dec_le}
 use Rattle.runs.specs.Runs.{System}
-use Rattle.reachability.specs.Search.{Result, empty, zone, Zones, Node, Nth, State, refused, Outcome, going, ended, first-node, offer, follow}
-use Rattle.reachability.specs.Search.{expand, take-from, nothing, begin, search}
+use Rattle.reachability.specs.Search.{Result, empty, zone, Zones, Node, Nth, State, refused, Outcome, going, ended, first_node, offer, follow}
+use Rattle.reachability.specs.Search.{expand, take_from, nothing, begin, search}
 use Rattle.reachability.proofs.Lists.{nth_drop, grown_longer}
 use Rattle.reachability.proofs.Judged.{Judged, was_target, was_inside, was_big, was_kept, was_full, judged, computes, take_none, take-one}
 use Rattle.reachability.proofs.Later.{Later, expand_later, take-later}
@@ -58,8 +58,8 @@ module _ {Z F : Type 0} (A : System) (O : Zones Z F) where
         ap (expand A O c' j k m (suc i)) (follow_same j k i q (earlier (expand_later A O c j k m (suc i) q₁) n)) ∙ expand_same j k m (suc i) q₁ n
 
     take_same : (left left' next : ℕ) (q : State Z F) → left + next ≡ c → left' + next ≡ c' → length q.kept ≤ c
-        → Fine c' (take-from A O c left next q) → take-from A O c' left' next q ≡ take-from A O c left next q
-    unfolding take-from
+        → Fine c' (take_from A O c left next q) → take_from A O c' left' next q ≡ take_from A O c left next q
+    unfolding take_from
     take_same zero left' next q e e' l n = take_none A O c' left' next q (drop_of_length-le q.kept {i = next} (omega arith))
     take_same (suc left) zero next q e e' l n =
         let m = earlier (take-later A O c (suc left) next q) n in
@@ -68,17 +68,17 @@ module _ {Z F : Type 0} (A : System) (O : Zones Z F) where
         go (drop next q.kept) refl n
         (λ k h. take_same left left' (suc next) (expand A O c next k A.edges 0 q) (omega arith) (omega arith) (expand_room A O c next k q h l))
       where
-        go : (ks : List (Node Z)) → drop next q.kept ≡ ks → Fine c' (take-from A O c (suc left) next q)
-            → ((k : Node Z) → Nth q.kept next k → Fine c' (take-from A O c left (suc next) (expand A O c next k A.edges 0 q))
-            → take-from A O c' left' (suc next) (expand A O c next k A.edges 0 q)
-            ≡ take-from A O c left (suc next) (expand A O c next k A.edges 0 q))
-            → take-from A O c' (suc left') next q ≡ take-from A O c (suc left) next q
+        go : (ks : List (Node Z)) → drop next q.kept ≡ ks → Fine c' (take_from A O c (suc left) next q)
+            → ((k : Node Z) → Nth q.kept next k → Fine c' (take_from A O c left (suc next) (expand A O c next k A.edges 0 q))
+            → take_from A O c' left' (suc next) (expand A O c next k A.edges 0 q)
+            ≡ take_from A O c left (suc next) (expand A O c next k A.edges 0 q))
+            → take_from A O c' (suc left') next q ≡ take_from A O c (suc left) next q
         go [] d n ih = take_none A O c' (suc left') next q d ∙ sym (take_none A O c (suc left) next q d)
         go (k ∷ ks) d n ih =
             let q₁ = expand A O c next k A.edges 0 q in
-            let m : Fine c' (take-from A O c left (suc next) q₁) = rw (take-one A O c left next q k ks d) at n in
+            let m : Fine c' (take_from A O c left (suc next) q₁) = rw (take-one A O c left next q k ks d) at n in
             take-one A O c' left' next q k ks d
-            ∙ ap (take-from A O c' left' (suc next)) (expand_same next k A.edges 0 q (earlier (take-later A O c left (suc next) q₁) m))
+            ∙ ap (take_from A O c' left' (suc next)) (expand_same next k A.edges 0 q (earlier (take-later A O c left (suc next) q₁) m))
             ∙ ih k (nth_drop q.kept next k ks d) m
             ∙ sym (take-one A O c left next q k ks d)
 
@@ -88,7 +88,7 @@ module _ {Z F : Type 0} (A : System) (O : Zones Z F) where
     fits_same h l =
         let n : Fine c' (search A O c) = record { finished = h; fits = l } in
         let b = begin A O c in
-        ap (take-from A O c' c' 0) (offer_same (nothing A O c) (first-node A) (O.enter O.top) (earlier (take-later A O c c 0 b) n))
+        ap (take_from A O c' c' 0) (offer_same (nothing A O c) (first_node A) (O.enter O.top) (earlier (take-later A O c c 0 b) n))
         ∙ take_same c c' 0 b (omega arith) (omega arith) (begin_room A O c) n
 
   pub larger_same : (c c' : ℕ) → c ≤ c' → ((search A O c).outcome ≡ ended (refused 10) → ⊥) → search A O c' ≡ search A O c

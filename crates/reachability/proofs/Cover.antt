@@ -7,7 +7,7 @@ use lib.ListN.{length}
 use native.Mathlib.Omega.{arith}
 use native.Mathlib.Decide.{ℕ_discrete, dec_lt}
 use Rattle.runs.specs.Runs.{System, Step, wait, jump, Stand, first, after, Steps, StandsIn, Reaches}
-use Rattle.reachability.specs.Search.{Result, empty, zone, Zones, Node, Nth, State, going, child, first-node, offer, follow, expand, take-from}
+use Rattle.reachability.specs.Search.{Result, empty, zone, Zones, Node, Nth, State, going, child, first_node, offer, follow, expand, take_from}
 use Rattle.reachability.specs.Search.{nothing, begin, search}
 use Rattle.reachability.specs.Meaning.{Meaning}
 use Rattle.reachability.specs.Laws.{Falls, Clocks, Shapes, Inclusion, SafeLaws}
@@ -130,8 +130,8 @@ module _ {Z F : Type 0} (A : System) (O : Zones Z F) (M : Meaning A Z F) (K : Cl
 
   take_done : (left next : ℕ) (q : State Z F) → left + next ≡ cap → length q.kept ≤ cap
       → ((j : ℕ) (k : Node Z) → j < next → Nth q.kept j k → AllDone q.kept k)
-      → Good (take-from A O cap left next q) → All (AllDone (take-from A O cap left next q).kept) (take-from A O cap left next q).kept
-  unfolding take-from
+      → Good (take_from A O cap left next q) → All (AllDone (take_from A O cap left next q).kept) (take_from A O cap left next q).kept
+  unfolding take_from
   take_done zero next q f r d = λ g j k n. d j k (omega (arith, nth_lt q.kept j k n)) n
   take_done (suc left) next q f r d =
       take_cases A O cap (λ (x : State Z F). Good x → All (AllDone x.kept) x.kept) left next q
@@ -167,7 +167,7 @@ module _ {Z F : Type 0} (A : System) (O : Zones Z F) (M : Meaning A Z F) (K : Cl
     started h =
         let t = take-later A O cap cap 0 (begin A O cap) in
         later_covers t
-        (offer_covers (nothing A O cap) (first-node A) (O.enter O.top) A.start A.origin (λ j k n. absurd n) (earlier t good)
+        (offer_covers (nothing A O cap) (first_node A) (O.enter O.top) A.start A.origin (λ j k n. absurd n) (earlier t good)
         (record {
           at = λ z. refl;
           some = λ f j y. L.enter_none s e O.top f j y h;

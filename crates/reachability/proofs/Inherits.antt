@@ -4,7 +4,7 @@ use mathlib.Core.Bool.{false}
 use mathlib.Core.List.{[]}
 use mathlib.Core.Path.{◌≡◌, subst}
 use Rattle.runs.specs.Runs.{System}
-use Rattle.reachability.specs.Search.{zone, frac_of, Zones, Node, Nth, State, going, first-node, child, nothing, begin, search}
+use Rattle.reachability.specs.Search.{zone, frac_of, Zones, Node, Nth, State, going, first_node, child, nothing, begin, search}
 use Rattle.reachability.specs.Laws.{Falls}
 use Rattle.reachability.proofs.Lists.{All, all_snoc}
 use Rattle.reachability.proofs.Judged.{offer_kept, followed}
@@ -17,7 +17,7 @@ anywhere O = record { enter = λ f b. tt; succ = λ i z f b. tt; lowered = λ z 
 
 module _ {Z F : Type 0} (A : System) (O : Zones Z F) where
   pub record Inherited (N : Node Z → Type 0) (B : F → Type 0) : Type 0 where
-    pub start : (z : Z) (f g : F) → O.enter f ≡ zone z g → B g → (A.start ≡ A.target → ⊥) → O.big z ≡ false → N (first-node A z)
+    pub start : (z : Z) (f g : F) → O.enter f ≡ zone z g → B g → (A.start ≡ A.target → ⊥) → O.big z ≡ false → N (first_node A z)
     pub next : (j : ℕ) (k : Node Z) (i : ℕ) (z : Z) (f g : F) → N k → i < A.edges → A.from i ≡ k.at → O.succ i k.zone f ≡ zone z g → B g
         → (A.to i ≡ A.target → ⊥) → O.big z ≡ false → N (child A j k i z)
 
@@ -28,9 +28,9 @@ module _ {Z F : Type 0} (A : System) (O : Zones Z F) where
     pub begin_all : B (begin A O cap).frac → All N (begin A O cap).kept
     begin_all b =
         let r = O.enter O.top in
-        let c : B (frac_of r) = offer_falls A O cap (nothing A O cap) (first-node A) r B fall b in
-        offer_kept A O cap (All N) (nothing A O cap) (first-node A) r (λ j k n. absurd n)
-        (λ z f e a w l. all_snoc [] (first-node A z) (λ j k n. absurd n) (I.start z O.top f e (subst (λ x. B (frac_of x)) e c) a w))
+        let c : B (frac_of r) = offer_falls A O cap (nothing A O cap) (first_node A) r B fall b in
+        offer_kept A O cap (All N) (nothing A O cap) (first_node A) r (λ j k n. absurd n)
+        (λ z f e a w l. all_snoc [] (first_node A z) (λ j k n. absurd n) (I.start z O.top f e (subst (λ x. B (frac_of x)) e c) a w))
 
     edge_all : (q : State Z F) (j : ℕ) (k : Node Z) (i : ℕ) → q.outcome ≡ going → Nth q.kept j k → i < A.edges → A.from i ≡ k.at
         → Under q → Under (followed A O cap j k i q)

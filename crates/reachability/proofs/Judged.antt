@@ -1,4 +1,4 @@
--- The ways in which a zone is judged, once: the proofs go by these, and `judge`, `offer`, `follow` and `take-from` stay shut.
+-- The ways in which a zone is judged, once: the proofs go by these, and `judge`, `offer`, `follow` and `take_from` stay shut.
 use Prim.Native.Nat.{ℕ, zero, suc, ◌+◌, ◌≤◌, ◌<◌}
 use mathlib.Core.List.{List, [], ◌∷◌, ◌++◌}
 use mathlib.Core.Bool.{Bool, true, false}
@@ -9,7 +9,7 @@ use native.Mathlib.Omega.{arith}
 use borrow.Author.Tests.{ltb-true, ltb-false, lt-ltb, le-ltb, eqb-true, eqb-false, eq-eqb}
 use Rattle.runs.specs.Runs.{System}
 use Rattle.reachability.specs.Search.{Result, empty, zone, frac_of, Found, none, found, Zones, Node, Nth, End, reached, refused, Outcome, going}
-use Rattle.reachability.specs.Search.{Came, ended, State, stopped, keeping, dropping, child, find, judge, offer, follow, expand, take-from}
+use Rattle.reachability.specs.Search.{Came, ended, State, stopped, keeping, dropping, child, find, judge, offer, follow, expand, take_from}
 use Rattle.reachability.proofs.Lists.{nth_drop}
 
 pub ended_going {ℓ} : {X : Type ℓ} {x : End} → ended x ≡ going → X
@@ -172,21 +172,21 @@ module _ {Z F : Type 0} (A : System) (O : Zones Z F) where
         (ap (λ c. followed j k i (record { kept = q.kept; frac = q.frac; outcome = c; again = q.again; inside = q.inside })) e)
 
     -- ---- what taking comes to
-    pub take_none : (left next : ℕ) (q : State Z F) → drop next q.kept ≡ [] → take-from A O cap left next q ≡ q
-    unfolding take-from
+    pub take_none : (left next : ℕ) (q : State Z F) → drop next q.kept ≡ [] → take_from A O cap left next q ≡ q
+    unfolding take_from
     take_none zero next q e = refl
-    take_none (suc left) next q e = rw (take-from, e)
+    take_none (suc left) next q e = rw (take_from, e)
 
     pub take-one : (left next : ℕ) (q : State Z F) (k : Node Z) (ks : List (Node Z)) → drop next q.kept ≡ k ∷ ks
-        → take-from A O cap (suc left) next q ≡ take-from A O cap left (suc next) (expand A O cap next k A.edges 0 q)
-    unfolding take-from
-    take-one left next q k ks e = rw (take-from, e)
+        → take_from A O cap (suc left) next q ≡ take_from A O cap left (suc next) (expand A O cap next k A.edges 0 q)
+    unfolding take_from
+    take-one left next q k ks e = rw (take_from, e)
 
     pub take_cases {ℓ} : (P : State Z F → Type ℓ) (left next : ℕ) (q : State Z F) → (drop next q.kept ≡ [] → P q)
-        → ((k : Node Z) → Nth q.kept next k → P (take-from A O cap left (suc next) (expand A O cap next k A.edges 0 q)))
-        → P (take-from A O cap (suc left) next q)
+        → ((k : Node Z) → Nth q.kept next k → P (take_from A O cap left (suc next) (expand A O cap next k A.edges 0 q)))
+        → P (take_from A O cap (suc left) next q)
     take_cases P left next q s t = go (drop next q.kept) refl
       where
-        go : (ks : List (Node Z)) → drop next q.kept ≡ ks → P (take-from A O cap (suc left) next q)
+        go : (ks : List (Node Z)) → drop next q.kept ≡ ks → P (take_from A O cap (suc left) next q)
         go [] e = rw (take_none (suc left) next q e) (s e)
         go (k ∷ ks) e = rw (take-one left next q k ks e) (t k (nth_drop q.kept next k ks e))

@@ -4,7 +4,7 @@ use mathlib.Core.Path.{◌≡◌}
 use lib.ListN.{length, length-append}
 use native.Mathlib.Omega.{arith}
 use Rattle.runs.specs.Runs.{System}
-use Rattle.reachability.specs.Search.{Result, Zones, Node, Nth, State, going, offer, follow, expand, take-from, begin, search}
+use Rattle.reachability.specs.Search.{Result, Zones, Node, Nth, State, going, offer, follow, expand, take_from, begin, search}
 use Rattle.reachability.proofs.Judged.{offer_kept, followed, follow-cases, take_cases}
 use Rattle.reachability.proofs.Later.{later_nth, follow_later}
 
@@ -22,8 +22,8 @@ module _ {Z F : Type 0} (A : System) (O : Zones Z F) (cap : ℕ) where
         expand_keeps j k m (suc i) (follow A O cap j k i q) (later_nth (follow_later A O cap j k i q) j k n) (omega arith)
         (follow-cases A O cap P j k i q h (λ e g. I.edge q j k i e n (omega arith) g h))
 
-    pub take_keeps : (left next : ℕ) (q : State Z F) → P q → P (take-from A O cap left next q)
-    unfolding take-from
+    pub take_keeps : (left next : ℕ) (q : State Z F) → P q → P (take_from A O cap left next q)
+    unfolding take_from
     take_keeps zero next q h = h
     take_keeps (suc left) next q h =
         take_cases A O cap P left next q (λ e. h)

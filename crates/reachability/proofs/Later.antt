@@ -3,7 +3,7 @@ use Prim.Native.Nat.{ℕ, zero, suc}
 use mathlib.Core.List.{[], ◌∷◌}
 use mathlib.Core.Path.{◌≡◌, refl, sym, ap, ◌∙◌, subst}
 use Rattle.runs.specs.Runs.{System}
-use Rattle.reachability.specs.Search.{Result, frac_of, Zones, Node, Nth, End, Outcome, going, ended, State, offer, follow, expand, take-from}
+use Rattle.reachability.specs.Search.{Result, frac_of, Zones, Node, Nth, End, Outcome, going, ended, State, offer, follow, expand, take_from}
 use Rattle.reachability.specs.Laws.{Falls}
 use Rattle.reachability.proofs.Lists.{All, Grown, grown_refl, grown_trans, grown_nth}
 use Rattle.reachability.proofs.Judged.{ended_going, offer_kept, offer_frac, follow-cases, take_cases}
@@ -65,8 +65,8 @@ module _ {Z F : Type 0} (A : System) (O : Zones Z F) (cap : ℕ) where
   expand_later j k zero i q = later_refl q
   expand_later j k (suc m) i q = later_trans (follow_later j k i q) (expand_later j k m (suc i) (follow A O cap j k i q))
 
-  pub take-later : (left next : ℕ) (q : State Z F) → Later O q (take-from A O cap left next q)
-  unfolding take-from
+  pub take-later : (left next : ℕ) (q : State Z F) → Later O q (take_from A O cap left next q)
+  unfolding take_from
   take-later zero next q = later_refl q
   take-later (suc left) next q =
       take_cases A O cap (Later O q) left next q (λ e. later_refl q)

@@ -2,7 +2,7 @@
 use Prim.Native.Nat.{ℕ, ◌<◌}
 use mathlib.Core.Path.{◌≡◌, ap, ◌∙◌, subst}
 use Rattle.runs.specs.Runs.{System, Stand, first, Reaches}
-use Rattle.reachability.specs.Search.{Result, zone, frac_of, Zones, Node, Nth, State, reached, going, ended, first-node, child, offer, nothing}
+use Rattle.reachability.specs.Search.{Result, zone, frac_of, Zones, Node, Nth, State, reached, going, ended, first_node, child, offer, nothing}
 use Rattle.reachability.specs.Search.{Came, begin, search}
 use Rattle.reachability.specs.Meaning.{Meaning}
 use Rattle.reachability.specs.Laws.{Falls, Shapes, ExactLaws}
@@ -45,8 +45,8 @@ module _ {Z F : Type 0} (A : System) (O : Zones Z F) (M : Meaning A Z F) (s₀ e
     tights = begin_all A O cap fall (tight A O M s₀ e₀ s₀ e₀ H X);
     hits = λ b.
         let r = O.enter O.top in
-        let d : B (frac_of r) = offer_falls A O cap (nothing A O cap) (first-node A) r B fall b in
-        offer_hits (nothing A O cap) (first-node A) r
+        let d : B (frac_of r) = offer_falls A O cap (nothing A O cap) (first_node A) r B fall b in
+        offer_hits (nothing A O cap) (first_node A) r
         (λ z f e. tight_start A O M s₀ e₀ s₀ e₀ H X z O.top f e (subst (λ x. B (frac_of x)) e d));
   }
 

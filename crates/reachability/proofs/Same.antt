@@ -3,7 +3,7 @@ use Prim.Native.Nat.{ℕ, ◌<◌}
 use mathlib.Core.List.{List, [], ◌∷◌, ◌++◌}
 use mathlib.Core.Path.{◌≡◌, refl, sym, ap, ◌∙◌, subst}
 use Rattle.runs.specs.Runs.{System, Step, wait, jump, Stand, first, after, last, Steps, Ends}
-use Rattle.reachability.specs.Search.{zone, Zones, Node, first-node, child, search}
+use Rattle.reachability.specs.Search.{zone, Zones, Node, first_node, child, search}
 use Rattle.reachability.specs.Meaning.{Meaning}
 use Rattle.reachability.specs.Laws.{Falls, Clocks, Shapes, Inclusion, ExactLaws}
 use Rattle.reachability.proofs.Lists.{All}
@@ -17,7 +17,7 @@ module _ {Z F : Type 0} (A : System) (O : Zones Z F) (M : Meaning A Z F) (s e : 
     pub holds : (v : A.Val) → Ends A s e k.path k.at v → M.In k.zone s e v
 
   module _ (K : Clocks A) (H : Shapes A O M) (I : Inclusion A O M) (real : M.Error s e) where
-    whole_start : (z : Z) (f g : F) → O.enter f ≡ zone z g → Whole (first-node A z)
+    whole_start : (z : Z) (f g : F) → O.enter f ≡ zone z g → Whole (first_node A z)
     whole_start z f g j = record {
       shape = H.enter f g z j;
       holds = λ v n.
@@ -59,7 +59,7 @@ module _ {Z F : Type 0} (A : System) (O : Zones Z F) (M : Meaning A Z F) (s e : 
     pub ends : (v : A.Val) → M.In k.zone s e v → Ends A s e k.path k.at v
 
   module _ (s₀ e₀ : ℕ) (H : Shapes A O M) (X : ExactLaws A O M s₀ e₀) where
-    pub tight_start : (z : Z) (f g : F) → O.enter f ≡ zone z g → M.Exact g s e → Tight (first-node A z)
+    pub tight_start : (z : Z) (f g : F) → O.enter f ≡ zone z g → M.Exact g s e → Tight (first_node A z)
     tight_start z f g j b = record {
       shape = H.enter f g z j;
       fit = X.enter_fit s e f g z j b;

@@ -2,7 +2,7 @@
 use Prim.Native.Nat.{ℕ, ◌<◌}
 use mathlib.Core.Path.{◌≡◌, subst}
 use Rattle.runs.specs.Runs.{System}
-use Rattle.reachability.specs.Search.{Result, zone, frac_of, Zones, Node, Nth, State, going, first-node, child, offer, nothing, search}
+use Rattle.reachability.specs.Search.{Result, zone, frac_of, Zones, Node, Nth, State, going, first_node, child, offer, nothing, search}
 use Rattle.reachability.specs.Meaning.{Meaning}
 use Rattle.reachability.specs.Laws.{Shapes, Stays}
 use Rattle.reachability.proofs.Lists.{All}
@@ -53,7 +53,7 @@ module _ {Z F : Type 0} (A : System) (O : Zones Z F) (M : Meaning A Z F) where
           search_keeps A O cap (record { edge = goes_on })
           (record {
             sounds = begin_all A O cap (anywhere O) sound;
-            fine = offer_fine (nothing A O cap) (first-node A) (O.enter O.top) (λ j k n. absurd n)
+            fine = offer_fine (nothing A O cap) (first_node A) (O.enter O.top) (λ j k n. absurd n)
                 (λ z f e. H.enter O.top f z e) (stay.enter O.top stay.top);
           })
 

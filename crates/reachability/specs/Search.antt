@@ -81,8 +81,8 @@ module _ {Z F : Type 0} where
 
 module _ {Z : Type 0} (A : System) where
   -- "The first zone .. enters the start."
-  abbrev pub first-node : Z → Node Z
-  first-node z = record { at = A.start; zone = z; came = first_zone; path = [] }
+  abbrev pub first_node : Z → Node Z
+  first_node z = record { at = A.start; zone = z; came = first_zone; path = [] }
 
   -- a zone that came from k, the node at j, by the edge i
   abbrev pub child : ℕ → Node Z → ℕ → Z → Node Z
@@ -129,15 +129,15 @@ module _ {Z F : Type 0} (A : System) (O : Zones Z F) where
     expand j k (suc m) i q = expand j k m (suc i) (follow j k i q)
 
     -- the kept nodes from the one at `next` on; the first number is the slots not yet taken
-    unfoldable pub take-from : ℕ → ℕ → State Z F → State Z F
-    take-from zero next q = q
-    take-from (suc left) next q = elim (drop next q.kept) [ [] ↦ q | k ∷ ks ↦ take-from left (suc next) (expand next k A.edges 0 q) ]
+    unfoldable pub take_from : ℕ → ℕ → State Z F → State Z F
+    take_from zero next q = q
+    take_from (suc left) next q = elim (drop next q.kept) [ [] ↦ q | k ∷ ks ↦ take_from left (suc next) (expand next k A.edges 0 q) ]
 
     abbrev pub nothing : State Z F
     nothing = record { kept = []; frac = O.top; outcome = going; again = 0; inside = 0 }
 
     abbrev pub begin : State Z F
-    begin = offer nothing (first-node A) (O.enter O.top)
+    begin = offer nothing (first_node A) (O.enter O.top)
 
     unfoldable pub search : State Z F
-    search = take-from capacity 0 begin
+    search = take_from capacity 0 begin

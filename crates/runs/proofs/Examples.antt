@@ -9,7 +9,7 @@ use native.Mathlib.Omega.{arith}
 use Rattle.runs.specs.Limits.{Limits, Holds, Within}
 use Rattle.runs.specs.Runs.{System, Step, wait, jump, Stand, Can, Steps, StandsIn, Reaches}
 use Rattle.runs.specs.Timed.{Valuation, ticks, later, zeroed, system_for}
-use Rattle.runs.specs.Examples.{from-to, from_on, table, astray, Shown}
+use Rattle.runs.specs.Examples.{from_to, from_on, table, astray, Shown}
 use Rattle.runs.proofs.Contradictions.{true_false}
 
 -- ---- where no edge can be taken at the start, a run stays there
@@ -44,7 +44,7 @@ arrives r (y ∷ v) = refl
 -- ---- the table: an edge that may reset, with a guard from m on, to a target with a limit from n
 module _ (r : Bool) (m n s e : ℕ) where
   abbrev cross : System
-  cross = system_for (table 0 r (from_on m) (from-to 0 5) (from-to n 9))
+  cross = system_for (table 0 r (from_on m) (from_to 0 5) (from_to n 9))
 
   crosses : (t : ℕ) → t ≤ 5 * s + e → m * s ≤ t + e → n * s ≤ cond r 0 t + e → cond r 0 t ≤ 9 * s + e → Reaches cross s e
   unfolding later zeroed

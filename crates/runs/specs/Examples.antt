@@ -4,8 +4,8 @@ use Rattle.runs.specs.Limits.{Limits}
 use Rattle.runs.specs.Runs.{Reaches}
 use Rattle.runs.specs.Timed.{TimedAutomaton, system_for}
 
-abbrev pub from-to : ℕ → ℕ → Limits
-from-to low high = record { lo = λ x. low; hi = λ x. high; absent = λ x. false }
+abbrev pub from_to : ℕ → ℕ → Limits
+from_to low high = record { lo = λ x. low; hi = λ x. high; absent = λ x. false }
 
 -- no upper limit
 abbrev pub from_on : ℕ → Limits
@@ -27,17 +27,17 @@ table leaves resets guard here there = record {
 
 -- "A: guard lo 7"; "F: guard lo 4, resetting"; "G: target lo 3, edge resets, guard lo 0"
 abbrev pub card_a : TimedAutomaton
-card_a = table 0 false (from_on 7) (from-to 0 5) (from-to 0 9)
+card_a = table 0 false (from_on 7) (from_to 0 5) (from_to 0 9)
 
 abbrev pub card_f : TimedAutomaton
-card_f = table 0 true (from_on 4) (from-to 0 5) (from-to 0 9)
+card_f = table 0 true (from_on 4) (from_to 0 5) (from_to 0 9)
 
 abbrev pub card_g : TimedAutomaton
-card_g = table 0 true (from_on 0) (from-to 0 5) (from-to 3 9)
+card_g = table 0 true (from_on 0) (from_to 0 5) (from_to 3 9)
 
 -- the edge leaves location 1
 abbrev pub astray : TimedAutomaton
-astray = table 1 true (from_on 0) (from-to 0 5) (from-to 0 9)
+astray = table 1 true (from_on 0) (from_to 0 5) (from_to 0 9)
 
 -- "E: no edges, start lo 2 .. the same if start is also the target"
 abbrev pub card_e : TimedAutomaton
@@ -50,7 +50,7 @@ card_e = record {
   target = 0;
   resets = λ i x. false;
   guard = λ i. from_on 0;
-  invariant = λ l. from-to 2 5;
+  invariant = λ l. from_to 2 5;
 }
 
 -- no run stands in the target below the error n/d, some run does at n/d

@@ -9,7 +9,7 @@ ghost use Rattle.search.specs.Exploring.{FirstHit, Shown, SoundResult, SoundZone
 ghost use Rattle.search.specs.Exploring.{Continues, Going};
 ghost use Rattle.search.specs.Instance.{fractions_of, zones_of};
 ghost use Rattle.automata.specs.Opened.{edge_of};
-ghost use Rattle.reachability.specs.Search.{Came, judge, expand, take-from};
+ghost use Rattle.reachability.specs.Search.{Came, judge, expand, take_from};
 ghost use Rattle.automata.specs.Semantics.{system_of};
 ghost use Rattle.slots.specs.Slots.{slot_length, Framed};
 ghost use Rattle.search.specs.Store.{most_slots, capacity_of};
@@ -242,7 +242,7 @@ fn expand(
 fn take(automaton: &[u8], store: &mut [i32], turn: Turn, capacity: usize) -> Turn
     requires { Accepted automaton.now × Going automaton.now capacity store.old turn × Few 1 turn.dropped }
     ensures { Continues automaton.now capacity store.old turn
-        (take-from (system_of automaton.now) (zones_of automaton.now) capacity capacity 0) store.new result }
+        (take_from (system_of automaton.now) (zones_of automaton.now) capacity capacity 0) store.new result }
 {
     let size = counts_of(automaton).clocks + 1;
     let stride = slot_length(size);

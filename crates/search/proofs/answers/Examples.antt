@@ -12,7 +12,7 @@ use Rattle.automata.specs.Automata.{edge_in, firsts, guard_of, in_byte, invarian
 use Rattle.automata.specs.Refusals.{out_of_range_at, refusal_of, some}
 use Rattle.search.specs.Examples.{AllRight, examples}
 use Rattle.search.specs.Instance.{entering, following, lowered_inside, overcounted, result_of}
-use Rattle.reachability.specs.Search.{dropping, find, judge, offer, follow, expand, take-from, search}
+use Rattle.reachability.specs.Search.{dropping, find, judge, offer, follow, expand, take_from, search}
 use Rattle.slots.specs.Slots.{flat, pairs_to, head_of, slot_of, counted}
 use Rattle.search.specs.Store.{capacity_of, origin_of, slots_of, store_of}
 use Rattle.search.specs.Answers.{findings_of, search_findings, search_store, state_findings}
@@ -27,6 +27,6 @@ unfolding count_to larger inside_to every_to lowered_by euclid gcd_of lowest_ter
     pair_at first_work lower_at meet_upper meet_clock meet_limits raise_limits home reset_places reset_of
     relaxed row_steps round_steps empty_in empty_below after_middle reduce_steps and_then meet_of enter_of follow_of
     be16_at be32_at edge_in firsts guard_of in_byte invariant_in invariant_of limits_at reset_set resets_of out_of_range_at refusal_of some
-    entering following lowered_inside overcounted result_of dropping find judge offer follow expand take-from search
+    entering following lowered_inside overcounted result_of dropping find judge offer follow expand take_from search
     counted flat pairs_to head_of slot_of capacity_of origin_of slots_of store_of findings_of holding_of search_findings search_store state_findings
 all_right = (r, (r, (r, (r, (r, (r, (r, (r, (r, (r, (r, (r, (r, (r, (r, (r, tt))))))))))))))))

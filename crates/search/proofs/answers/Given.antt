@@ -22,7 +22,7 @@ use Rattle.search.specs.Exploring.{SoundState}
 use Rattle.search.specs.Instance.{Fractions, ZoneNode, ZoneState, zones_of, search_of}
 use Rattle.search.specs.Given.{Terms, Given, Beside, Lasting, LastingFindings}
 use Rattle.search.specs.Promised.{Promised}
-use Rattle.reachability.specs.Search.{Result, empty, zone, Outcome, going, ended, reached, refused, first-node, child, offer}
+use Rattle.reachability.specs.Search.{Result, empty, zone, Outcome, going, ended, reached, refused, first_node, child, offer}
 use Rattle.automata.specs.Semantics.{system_of}
 use Rattle.search.specs.Store.{most_slots, capacity_of}
 use Rattle.search.specs.Verdicts.{fraction_of, holding_of}
@@ -66,7 +66,7 @@ module _ (b : List ℕ) (c : ℕ) where
   final_known : Known (search_of b c).outcome
   final_known =
       search_keeps (system_of b) (zones_of b) c {P = λ q. Known q.outcome}
-      (record { edge = λ q j k i e n l f h. offer_known q (child (system_of b) j k i) _ }) (offer_known _ (first-node (system_of b)) _)
+      (record { edge = λ q j k i e n l f h. offer_known q (child (system_of b) j k i) _ }) (offer_known _ (first_node (system_of b)) _)
 
 -- ---- the numbers of the answer
 module _ (b : List ℕ) (ok : refusal_of b ≡ 0) (amount : ℕ) where

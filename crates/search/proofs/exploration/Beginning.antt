@@ -19,7 +19,7 @@ use Rattle.automata.specs.Automata.{clocks, start, invariant_of}
 use Rattle.search.specs.Exploring.{Shown, Live, Offers, Continues}
 use Rattle.search.specs.Exploring as exploring
 use Rattle.search.specs.Instance.{ZoneState, fractions_of, zones_of, result_of, entering, search_of}
-use Rattle.reachability.specs.Search.{first_zone, first-node, nothing, begin, take-from, search}
+use Rattle.reachability.specs.Search.{first_zone, first_node, nothing, begin, take_from, search}
 use Rattle.automata.specs.Semantics.{system_of}
 use Rattle.slots.specs.declared.slot.Origin.{Origin}
 use Rattle.slots.specs.Slots.{slot_length, no_origin}
@@ -37,7 +37,7 @@ pub record Begun (b : List ℕ) (capacity : ℕ) (s s' : List ℤ) (t' : Turn) :
   pub few : Few 1 t'.dropped
   pub stops : has_ended (outcome_of t'.outcome) ≡ true → Shown (suc (clocks b)) s (state_of b (length s)) s' t'
   pub rest : has_ended (outcome_of t'.outcome) ≡ false → {s'' : List ℤ} {t'' : Turn} →
-      Continues b capacity s' t' (take-from (system_of b) (zones_of b) capacity capacity 0) s'' t'' →
+      Continues b capacity s' t' (take_from (system_of b) (zones_of b) capacity capacity 0) s'' t'' →
       Shown (suc (clocks b)) s (state_of b (length s)) s'' t''
 
 module _ {b : List ℕ} (a : Accepted b) (s : List ℤ) {capacity : ℕ} (es : capacity ≡ capacity_of (suc (clocks b)) (length s)) where
@@ -81,7 +81,7 @@ module _ {b : List ℕ} (a : Accepted b) (s : List ℤ) {capacity : ℕ} (es : c
     shown : Shown (suc (clocks b)) s state s' t'
     shown = rw entered at ((g (record { came = first_zone; path = []; told = none ∙ sym eo })).shows s blank blank-live)
 
-    whole : take-from (system_of b) (zones_of b) capacity capacity 0 state ≡ state_of b (length s)
+    whole : take_from (system_of b) (zones_of b) capacity capacity 0 state ≡ state_of b (length s)
     unfolding search
     whole = ap (search_of b) es
 
@@ -93,7 +93,7 @@ module _ {b : List ℕ} (a : Accepted b) (s : List ℤ) {capacity : ℕ} (es : c
           arith,
           shown.again,
           shown.inside,
-          offer_drops (system_of b) (zones_of b) capacity blank (first-node (system_of b)) ((zones_of b).enter (zones_of b).top),
+          offer_drops (system_of b) (zones_of b) capacity blank (first_node (system_of b)) ((zones_of b).enter (zones_of b).top),
         );
       };
       stops = stays (take-later (system_of b) (zones_of b) capacity capacity 0 state) whole shown;

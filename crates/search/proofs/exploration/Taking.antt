@@ -19,7 +19,7 @@ use Rattle.automata.specs.Accepted.{Accepted}
 use Rattle.automata.specs.Automata.{clocks, edges, to}
 use Rattle.search.specs.Exploring.{SoundState, SoundNode, SoundZone, Shown, Live, Going, Continues, node_at}
 use Rattle.search.specs.Instance.{ZoneState, ZoneNode, zones_of, following}
-use Rattle.reachability.specs.Search.{Came, by_edge, Nth, expand, take-from}
+use Rattle.reachability.specs.Search.{Came, by_edge, Nth, expand, take_from}
 use Rattle.automata.specs.Semantics.{system_of}
 use Rattle.slots.specs.Slots.{slot_length, p_at, zone_of}
 use Rattle.reachability.proofs.Accounts.{expand_drops}
@@ -48,7 +48,7 @@ module _ {x : ℤ} {l : ℕ} (h : SFits w32 x) (e : x ≡ pos l) where
 
 module _ (b : List ℕ) (capacity : ℕ) where
   abbrev pub taken : ℕ → ℕ → ZoneState → ZoneState
-  taken left next q = take-from (system_of b) (zones_of b) capacity left next q
+  taken left next q = take_from (system_of b) (zones_of b) capacity left next q
 
   -- ---- with the first `next` nodes taken: a state that goes on, from which the rest leads where the whole does
   pub record Onward (s₀ : List ℤ) (q₀ : ZoneState) (next : ℕ) (s : List ℤ) (t : Turn) : Type 0 where
