@@ -3,17 +3,10 @@
 use Prim.Native.Nat.{ℕ, ◌+◌, ◌*◌, ◌<◌, ◌≤◌}
 use mathlib.Core.List.{List}
 use lib.ListN.{length}
-use native.Mathlib.Nat.{mul-le-mul, mul-le-mul_left, mul-le-mul_right, mul-suc, suc-mul}
+use native.Mathlib.Nat.{mul-le-mul_left, mul-le-mul_right, mul-suc, suc-mul}
 use native.Mathlib.Omega.{arith}
 use Rattle.automata.specs.Accepted.{Complete}
 use Rattle.automata.specs.Automata.{clocks, locations, edges, invariant_in, edge_in, invariant_at, edge_at}
-
--- the products of two bytes, and of 16 bits and a byte, fit
-pub table_size : (n m : ℕ) → n < 256 → m < 256 → 8 * n * m ≤ 520200
-table_size n m h g = mul-le-mul {n₂ = 2040} {m₂ = 255} (omega arith) (omega arith)
-
-pub rows_size : (i n : ℕ) → i < 65536 → n < 256 → i * (3 + 8 * n) ≤ 133888005
-rows_size i n h g = mul-le-mul {n₂ = 65535} {m₂ = 2043} (omega arith) (omega arith)
 
 module _ (s : List ℕ) (complete : Complete s) where
   pub invariant_within : (l : ℕ) → l < locations s → invariant_at s l + 8 * clocks s ≤ length s

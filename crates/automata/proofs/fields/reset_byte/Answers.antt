@@ -1,0 +1,10 @@
+-- The reset byte of an edge lies within the bytes, where the definition reads it.
+use native.Mathlib.Omega.{arith}
+use Rattle.automata.proofs.fields.Places.{edge-within}
+use Rattle.automata.proofs.fields.reset_byte.Goals as goal
+
+pub overflow_add-result : goal.overflow_add-result
+overflow_add-result c = omega (arith, edge-within _ c.requires.complete _ c.requires.i_bound)
+
+pub bounds-automaton-at : goal.bounds-automaton-at
+bounds-automaton-at c = omega (arith, edge-within _ c.requires.complete _ c.requires.i_bound)
