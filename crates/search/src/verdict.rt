@@ -9,7 +9,7 @@ ghost use Rattle.search.specs.Verdicts.{holding_of, numbers_of, verdict_of, soun
 // Up to which error an automaton holds.
 #[derive(Clone, Copy)]
 pub enum Holding {
-    anyhow::Error,
+    AnyError,
     Below(Fraction),
 }
 
