@@ -71,3 +71,8 @@ returns c =
     let live = c.if-met.false in
     gives_of _ _ _ _ _ _ (edge_to _ a _ hi _ c.requires.going.1 c.requires.going.2 (met (goal.at.returns c).After-narrow-met) live c.requires.accepted.2)
     (follows _ a _ hi _ c.requires.going.1 c.requires.going.2 (met (goal.at.returns c).After-narrow-met) live c.requires.accepted.2) c.arrive.ensures
+
+pub overflow_add-at : goal.overflow_add-at
+overflow_add-at c =
+    let at = (goal.at.overflow_add-at c).After-edge_at-at in
+    omega (arith, place≡ at, inside at)

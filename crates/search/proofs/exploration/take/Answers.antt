@@ -1,6 +1,6 @@
 -- The kept zones are taken oldest first, each once: each turn of the loop is one of the definition's.
 -- Assumes nothing.
-use Prim.Native.Nat.{ℕ, suc, ◌+◌, ◌*◌, ◌-◌, ◌≤◌, ◌<◌}
+use Prim.Native.Nat.{ℕ, suc, ◌+◌, ◌*◌, ◌≤◌, ◌<◌}
 use mathlib.Core.Path.{◌≡◌, sym, ap, ◌∙◌}
 use mathlib.Core.List.{List}
 use lib.IntN.{ℤ}
@@ -12,7 +12,7 @@ use Rattle.search.specs.Instance.{ZoneState}
 use Rattle.slots.specs.Slots.{slot_length}
 use Rattle.automata.proofs.fields.Counting.{size≡, few_clocks}
 use Rattle.search.proofs.exploration.Judging.{live-length, going_length}
-use Rattle.search.proofs.exploration.Taking.{read_location, Onward, Turned, begins, ends, onward, few, slot_inside, location}
+use Rattle.search.proofs.exploration.Taking.{read_location, reads_location, Onward, Turned, begins, ends, onward, few, slot_inside, location}
 use Rattle.search.proofs.exploration.Taking.{asks_decode, onward_few, sound_zone, turned}
 use borrow.Author.Rules.{rules}
 use Rattle.search.proofs.exploration.take.Goals as goal
@@ -63,7 +63,7 @@ slice_bounds-decode-start c = omega (arith, inside (goal.at.slice_bounds-decode-
 pub decode-z-requires : goal.decode-z-requires
 decode-z-requires c =
     let q = asks_decode c.requires.0 (on (goal.at.decode-z-requires c).At-loop-next) c.loop-next-test.true
-        (place≡ (goal.at.decode-z-requires c).In-loop-next) c.requires.1.long in
+    (place≡ (goal.at.decode-z-requires c).In-loop-next) c.requires.1.long in
     rw c.loop-next.invariant.0 (record { size_bound = q.0; by_index = q.1 })
 
 pub expand-t-requires : goal.expand-t-requires
@@ -124,3 +124,16 @@ overflow_add-size c = omega (arith, few-of (goal.at.overflow_add-size c).After-c
 
 pub slot_length-stride-requires : goal.slot_length-stride-requires
 slot_length-stride-requires c = omega (arith, few-of (goal.at.slot_length-stride-requires c).After-counts_of-size)
+
+pub overflow_cast-l : goal.overflow_cast-l
+overflow_cast-l c =
+    reads_location (search rules) (location c.requires.0 (on (goal.at.overflow_cast-l c).At-loop-next) c.loop-next-test.true
+    (place≡ (goal.at.overflow_cast-l c).In-loop-next))
+
+pub offset_bounds-store-at-in-loop-next : goal.offset_bounds-store-at-in-loop-next
+offset_bounds-store-at-in-loop-next c =
+    let steps = goal.at.offset_bounds-store-at-in-loop-next c in
+    omega (arith, inside steps.In-loop-next, now steps.At-loop-next)
+
+pub slice_bounds-decode-count : goal.slice_bounds-decode-count
+slice_bounds-decode-count c = omega (arith, inside (goal.at.slice_bounds-decode-count c).In-loop-next)

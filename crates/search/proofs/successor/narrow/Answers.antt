@@ -2,7 +2,6 @@
 -- Assumes nothing.
 use Prim.Native.Nat.{◌+◌}
 use mathlib.Core.Path.{refl}
-use mathlib.Core.Logic.{⊎_elim}
 use Rattle.zones.specs.Settled.{Begun}
 use Rattle.search.proofs.successor.Stepping.{one_more, met_is, met_ready, none_begun, all_begun}
 use Rattle.search.proofs.successor.narrow.Goals as goal
