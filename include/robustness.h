@@ -1,5 +1,5 @@
 /* The search for the robustness of timed automata, the run by which it reaches, and the cache of its verdicts (crate exports,
- * `rt staticlib exports`).
+ * `rt lib` in crates/exports).
  *
  * An automaton is a string of bytes, document 01's card; a cache is one, document 01's shelf (docs/FORMAT.md). Any bytes may be
  * passed, and none need checking before. Each pointer comes with a length:

@@ -11,7 +11,12 @@ give_up() {
 # build_library [CRATE]: the proved library of exports, or of another crate. The gate has built them for all tests: rt takes its time even
 # where nothing has changed.
 build_library() {
-    [ "${LIBRARY_BUILT:-}" = yes ] || rt staticlib "${1:-exports}" </dev/null || give_up 'the library is not proved and built'
+    [ "${LIBRARY_BUILT:-}" = yes ] || (cd "crates/${1:-exports}" && rt lib) </dev/null || give_up 'the library is not proved and built'
+}
+
+# The proved program, by running it, since rt has no command that only builds one. Where nothing has changed it is not proved again.
+build_program() {
+    (cd crates/robustness && rt run) </dev/null >/dev/null || give_up 'the program is not proved and built'
 }
 
 # run_program FILE ARGUMENT..: a program in the test's folder, with what rt built.
@@ -24,8 +29,8 @@ run_program() {
     room=$(mktemp -d) || give_up 'no temporary folder'
     trap 'rm -rf "$room"' EXIT
     # Overflow checks: what a second search or cache computes must stop rather than wrap.
-    rustc --edition 2021 -O -C overflow-checks=on -L native=target/staticlib -o "$room/program" "$here/$file" ||
-        give_up "$file is not compiled"
+    rustc --edition 2021 -O -C overflow-checks=on -L native=crates/exports/out -L native=crates/encoding_exports/out \
+        -o "$room/program" "$here/$file" || give_up "$file is not compiled"
     "$room/program" "$@"
     status=$?
     # 0 and 1 come with the closing line; anything else is a program that broke off.
