@@ -2,7 +2,7 @@
 ghost use Rattle.std.specs.Prelude.{◌≡◌, ◌++◌, ◌+◌, ◌≤◌, length};
 ghost use Rattle.robustness.specs.Lines.{Writing, Behind, text_of, decimal, holding_text, verdict_text, findings_text, line_of};
 
-use bytes::copy;
+use itoa::write_digits;
 use search::verdict::{Findings, Holding, Verdict};
 
 // A line that is being written: the first `length` bytes have been.
@@ -19,11 +19,9 @@ fn with_text(line: Line, text: &[u8]) -> Line
 {
     let mut bytes = line.bytes;
     let at = line.length;
-    let copied = copy(text, &mut bytes[at..]);
-    Line {
-        bytes,
-        length: at + copied,
-    }
+    let end = at + text.len();
+    bytes[at..end].copy_from_slice(text);
+    Line { bytes, length: end }
 }
 
 fn with_number(line: Line, n: u64) -> Line
@@ -31,8 +29,8 @@ fn with_number(line: Line, n: u64) -> Line
     ensures { Behind line (decimal n) 20 result }
 {
     let mut digits = [0u8; 20];
-    let k = io::decimal(n, &mut digits);
-    with_text(line, &digits[..k])
+    let first = write_digits(n, &mut digits, 20);
+    with_text(line, &digits[first..])
 }
 
 fn with_holding(line: Line, h: Holding) -> Line
