@@ -1,25 +1,23 @@
 -- A text behind a line.
 -- Assumes nothing.
-use Prim.Native.Nat.{ℕ, ◌+◌, ◌-◌, ◌≤◌}
+use Prim.Native.Nat.{ℕ, ◌+◌, ◌≤◌}
 use mathlib.Core.List.{List, ◌++◌, append_assoc}
 use mathlib.Core.Path.{◌≡◌, sym, ap, ◌∙◌}
 use lib.ListN.{length, take, drop}
 use lib.Seq.{paste, length-paste, take-paste, take_all}
 use native.Mathlib.Omega.{arith}
-use Rattle.encoding.proofs.Lent.{lent_tail}
+use Rattle.encoding.specs.Placing.{placed}
+use Rattle.encoding.proofs.Placed.{part_placed}
 use Rattle.robustness.specs.declared.line.Line.{Line}
 use Rattle.robustness.specs.Lines.{Behind, text_of}
 
 -- ---- what a copy into the part behind the line leaves
-pub copied : (l : Line) (t ys : List ℕ) {i : ℕ} → length l.bytes ≡ 136 → i ≡ length t
-    → ys ≡ take (length t) t ++ drop (length t) (take (136 - l.length) (drop l.length l.bytes))
-    → take l.length l.bytes ++ (ys ++ drop (136 - l.length) (drop l.length l.bytes)) ≡ paste l.bytes l.length t i
-copied l t ys full e g =
-    let b = l.bytes in
-    let at = l.length in
-    let h : ys ≡ take (length t) t ++ drop (length t) (take (length b - at) (drop at b)) = rw full g in
-    rw full at (lent_tail b ys (take (length t) t) at (length t) h)
-    ∙ sym (append_assoc (take at b) (take (length t) t) (drop (at + length t) b)) ∙ ap (paste b at t) (sym e)
+pub copied : (l : Line) (t ys : List ℕ) {n : ℕ} → n ≡ length t → ys ≡ t
+    → take l.length l.bytes ++ (ys ++ drop n (drop l.length l.bytes)) ≡ paste l.bytes l.length t (length t)
+unfolding placed
+copied l t ys e g =
+    part_placed l.bytes t l.length _ e g
+    ∙ rw (take_all (length t) t (omega arith)) (sym (append_assoc (take l.length l.bytes) t (drop (l.length + length t) l.bytes)))
 
 -- the text is behind the line
 pub pasted : (l : Line) (t : List ℕ) (i : ℕ) (bytes : List ℕ) → length l.bytes ≡ 136 → l.length + length t ≤ 136
