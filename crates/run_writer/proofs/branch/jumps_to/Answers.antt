@@ -15,29 +15,30 @@ loop-from-init c =
     (pre.1, omega arith, omega (arith, left_most pre.1, pre.1.most, few pre.0))
 
 -- ---- in a turn
-module _ (c : In-loop-from) where
-  goes : is_along c.loop-from.from ≡ true
-  goes = sym c.is_along.ensures ∙ c.loop-from-test.true
+goes : (c : In-loop-from) → is_along c.loop-from.from ≡ true
+goes c = sym c.is_along.ensures ∙ c.loop-from-test.true
 
 -- ---- with the origin of the slot
-module _ (c : After-origin_before-from) where
-  shorter : left_of c.origin_before-from.result < left_of c.loop-from.from
-  shorter = nearer c.requires.0 c.loop-from.invariant.0 ((let it : is_along c.loop-from.from ≡ true = sym c.is_along.ensures ∙ c.loop-from-test.true in it)) c.origin_before-from.ensures
+shorter : (c : After-origin_before-from) → left_of c.origin_before-from.result < left_of c.loop-from.from
+shorter c =
+    let on : is_along c.loop-from.from ≡ true = sym c.is_along.ensures ∙ c.loop-from-test.true in
+    nearer c.requires.0 c.loop-from.invariant.0 on c.origin_before-from.ensures
 
 pub loop-from-preserved : goal.loop-from-preserved
 loop-from-preserved c =
+    let on = goes (goal.at.loop-from-preserved c).In-loop-from in
     let inv = c.loop-from.invariant in (
-      next c.requires.0 inv.0 (goes (goal.at.loop-from-preserved c).In-loop-from) c.origin_before-from.ensures,
-      omega (arith, inv.1, fewer c.requires.0 inv.0 (goes (goal.at.loop-from-preserved c).In-loop-from) c.origin_before-from.ensures),
+      next c.requires.0 inv.0 on c.origin_before-from.ensures,
+      omega (arith, inv.1, fewer c.requires.0 inv.0 on c.origin_before-from.ensures),
       omega (arith, inv.2, shorter (goal.at.loop-from-preserved c).After-origin_before-from),
     )
+
+pub loop-from-smaller : goal.loop-from-smaller
+loop-from-smaller c = shorter (goal.at.loop-from-smaller c).After-origin_before-from
 
 pub returns : goal.returns
 returns c =
     omega (arith, c.loop-from.invariant.1, none_left c.loop-from.invariant.0 (sym c.is_along.ensures ∙ c.loop-from-test.false))
-
-pub is_along-requires : goal.is_along-requires
-is_along-requires c = tt
 
 pub origin_before-from-requires : goal.origin_before-from-requires
 origin_before-from-requires c = (c.requires.0, c.loop-from.invariant.0, goes (goal.at.origin_before-from-requires c).In-loop-from)

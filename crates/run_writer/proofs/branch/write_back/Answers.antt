@@ -9,7 +9,6 @@ use native.Mathlib.Omega.{arith}
 use Rattle.runs.specs.Limits.{scale}
 use Rattle.slots.specs.Slots.{is_along}
 use Rattle.witness.specs.Sizes.{AllUpTo}
-use Rattle.run_writer.specs.Branch.{Ended, Standing}
 use Rattle.run_writer.proofs.branch.Filling.{fill_none, fill_turn, fill_all, crosses_back, back-small, last_small}
 use Rattle.run_writer.proofs.branch.Stepping.{next, fewer}
 use Rattle.run_writer.proofs.branch.Walking.{along, goes_on, asks_edge}
@@ -25,50 +24,83 @@ two-set l i j x y = length-set (set l i x) j y ∙ length-set l i x
 run_fits : (c : Start) → Fits w64 (length c.args.run.now * 8)
 run_fits c = search rules
 
+pub last_state-v-requires : goal.last_state-v-requires
+last_state-v-requires c = c.requires.ended
+
 pub loop-left-init : goal.loop-left-init
 loop-left-init c =
-    let pre = c.requires.WHOLE in
+    let pre = c.requires.ended in
+    let many = c.requires.k_value.0 in
     let last = c.last_state-v.ensures in
-    (omega arith, refl, pre.0.1, pre.1.0, last_small pre.0.0 pre.0.1 last, fill_none _ pre.1.0 last)
+    (omega arith, refl, pre.1, many, last_small pre.0 pre.1 last, fill_none _ many last)
 
 -- ---- in a turn
-module _ (c : In-loop-left) where
-  abbrev ended : Ended c.args.automaton.now c.args.amount c.args.store.now
-  ended = c.requires.ended.0
-
-  abbrev stands : Standing c.args.automaton.now c.args.amount c.loop-left.from
-  stands = c.loop-left.invariant.2
-
-  goes : is_along c.loop-left.from ≡ true
-  goes = goes_on stands c.loop-left-test.true c.loop-left.invariant.3
+goes : (c : In-loop-left) → is_along c.loop-left.from ≡ true
+goes c = goes_on c.loop-left.invariant.2 c.loop-left-test.true c.loop-left.invariant.3
 
 pub edge-edge-requires : goal.edge-edge-requires
 edge-edge-requires c =
-    asks_edge (stands (goal.at.edge-edge-requires c).In-loop-left) (along (stands (goal.at.edge-edge-requires c).In-loop-left) (goes (goal.at.edge-edge-requires c).In-loop-left))
+    let stands = c.loop-left.invariant.2 in
+    asks_edge stands (along stands (goes (goal.at.edge-edge-requires c).In-loop-left))
+
+pub zone_before-z-requires : goal.zone_before-z-requires
+zone_before-z-requires c = (c.requires.ended.0, c.loop-left.invariant.2, goes (goal.at.zone_before-z-requires c).In-loop-left)
+
+pub back_along-back-requires : goal.back_along-back-requires
+back_along-back-requires c =
+    let ended = c.requires.ended.0 in
+    let inv = c.loop-left.invariant in
+    let on = goes (goal.at.back_along-back-requires c).In-loop-left in
+    (ended.accepted, crosses_back ended inv.2 on c.edge-edge.ensures c.zone_before-z.ensures, inv.4)
 
 -- ---- with the step back
 module _ (c : After-back_along-back) where
   small : (c.edge-edge.result < 256) × (c.back_along-back.result.wait ≤ 2 * scale) × AllUpTo scale c.back_along-back.result.state
   small =
-      back-small ((let it : Ended c.args.automaton.now c.args.amount c.args.store.now = c.requires.ended.0 in it)) ((let it : Standing c.args.automaton.now c.args.amount c.loop-left.from = c.loop-left.invariant.2 in it)) ((let it : is_along c.loop-left.from ≡ true = goes_on stands c.loop-left-test.true c.loop-left.invariant.3 in it)) c.loop-left.v c.loop-left.invariant.4 c.edge-edge.ensures
-      c.zone_before-z.ensures c.back_along-back.ensures
+      let inv = c.loop-left.invariant in
+      let on : is_along c.loop-left.from ≡ true = goes_on inv.2 c.loop-left-test.true inv.3 in
+      back-small c.requires.ended.0 inv.2 on c.loop-left.v inv.4 c.edge-edge.ensures c.zone_before-z.ensures c.back_along-back.ensures
 
-  room : 2 * c.loop-left.false + 2 ≤ length c.loop-left.run
+  room : 2 * c.loop-left.left + 2 ≤ length c.loop-left.run
   room = omega (arith, c.loop-left.invariant.0, c.loop-left.invariant.1, c.requires.k_value.1)
+
+pub overflow_mul-left : goal.overflow_mul-left
+overflow_mul-left c =
+    let at = goal.at.overflow_mul-left c in
+    omega (arith, room at.After-back_along-back, c.loop-left.invariant.1, run_fits at.Start)
+
+pub put_two-requires : goal.put_two-requires
+put_two-requires c =
+    let at = (goal.at.put_two-requires c).After-back_along-back in
+    let few = small at in
+    (omega (arith, room at), omega (arith, few.0), omega (arith, few.1))
+
+pub origin_before-from-requires : goal.origin_before-from-requires
+origin_before-from-requires c =
+    (c.requires.ended.0, c.loop-left.invariant.2, goes (goal.at.origin_before-from-requires c).In-loop-left)
 
 pub loop-left-preserved : goal.loop-left-preserved
 loop-left-preserved c =
+    let ended = c.requires.ended.0 in
     let inv = c.loop-left.invariant in
+    let on = goes (goal.at.loop-left-preserved c).In-loop-left in
     let p = c.origin_before-from.ensures in (
       omega (arith, inv.0),
       ap length c.put_two.ensures ∙ two-set c.loop-left.run _ _ _ _ ∙ inv.1,
-      next (ended (goal.at.loop-left-preserved c).In-loop-left) (stands (goal.at.loop-left-preserved c).In-loop-left) (goes (goal.at.loop-left-preserved c).In-loop-left) p,
-      omega (arith, inv.3, c.loop-left-test.true, fewer (ended (goal.at.loop-left-preserved c).In-loop-left) (stands (goal.at.loop-left-preserved c).In-loop-left) (goes (goal.at.loop-left-preserved c).In-loop-left) p),
+      next ended inv.2 on p,
+      omega (arith, inv.3, c.loop-left-test.true, fewer ended inv.2 on p),
       (small (goal.at.loop-left-preserved c).After-back_along-back).2,
       rw c.put_two.ensures
-          (fill_turn (ended (goal.at.loop-left-preserved c).In-loop-left) (stands (goal.at.loop-left-preserved c).In-loop-left) (goes (goal.at.loop-left-preserved c).In-loop-left) c.loop-left.false c.loop-left-test.true (omega (arith, inv.0, c.requires.k_value.1)) inv.5
+          (fill_turn ended inv.2 on c.loop-left.left c.loop-left-test.true (omega (arith, inv.0, c.requires.k_value.1)) inv.5
           c.edge-edge.ensures c.zone_before-z.ensures c.back_along-back.ensures p),
     )
+
+-- ---- after the loop
+pub overflow_mul-k : goal.overflow_mul-k
+overflow_mul-k c = omega (arith, c.requires.k_value.1, run_fits (goal.at.overflow_mul-k c).Start)
+
+pub overflow_add-k : goal.overflow_add-k
+overflow_add-k c = omega (arith, c.requires.k_value.1, run_fits (goal.at.overflow_add-k c).Start)
 
 pub put_two-requires-2 : goal.put_two-requires-2
 put_two-requires-2 c =
@@ -85,33 +117,3 @@ pub returns : goal.returns
 returns c =
     c.put_two-2.ensures
     ∙ fill_all (omega (arith, c.loop-left-test.false)) (omega (arith, c.requires.k_value.1)) c.loop-left.invariant.5
-
-pub last_state-v-requires : goal.last_state-v-requires
-last_state-v-requires c = c.requires.ended
-
-pub zone_before-z-requires : goal.zone_before-z-requires
-zone_before-z-requires c = (ended (goal.at.zone_before-z-requires c).In-loop-left, stands (goal.at.zone_before-z-requires c).In-loop-left, goes (goal.at.zone_before-z-requires c).In-loop-left)
-
-pub back_along-back-requires : goal.back_along-back-requires
-back_along-back-requires c = ((ended (goal.at.back_along-back-requires c).In-loop-left).accepted, crosses_back (ended (goal.at.back_along-back-requires c).In-loop-left) (stands (goal.at.back_along-back-requires c).In-loop-left) (goes (goal.at.back_along-back-requires c).In-loop-left) c.edge-edge.ensures c.zone_before-z.ensures, c.loop-left.invariant.4)
-
-pub overflow_mul-left : goal.overflow_mul-left
-overflow_mul-left c = omega (arith, room (goal.at.overflow_mul-left c).After-back_along-back, c.loop-left.invariant.1, run_fits (goal.at.overflow_mul-left c).Start)
-
-pub put_two-requires : goal.put_two-requires
-put_two-requires c = (omega (arith, room (goal.at.put_two-requires c).After-back_along-back), omega (arith, (small (goal.at.put_two-requires c).After-back_along-back).0), omega (arith, (small (goal.at.put_two-requires c).After-back_along-back).1))
-
-pub origin_before-from-requires : goal.origin_before-from-requires
-origin_before-from-requires c = (ended (goal.at.origin_before-from-requires c).In-loop-left, stands (goal.at.origin_before-from-requires c).In-loop-left, goes (goal.at.origin_before-from-requires c).In-loop-left)
-
-pub overflow_sub-left : goal.overflow_sub-left
-overflow_sub-left c = omega (arith, c.loop-left-test.true)
-
-pub loop-left-smaller : goal.loop-left-smaller
-loop-left-smaller c = omega (arith, c.loop-left-test.true)
-
-pub overflow_mul-k : goal.overflow_mul-k
-overflow_mul-k c = omega (arith, c.requires.k_value.1, run_fits (goal.at.overflow_mul-k c).Start)
-
-pub overflow_add-k : goal.overflow_add-k
-overflow_add-k c = omega (arith, c.requires.k_value.1, run_fits (goal.at.overflow_add-k c).Start)

@@ -32,7 +32,9 @@ module _ (c : After-slot_length) where
 pub decode-requires : goal.decode-requires
 decode-requires c =
     let pre = c.requires in
-    asks_decode pre.0 pre.1 pre.2 c.slot.ensures (stride≡ (goal.at.decode-requires c).After-slot_length) (indices≡ (goal.at.decode-requires c).After-slot_length)
+    let at = (goal.at.decode-requires c).After-slot_length in
+    let asks = asks_decode pre.0 pre.1 pre.2 c.slot.ensures (stride≡ at) (indices≡ at) in
+    record { size_bound = asks.0; by_index = asks.1 }
 
 pub returns : goal.returns
 returns c =

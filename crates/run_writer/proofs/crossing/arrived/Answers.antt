@@ -48,7 +48,7 @@ narrow-requires c =
 pub returns : goal.returns
 unfolding invariant_of
 returns c =
-    meets _ _ (at≡ (goal.at.returns c).After-cleared) (size≡ (goal.at.returns c).After-cleared) c.narrow.ensures ∙ ap (meet_of _ _) (c≡ c)
+    meets _ _ (at≡ (goal.at.returns c).After-cleared) (size≡ (goal.at.returns c).After-cleared) c.narrow.ensures ∙ ap (meet_of _ _) (reset≡ (goal.at.returns c).After-cleared)
 
 pub counts_of-counts-requires : goal.counts_of-counts-requires
 counts_of-counts-requires c = c.requires.accepted.0

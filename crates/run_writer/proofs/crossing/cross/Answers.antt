@@ -12,7 +12,8 @@ guarded-met-requires c = let pre = c.requires in (pre.0, pre.1.edge, pre.1.sound
 pub arrived-entered-requires : goal.arrived-entered-requires
 arrived-entered-requires c =
     let pre = c.requires in
-    arrived_asks _ pre.0 _ _ pre.1 c.edge_of-edge.ensures c.guarded-met.ensures
+    let asks = arrived_asks _ pre.0 _ _ pre.1 c.edge_of-edge.ensures c.guarded-met.ensures in
+    record { accepted = asks.0; sized = asks.1 }
 
 pub returns : goal.returns
 returns c =
