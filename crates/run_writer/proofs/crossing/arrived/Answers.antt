@@ -1,0 +1,63 @@
+-- `arrived` meets its contract: a settled zone in range is reset, and the invariant is met.
+-- Assumes nothing.
+use Prim.Native.Nat.{ℕ, suc, ◌*◌, ◌≤◌}
+use mathlib.Core.Path.{◌≡◌, ap, ◌∙◌}
+use native.Mathlib.Omega.{arith}
+use Rattle.zones.specs.Ranges.{Sized, counts}
+use Rattle.zones.specs.Settled.{Settled}
+use Rattle.zones.specs.Successors.{meet_of}
+use Rattle.zones.specs.Zones.{set_of, reset_of}
+use Rattle.automata.specs.Automata.{clocks, invariant_at, invariant_of}
+use Rattle.automata.proofs.fields.Counting.{clocks≡, invariant≡, few_clocks, asks_invariant}
+use Rattle.automata.proofs.fields.Places.{invariant_within}
+use Rattle.search.proofs.successor.Stepping.{one_more, meets, asks_limits, reset_is, reset_enters, invariant_scale}
+use Rattle.run_writer.proofs.crossing.arrived.Goals as goal
+use Rattle.run_writer.proofs.crossing.arrived.Goals.{After-cleared, After-counts_of-counts}
+
+few : (c : After-counts_of-counts) → c.counts_of-counts.result.clocks ≤ 8
+few c = few_clocks _ c.counts_of-counts.ensures c.requires.accepted.0
+
+-- ---- with the clocks reset
+module _ (c : After-cleared) where
+  size≡ : c.counts_of-counts.result.clocks ≡ clocks c.args.automaton.now
+  size≡ = clocks≡ _ c.counts_of-counts.ensures
+
+  at≡ : c.invariant_at-at.result ≡ invariant_at c.args.automaton.now c.args.l
+  at≡ = invariant≡ _ c.counts_of-counts.ensures _ c.invariant_at-at.ensures
+
+  n≤ : clocks c.args.automaton.now ≤ 8
+  n≤ = c.requires.accepted.0.complete.clocks≤
+
+  abbrev size : ℕ
+  size = suc (clocks c.args.automaton.now)
+
+  reset≡ : c.cleared.result ≡ reset_of size (set_of c.args.resets) c.args.w
+  reset≡ = reset_is _ n≤ _ (one_more size≡) (10 * counts) (omega arith) (omega arith) _ c.cleared.ensures
+
+  ready : Sized (10 * counts) size c.cleared.result × Settled size c.cleared.result
+  ready = reset_enters _ n≤ _ (one_more size≡) (10 * counts) (omega arith) (omega arith) _ c.cleared.ensures c.requires.sized
+
+pub narrow-requires : goal.narrow-requires
+unfolding invariant_of
+narrow-requires c =
+    let a = c.requires.accepted.0 in
+    let hl = c.requires.accepted.1 in
+    let q = asks_limits _ _ (at≡ (goal.at.narrow-requires c).After-cleared) (size≡ (goal.at.narrow-requires c).After-cleared) (n≤ (goal.at.narrow-requires c).After-cleared) (invariant_within _ a.complete _ hl) (invariant_scale _ a _ hl) (omega arith) (ready (goal.at.narrow-requires c).After-cleared).0 in
+    record { accepted = a; c_bound = q.0; on_scale = q.1; settled = λ e. rw (size≡ (goal.at.narrow-requires c).After-cleared) (ready (goal.at.narrow-requires c).After-cleared).1 }
+
+pub returns : goal.returns
+unfolding invariant_of
+returns c =
+    meets _ _ (at≡ (goal.at.returns c).After-cleared) (size≡ (goal.at.returns c).After-cleared) c.narrow.ensures ∙ ap (meet_of _ _) (reset≡ (goal.at.returns c).After-cleared)
+
+pub counts_of-counts-requires : goal.counts_of-counts-requires
+counts_of-counts-requires c = c.requires.accepted.0
+
+pub invariant_at-at-requires : goal.invariant_at-at-requires
+invariant_at-at-requires c = let pre = c.requires.accepted in asks_invariant _ c.counts_of-counts.ensures pre.0 pre.1
+
+pub overflow_add-c : goal.overflow_add-c
+overflow_add-c c = omega (arith, few (goal.at.overflow_add-c c).After-counts_of-counts)
+
+pub cleared-requires : goal.cleared-requires
+cleared-requires c = omega (arith, few (goal.at.cleared-requires c).After-counts_of-counts)

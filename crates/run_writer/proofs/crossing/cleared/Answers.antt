@@ -1,0 +1,88 @@
+-- Place by place, each has its home's entry.
+use Prim.Native.Nat.{ℕ, ◌+◌, ◌-◌, ◌*◌, ◌/◌, ◌%◌, ◌<◌}
+use mathlib.Core.Bool.{Bool}
+use mathlib.Core.List.{List}
+use mathlib.Core.Path.{◌≡◌, refl, ap, ◌∙◌}
+use lib.ListN.{get_or, set}
+use native.Mathlib.Numerals.{add-one}
+use native.Mathlib.Omega.{arith}
+use Rattle.zones.specs.declared.pair.Pair.{Pair}
+use Rattle.zones.specs.declared.zone.Work.{Work}
+use Rattle.zones.specs.Pairs.{zero_pair}
+use Rattle.zones.specs.Zones.{pair_at, set_of, home, reset_places, reset_of}
+use Rattle.zones.proofs.places.Places.{home_below}
+use Rattle.run_writer.proofs.crossing.cleared.Goals as goal
+use Rattle.run_writer.proofs.crossing.cleared.Goals.{After-home, After-home-in-loop-k, In-loop-k}
+
+-- one place more
+place-more : (R : ℕ → Bool) (old : List Pair) (k : ℕ) {zone : List Pair} {a b : ℕ} → zone ≡ reset_places R old k old → a ≡ home R (k / 9)
+    → b ≡ home R (k % 9) → set zone k (get_or old (a * 9 + b) zero_pair) ≡ reset_places R old (k + 1) old
+unfolding reset_places pair_at
+place-more R old k e f g = rw (add-one k, e, f, g)
+
+all-places : (R : ℕ → Bool) (w : Work) (size : ℕ) {k : ℕ} {zone : List Pair} → k ≡ size * 9 → zone ≡ reset_places R w.zone k w.zone
+    → record { zone = zone; fraction = w.fraction } ≡ reset_of size R w
+unfolding reset_of
+all-places R w size e f = let g = f ∙ ap (λ (k : ℕ). reset_places R w.zone k w.zone) e in λ i. record { zone = g i; fraction = w.fraction }
+
+-- ---- in a turn
+module _ (c : In-loop-k) where
+  within : c.loop-k.k < 81
+  within = omega (arith, c.loop-k.invariant.0, c.loop-k-test.true, c.requires)
+
+-- ---- with both homes
+module _ (c : After-home-in-loop-k) where
+  there : (c.home.result < 9) × (c.home-in-loop-k.result < 9)
+  there = (
+    rw c.home.ensures (home_below _ 9 _ (omega (arith, (let it : c.loop-k.k < 81 = omega (arith, c.loop-k.invariant.0, c.loop-k-test.true, c.requires) in it)))),
+    rw c.home-in-loop-k.ensures (home_below _ 9 _ (omega arith)),
+  )
+
+row-there : (c : After-home) → c.home.result < 9
+row-there c = rw c.home.ensures (home_below _ 9 _ (omega (arith, (let it : c.loop-k.k < 81 = omega (arith, c.loop-k.invariant.0, c.loop-k-test.true, c.requires) in it))))
+
+pub loop-k-init : goal.loop-k-init
+unfolding reset_places
+loop-k-init c = (refl, omega arith, refl)
+
+pub loop-k-preserved : goal.loop-k-preserved
+loop-k-preserved c = (
+  refl,
+  omega (arith, c.loop-k-test.true, c.loop-k.invariant.0),
+  place-more _ _ _ c.loop-k.invariant.2 c.home.ensures c.home-in-loop-k.ensures,
+)
+
+pub returns : goal.returns
+returns c =
+    all-places (set_of c.args.marked) c.args.w c.args.size
+    (omega (arith, c.loop-k-test.false, c.loop-k.invariant.1)) c.loop-k.invariant.2
+
+pub overflow_mul-last : goal.overflow_mul-last
+overflow_mul-last c = omega (arith, c.requires)
+
+pub home-requires : goal.home-requires
+home-requires c = omega (arith, within (goal.at.home-requires c).In-loop-k)
+
+pub overflow_mul-zone : goal.overflow_mul-zone
+overflow_mul-zone c = omega (arith, row-there (goal.at.overflow_mul-zone c).After-home)
+
+pub overflow_add-zone : goal.overflow_add-zone
+overflow_add-zone c = omega (arith, there (goal.at.overflow_add-zone c).After-home-in-loop-k)
+
+pub offset_bounds-old-home : goal.offset_bounds-old-home
+offset_bounds-old-home c = omega (arith, there (goal.at.offset_bounds-old-home c).After-home-in-loop-k)
+
+pub bounds-old-home : goal.bounds-old-home
+bounds-old-home c = omega (arith, there (goal.at.bounds-old-home c).After-home-in-loop-k)
+
+pub offset_bounds-zone-k : goal.offset_bounds-zone-k
+offset_bounds-zone-k c = omega (arith, within (goal.at.offset_bounds-zone-k c).In-loop-k)
+
+pub bounds-zone-k : goal.bounds-zone-k
+bounds-zone-k c = omega (arith, within (goal.at.bounds-zone-k c).In-loop-k)
+
+pub overflow_add-k : goal.overflow_add-k
+overflow_add-k c = omega (arith, within (goal.at.overflow_add-k c).In-loop-k)
+
+pub loop-k-smaller : goal.loop-k-smaller
+loop-k-smaller c = omega (arith, c.loop-k-test.true)

@@ -1,0 +1,21 @@
+-- `cross` meets its contract: the edge is fetched, the guard met, and the zone arrives.
+-- Assumes nothing.
+use Rattle.run_writer.proofs.crossing.Along.{arrived_asks, crossed}
+use Rattle.run_writer.proofs.crossing.cross.Goals as goal
+
+pub edge_of-edge-requires : goal.edge_of-edge-requires
+edge_of-edge-requires c = let pre = c.requires in (pre.0, pre.1.edge)
+
+pub guarded-met-requires : goal.guarded-met-requires
+guarded-met-requires c = let pre = c.requires in (pre.0, pre.1.edge, pre.1.sound)
+
+pub arrived-entered-requires : goal.arrived-entered-requires
+arrived-entered-requires c =
+    let pre = c.requires in
+    let asks = arrived_asks _ pre.0 _ _ pre.1 c.edge_of-edge.ensures c.guarded-met.ensures in
+    record { accepted = asks.0; sized = asks.1 }
+
+pub returns : goal.returns
+returns c =
+    let pre = c.requires in
+    crossed _ pre.0 _ _ pre.1 c.edge_of-edge.ensures c.guarded-met.ensures c.arrived-entered.ensures
