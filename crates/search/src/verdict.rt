@@ -1,10 +1,10 @@
 // A verdict, and document 01's numbers for it: both directions, and which numbers are those of a verdict.
-use crate::outcome::Dropped;
-use zones::fraction::Fraction;
-use zones::fraction::gcd;
 ghost use Rattle.std.specs.Prelude.{◌≡◌};
 ghost use Rattle.search.specs.Answers.{answer_in};
 ghost use Rattle.search.specs.Verdicts.{holding_of, numbers_of, verdict_of, sound_numbers};
+
+use crate::outcome::Dropped;
+use zones::fraction::{Fraction, gcd};
 
 // Up to which error an automaton holds.
 #[derive(Clone, Copy)]

@@ -1,6 +1,5 @@
 -- `clock_before` meets its contract: of the indices passed that are not reset, the least way counts.
-use Prim.Native.Nat.{◌-◌}
-use mathlib.Core.Path.{◌≡◌, ap, ◌∙◌}
+use mathlib.Core.Path.{ap, ◌∙◌}
 use native.Mathlib.Omega.{arith}
 use Rattle.runs.specs.Limits.{scale}
 use Rattle.zones.specs.declared.pair.Pair.{Pair}
@@ -28,6 +27,3 @@ loop-b-preserved-then-not-resets-b c =
 
 pub loop-b-preserved : goal.loop-b-preserved
 loop-b-preserved c = (omega arith, least_skips _ _ _ _ _ c.loop-b.invariant.1 c.if-not-resets-b.false)
-
-pub returns : goal.returns
-returns c = let e : c.loop-b.b ≡ c.args.size - 1 = omega arith in rw e at c.loop-b.invariant.1

@@ -1,6 +1,5 @@
 -- `state_before` meets its contract: the clocks passed are as before the jump.
-use Prim.Native.Nat.{◌-◌}
-use mathlib.Core.Path.{◌≡◌, refl}
+use mathlib.Core.Path.{refl}
 use native.Mathlib.Omega.{arith}
 use Rattle.witness.specs.Witnesses.{places_of}
 use Rattle.witness.proofs.Turns.{state_next}
@@ -10,11 +9,5 @@ pub loop-x-init : goal.loop-x-init
 unfolding places_of
 loop-x-init c = (omega arith, refl)
 
-pub clock_before-requires : goal.clock_before-requires
-clock_before-requires c = (omega arith, omega arith, c.requires.1, c.requires.2)
-
 pub loop-x-preserved : goal.loop-x-preserved
 loop-x-preserved c = (omega arith, state_next _ _ c.loop-x.invariant.1 c.clock_before.ensures)
-
-pub returns : goal.returns
-returns c = let e : c.loop-x.x ≡ c.args.size - 1 = omega arith in rw e at c.loop-x.invariant.1

@@ -1,6 +1,5 @@
 -- `wait_before` meets its contract: no clock passed is above its bound by more than the wait so far.
-use Prim.Native.Nat.{◌-◌}
-use mathlib.Core.Path.{◌≡◌, refl}
+use mathlib.Core.Path.{refl}
 use native.Mathlib.Omega.{arith}
 use Rattle.runs.specs.Limits.{scale}
 use Rattle.witness.specs.Witnesses.{wait_to}
@@ -17,6 +16,3 @@ less_bound-requires c = (c.requires.1 _, column_spans scale _ _ _ (omega arith) 
 
 pub loop-x-preserved : goal.loop-x-preserved
 loop-x-preserved c = (omega arith, wait_next _ _ _ c.loop-x.invariant.1 c.less_bound.ensures c.larger-wait.ensures)
-
-pub returns : goal.returns
-returns c = let e : c.loop-x.x ≡ c.args.size - 1 = omega arith in rw e at c.loop-x.invariant.1

@@ -1,0 +1,80 @@
+-- The whole search: the first zone arrives at the start, no clock reset, and then the kept zones are taken.
+-- Assumes nothing.
+use Prim.Native.Nat.{ℕ, suc, ◌*◌, ◌≤◌}
+use mathlib.Core.Path.{◌≡◌, refl, sym, ap, ◌∙◌, subst}
+use mathlib.Core.Bool.{false}
+use mathlib.Core.List.{List}
+use lib.ListN.{length, replicate}
+use native.Mathlib.Omega.{arith}
+use Rattle.zones.specs.Ranges.{counts}
+use Rattle.zones.specs.Successors.{enter_of}
+use Rattle.zones.specs.Zones.{first_work, set_of}
+use Rattle.zones.proofs.ranges.Bounding.{first_sized}
+use Rattle.zones.proofs.places.Places.{reset_none}
+use Rattle.zones.proofs.settled.Settling.{first_settled}
+use Rattle.automata.specs.Automata.{clocks, start, invariant_of}
+use Rattle.search.specs.Exploring.{SoundResult, arrival_of}
+use Rattle.search.specs.Store.{capacity_of}
+use Rattle.search.proofs.exploration.Arriving.{gives_of}
+use Rattle.search.proofs.exploration.Beginning.{Begun, blank_going, begun}
+use Rattle.search.proofs.exploration.Judging.{n≤}
+use Rattle.automata.proofs.fields.Resets.{none_reset}
+use Rattle.automata.proofs.fields.Counting.{size≡, few_clocks}
+use Rattle.search.proofs.exploration.Sounding.{start-sound}
+use Rattle.search.proofs.exploration.explore.Goals as goal
+use Rattle.search.proofs.exploration.explore.Goals.{After-arrive-t, After-counts_of, After-first}
+
+few : (c : After-counts_of) → c.counts_of.result.clocks ≤ 8
+few c = few_clocks _ c.counts_of.ensures c.requires
+
+-- ---- with the first zone
+module _ (c : After-first) where
+  abbrev automaton : List ℕ
+  automaton = c.args.automaton.now
+
+  capacity≡ : c.capacity_of-capacity.result ≡ capacity_of (suc (clocks automaton)) (length c.args.store.now)
+  capacity≡ =
+      c.capacity_of-capacity.ensures
+      ∙ ap (λ (n : ℕ). capacity_of n (length c.args.store.now)) (size≡ _ c.counts_of.ensures)
+
+  -- what arrives is the definition's first zone
+  arrived : arrival_of automaton c.start-l.result (set_of (replicate 9 false)) c.first.result
+      ≡ enter_of (clocks automaton) (invariant_of automaton (start automaton)) first_work
+  arrived =
+      (λ i. enter_of (clocks automaton) (invariant_of automaton (c.start-l.ensures i))
+      ((reset_none (suc (clocks automaton)) (set_of (replicate 9 false)) none_reset c.first.result ∙ c.first.ensures) i))
+
+pub arrive-t-requires : goal.arrive-t-requires
+arrive-t-requires c =
+    let a = c.requires in
+    record { accepted = (a, rw c.start-l.ensures a.start<, blank_going a _ (capacity≡ (goal.at.arrive-t-requires c).After-first)); sized = rw c.first.ensures (first_sized (10 * counts) _ (n≤ _ a), first_settled _ (n≤ _ a)); sound_result = (subst (SoundResult _) (sym (arrived (goal.at.arrive-t-requires c).After-first)) (start-sound _ a), record { few = omega arith }) }
+
+-- ---- after the first offer
+offered : (c : After-arrive-t) →
+    Begun ((let it : List ℕ = c.args.automaton.now in it)) c.capacity_of-capacity.result c.args.store.now
+    c.arrive-t.last.1.0 c.arrive-t.result
+offered c = begun c.requires _ ((let it : c.capacity_of-capacity.result ≡ capacity_of (suc (clocks automaton)) (length c.args.store.now) = c.capacity_of-capacity.ensures
+    ∙ ap (λ (n : ℕ). capacity_of n (length c.args.store.now)) (size≡ _ c.counts_of.ensures) in it)) refl c.none.ensures
+    (gives_of _ _ _ _ _ _ c.start-l.ensures ((let it : arrival_of automaton c.start-l.result (set_of (replicate 9 false)) c.first.result ≡ enter_of (clocks automaton) (invariant_of automaton (start automaton)) first_work = (λ i. enter_of (clocks automaton) (invariant_of automaton (c.start-l.ensures i))
+    ((reset_none (suc (clocks automaton)) (set_of (replicate 9 false)) none_reset c.first.result ∙ c.first.ensures) i)) in it)) c.arrive-t.ensures)
+
+pub returns-then-has_ended : goal.returns-then-has_ended
+returns-then-has_ended c =
+    (offered (goal.at.returns-then-has_ended c).After-arrive-t).stops (sym c.has_ended.ensures ∙ c.if-has_ended.true)
+
+pub take-requires : goal.take-requires
+take-requires c =
+    (c.requires, (offered (goal.at.take-requires c).After-arrive-t).goes_on (sym c.has_ended.ensures ∙ c.if-has_ended.false), (offered (goal.at.take-requires c).After-arrive-t).few)
+
+pub returns : goal.returns
+returns c =
+    (offered (goal.at.returns c).After-arrive-t).rest (sym c.has_ended.ensures ∙ c.if-has_ended.false) c.take.ensures
+
+pub counts_of-requires : goal.counts_of-requires
+counts_of-requires c = c.requires
+
+pub overflow_add-counts_of : goal.overflow_add-counts_of
+overflow_add-counts_of c = omega (arith, few (goal.at.overflow_add-counts_of c).After-counts_of)
+
+pub capacity_of-capacity-requires : goal.capacity_of-capacity-requires
+capacity_of-capacity-requires c = omega (arith, few (goal.at.capacity_of-capacity-requires c).After-counts_of)

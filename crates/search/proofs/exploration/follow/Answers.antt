@@ -1,0 +1,78 @@
+-- `follow` meets its contract: the guard is met on a taken zone, which is then empty or arrives.
+-- Assumes nothing.
+use Prim.Native.Nat.{◌+◌, ◌*◌, ◌≤◌}
+use mathlib.Core.Path.{◌≡◌, sym, ap}
+use lib.ListN.{length}
+use native.Mathlib.Omega.{arith}
+use Rattle.zones.specs.Successors.{meet_of}
+use Rattle.runs.proofs.Contradictions.{true_false}
+use Rattle.automata.specs.Automata.{clocks, edge_at, guard_of}
+use Rattle.search.proofs.exploration.Arriving.{gives_of, taken_sized, emptied_fits, follows_none, arrives, edge_to, follows}
+use Rattle.search.proofs.exploration.Arriving.{arrives_sound, arrives_at}
+use Rattle.search.proofs.exploration.Judging.{going_safe}
+use Rattle.automata.proofs.fields.Counting.{clocks≡, edge≡, asks_edge}
+use Rattle.automata.proofs.fields.Places.{edge-within}
+use Rattle.search.proofs.successor.Stepping.{meets, asks_limits, guard_scale}
+use Rattle.search.proofs.exploration.follow.Goals as goal
+use Rattle.search.proofs.exploration.follow.Goals.{After-edge_at-at, After-narrow-met}
+
+pub counts_of-counts-requires : goal.counts_of-counts-requires
+counts_of-counts-requires c = c.requires.accepted.0
+
+pub edge_at-at-requires : goal.edge_at-at-requires
+edge_at-at-requires c = let pre = c.requires.accepted in asks_edge _ c.counts_of-counts.ensures pre.0 pre.1
+
+-- ---- with the place of the guard
+module _ (c : After-edge_at-at) where
+  place≡ : c.edge_at-at.result ≡ edge_at c.args.automaton.now c.args.i
+  place≡ = edge≡ _ c.counts_of-counts.ensures _ c.edge_at-at.ensures
+
+  size≡ : c.counts_of-counts.result.clocks ≡ clocks c.args.automaton.now
+  size≡ = clocks≡ _ c.counts_of-counts.ensures
+
+  inside : edge_at c.args.automaton.now c.args.i + (3 + 8 * clocks c.args.automaton.now)
+      ≤ length c.args.automaton.now
+  inside = edge-within _ c.requires.accepted.0.complete _ c.requires.accepted.1
+
+pub narrow-met-requires : goal.narrow-met-requires
+unfolding guard_of
+narrow-met-requires c =
+    let pre = c.requires.WHOLE in
+    let a = pre.0.0 in
+    let hi = pre.0.1 in
+    let q = asks_limits _ _ (ap (λ x. x + 3) (place≡ (goal.at.narrow-met-requires c).After-edge_at-at)) (size≡ (goal.at.narrow-met-requires c).After-edge_at-at) a.complete.clocks≤ (omega (arith, inside (goal.at.narrow-met-requires c).After-edge_at-at)) (guard_scale _ a _ hi)
+    (omega arith) (taken_sized _ a _ hi _ pre.1.1 pre.1.2) in
+    record { accepted = a; c_bound = q.0; on_scale = q.1; settled = λ e. true_false (sym e) }
+
+-- ---- the guard met
+module _ (c : After-narrow-met) where
+  met : c.narrow-met.result ≡ meet_of (clocks c.args.automaton.now) (guard_of c.args.automaton.now c.args.i) c.args.w
+  unfolding guard_of
+  met = meets _ _ (ap (λ x. x + 3) ((let it : c.edge_at-at.result ≡ edge_at c.args.automaton.now c.args.i = edge≡ _ c.counts_of-counts.ensures _ c.edge_at-at.ensures in it))) ((let it : c.counts_of-counts.result.clocks ≡ clocks c.args.automaton.now = clocks≡ _ c.counts_of-counts.ensures in it)) c.narrow-met.ensures
+
+pub emptied-requires : goal.emptied-requires
+emptied-requires c =
+    let pre = c.requires.WHOLE in
+    (going_safe _ pre.0.0 pre.1.0, emptied_fits _ pre.0.0 _ pre.0.1 _ pre.1.1 pre.1.2 (met (goal.at.emptied-requires c).After-narrow-met))
+
+pub returns-then-met : goal.returns-then-met
+returns-then-met c =
+    let pre = c.requires.WHOLE in
+    follows_none _ pre.0.0 _ pre.0.1 _ pre.1.1 pre.1.2 (met (goal.at.returns-then-met c).After-narrow-met) c.if-met.true _ _ _ _ c.emptied.ensures
+
+pub arrive-requires : goal.arrive-requires
+arrive-requires c =
+    let pre = c.requires.WHOLE in
+    let a = pre.0.0 in
+    let hi = pre.0.1 in
+    let live = c.if-met.false in
+    record { accepted = (a, arrives_at _ a _ hi _ pre.1.1 pre.1.2 (met (goal.at.arrive-requires c).After-narrow-met) live pre.0.2, pre.1.0); sized = arrives _ a _ hi _ pre.1.1 pre.1.2 (met (goal.at.arrive-requires c).After-narrow-met) live; sound_result = (arrives_sound _ a _ hi _ pre.1.1 pre.1.2 (met (goal.at.arrive-requires c).After-narrow-met) live pre.0.2, pre.0.3) }
+
+pub returns : goal.returns
+returns c =
+    let pre = c.requires.WHOLE in
+    let a = pre.0.0 in
+    let hi = pre.0.1 in
+    let live = c.if-met.false in
+    gives_of _ _ _ _ _ _ (edge_to _ a _ hi _ pre.1.1 pre.1.2 (met (goal.at.returns c).After-narrow-met) live pre.0.2)
+    (follows _ a _ hi _ pre.1.1 pre.1.2 (met (goal.at.returns c).After-narrow-met) live pre.0.2) c.arrive.ensures

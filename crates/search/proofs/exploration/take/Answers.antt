@@ -1,0 +1,123 @@
+-- The kept zones are taken oldest first, each once: each turn of the loop is one of the definition's.
+-- Assumes nothing.
+use Prim.Native.Nat.{ℕ, suc, ◌+◌, ◌*◌, ◌-◌, ◌≤◌, ◌<◌}
+use mathlib.Core.Path.{◌≡◌, sym, ap, ◌∙◌}
+use mathlib.Core.List.{List}
+use lib.IntN.{ℤ}
+use lib.ListN.{length}
+use native.Mathlib.Omega.{arith}
+use Rattle.automata.specs.Automata.{clocks}
+use Rattle.search.specs.Exploring.{Live}
+use Rattle.search.specs.Instance.{ZoneState}
+use Rattle.slots.specs.Slots.{slot_length}
+use Rattle.automata.proofs.fields.Counting.{size≡, few_clocks}
+use Rattle.search.proofs.exploration.Judging.{live-length, going_length}
+use Rattle.search.proofs.exploration.Taking.{read_location, Onward, Turned, begins, ends, onward, few, slot_inside, location}
+use Rattle.search.proofs.exploration.Taking.{asks_decode, onward_few, sound_zone, turned}
+use Rattle.search.proofs.exploration.take.Goals as goal
+use Rattle.search.proofs.exploration.take.Goals.{After-counts_of-size, After-expand-t, At-loop-next, In-loop-next}
+
+few-of : (c : After-counts_of-size) → c.counts_of-size.result.clocks ≤ 8
+few-of c = few_clocks _ c.counts_of-size.ensures c.requires.0
+
+pub loop-next-init : goal.loop-next-init
+loop-next-init c =
+    let size = size≡ _ c.counts_of-size.ensures in
+    (size, c.slot_length-stride.ensures ∙ ap slot_length size, λ s₀ q₀ h. begins _ _ h)
+
+-- ---- at the head of the loop
+module _ (c : At-loop-next) where
+  abbrev automaton : List ℕ
+  automaton = c.args.automaton.now
+
+  on : Onward automaton c.args.capacity c.requires.1.base c.requires.1.state c.loop-next.next c.loop-next.store c.loop-next.t
+  on = c.loop-next.invariant.2 c.requires.1.base c.requires.1.state c.requires.1.live
+
+  at_entry : length c.args.store.now ≡ length c.requires.1.base
+  at_entry = going_length _ c.requires.0 c.requires.1
+
+  now : length c.loop-next.store ≡ length c.args.store.now
+  now = live-length _ c.requires.0 c.requires.1.long on.live.shown on.live.sound ∙ sym at_entry
+
+-- ---- in a turn
+module _ (c : In-loop-next) where
+  abbrev place : ℕ
+  place = c.loop-next.next * c.slot_length-stride.result
+
+  place≡ : place ≡ c.loop-next.next * slot_length (suc (clocks ((let it : List ℕ = c.args.automaton.now in it))))
+  place≡ = ap (λ (x : ℕ). c.loop-next.next * x) c.loop-next.invariant.1
+
+  inside : place + slot_length (suc (clocks ((let it : List ℕ = c.args.automaton.now in it)))) ≤ length c.loop-next.store
+  inside = slot_inside c.requires.0 ((let it : Onward automaton c.args.capacity c.requires.1.base c.requires.1.state c.loop-next.next c.loop-next.store c.loop-next.t = c.loop-next.invariant.2 c.requires.1.base c.requires.1.state c.requires.1.live in it)) c.loop-next-test.true place≡ c.requires.1.long
+
+  below : c.loop-next.next < c.args.capacity
+  below = few c.requires.0 ((let it : Onward automaton c.args.capacity c.requires.1.base c.requires.1.state c.loop-next.next c.loop-next.store c.loop-next.t = c.loop-next.invariant.2 c.requires.1.base c.requires.1.state c.requires.1.live in it)) c.loop-next-test.true
+
+pub slice_copy_out-l : goal.slice_copy_out-l
+slice_copy_out-l c = omega (arith, inside (goal.at.slice_copy_out-l c).In-loop-next)
+
+pub slice_bounds-decode-start : goal.slice_bounds-decode-start
+slice_bounds-decode-start c = omega (arith, inside (goal.at.slice_bounds-decode-start c).In-loop-next)
+
+pub decode-z-requires : goal.decode-z-requires
+decode-z-requires c =
+    rw c.loop-next.invariant.0 (asks_decode c.requires.0 (on (goal.at.decode-z-requires c).At-loop-next) c.loop-next-test.true (place≡ (goal.at.decode-z-requires c).In-loop-next) c.requires.1.long)
+
+pub expand-t-requires : goal.expand-t-requires
+expand-t-requires c =
+    let pre = c.requires in
+    record {
+      accepted = (
+        pre.0,
+        onward pre.0 (on (goal.at.expand-t-requires c).At-loop-next) c.loop-next-test.true pre.1.long pre.1.few,
+        sound_zone pre.0 (on (goal.at.expand-t-requires c).At-loop-next) c.loop-next-test.true (place≡ (goal.at.expand-t-requires c).In-loop-next) (rw c.loop-next.invariant.0 at c.decode-z.ensures),
+      );
+      parent_lt_most_slots = (
+        omega (arith, below (goal.at.expand-t-requires c).In-loop-next, pre.1.few),
+        onward_few pre.0 (on (goal.at.expand-t-requires c).At-loop-next) c.loop-next-test.true
+            (omega (arith, pre.1.live.shown.again, pre.1.live.shown.inside, pre.2.few)),
+      );
+    }
+
+-- ---- after the expansion
+module _ (c : After-expand-t) where
+  expanded : (s₀ : List ℤ) (q₀ : ZoneState) →
+      Live ((let it : List ℕ = c.args.automaton.now in it)) c.args.capacity s₀ q₀ c.args.store.now c.args.turn →
+      Turned ((let it : List ℕ = c.args.automaton.now in it)) c.args.capacity s₀ q₀ c.loop-next.next c.expand-t.new.1.0 c.expand-t.result
+  expanded s₀ q₀ h =
+      let w = c.loop-next.invariant.2 s₀ q₀ h in
+      let there = location c.requires.0 w c.loop-next-test.true ((let it : place ≡ c.loop-next.next * slot_length (suc (clocks ((let it : List ℕ = c.args.automaton.now in it)))) = ap (λ (x : ℕ). c.loop-next.next * x) c.loop-next.invariant.1 in it)) in
+      turned c.requires.0 w c.loop-next-test.true ((let it : place ≡ c.loop-next.next * slot_length (suc (clocks ((let it : List ℕ = c.args.automaton.now in it)))) = ap (λ (x : ℕ). c.loop-next.next * x) c.loop-next.invariant.1 in it)) (rw c.loop-next.invariant.0 at c.decode-z.ensures)
+      (read_location (record { sfits = c.l-1.given }) there) c.expand-t.ensures
+
+pub shape_of-store-then-has_ended : goal.shape_of-store-then-has_ended
+shape_of-store-then-has_ended c =
+    let going = c.requires.1 in
+    (expanded (goal.at.shape_of-store-then-has_ended c).After-expand-t _ _ going.live).same_length going.long ∙ sym (at_entry (goal.at.shape_of-store-then-has_ended c).At-loop-next)
+
+pub returns-then-has_ended : goal.returns-then-has_ended
+returns-then-has_ended c =
+    record { shows = λ s₀ q₀ h. (expanded (goal.at.returns-then-has_ended c).After-expand-t s₀ q₀ h).stops (sym c.has_ended.ensures ∙ c.if-has_ended.true) }
+
+pub loop-next-smaller : goal.loop-next-smaller
+loop-next-smaller c = omega (arith, below (goal.at.loop-next-smaller c).In-loop-next)
+
+pub loop-next-preserved : goal.loop-next-preserved
+loop-next-preserved c =
+    let inv = c.loop-next.invariant in
+    (inv.0, inv.1, λ s₀ q₀ h. (expanded (goal.at.loop-next-preserved c).After-expand-t s₀ q₀ h).goes_on (sym c.has_ended.ensures ∙ c.if-has_ended.false))
+
+pub shape_of-store : goal.shape_of-store
+shape_of-store c = now (goal.at.shape_of-store c).At-loop-next
+
+pub returns : goal.returns
+returns c = record { shows = λ s₀ q₀ h. ends _ _ (c.loop-next.invariant.2 s₀ q₀ h) c.loop-next-test.false }
+
+pub counts_of-size-requires : goal.counts_of-size-requires
+counts_of-size-requires c = c.requires.0
+
+pub overflow_add-size : goal.overflow_add-size
+overflow_add-size c = omega (arith, few-of (goal.at.overflow_add-size c).After-counts_of-size)
+
+pub slot_length-stride-requires : goal.slot_length-stride-requires
+slot_length-stride-requires c = omega (arith, few-of (goal.at.slot_length-stride-requires c).After-counts_of-size)

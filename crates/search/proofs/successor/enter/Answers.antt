@@ -1,0 +1,108 @@
+-- `enter` meets its contract: the reset, the invariant met at arrival, the wait, and the invariant met again, each on a zone in range.
+-- Assumes nothing.
+use Prim.Native.Nat.{ℕ, suc, ◌+◌, ◌*◌, ◌≤◌}
+use mathlib.Core.Path.{◌≡◌, ap, ◌∙◌}
+use lib.ListN.{length}
+use native.Mathlib.Omega.{arith}
+use Rattle.zones.specs.Ranges.{Sized, OnScale, counts, step_counts}
+use Rattle.runs.specs.Limits.{scale}
+use Rattle.zones.specs.Settled.{Settled}
+use Rattle.zones.specs.Successors.{enter_of}
+use Rattle.zones.specs.Zones.{set_of, reset_of}
+use Rattle.automata.specs.Automata.{clocks, invariant_at, limits_at, invariant_of}
+use Rattle.automata.proofs.fields.Counting.{clocks≡, invariant≡, few_clocks, asks_invariant}
+use Rattle.automata.proofs.fields.Places.{invariant_within}
+use Rattle.search.proofs.successor.Stepping.{one_more, meets, raises, asks_limits, reset_is, reset_enters, raised_ready, raised_lifted}
+use Rattle.search.proofs.successor.Stepping.{entered_none, entered, invariant_scale}
+use Rattle.search.proofs.successor.enter.Goals as goal
+use Rattle.search.proofs.successor.enter.Goals.{After-counts_of-counts, After-reset-cleared}
+
+few : (c : After-counts_of-counts) → c.counts_of-counts.result.clocks ≤ 8
+few c = few_clocks _ c.counts_of-counts.ensures c.requires.accepted.0
+
+-- ---- with the clocks reset
+module _ (c : After-reset-cleared) where
+  size≡ : c.counts_of-counts.result.clocks ≡ clocks c.args.automaton.now
+  size≡ = clocks≡ _ c.counts_of-counts.ensures
+
+  at≡ : c.invariant_at-at.result ≡ invariant_at c.args.automaton.now c.args.l
+  at≡ = invariant≡ _ c.counts_of-counts.ensures _ c.invariant_at-at.ensures
+
+  n≤ : clocks c.args.automaton.now ≤ 8
+  n≤ = c.requires.accepted.0.complete.clocks≤
+
+  abbrev size : ℕ
+  size = suc (clocks c.args.automaton.now)
+
+  cleared : c.reset-cleared.result ≡ reset_of size (set_of c.args.resets) c.args.w
+  cleared = reset_is _ n≤ _ (one_more size≡) (10 * counts) (omega arith) (omega arith) _ c.reset-cleared.ensures
+
+  ready : Sized (10 * counts) size c.reset-cleared.result × Settled size c.reset-cleared.result
+  ready = reset_enters _ n≤ _ (one_more size≡) (10 * counts) (omega arith) (omega arith) _ c.reset-cleared.ensures c.requires.sized
+
+  -- what the loops over the limits of the invariant ask
+  asks : let n = c.counts_of-counts.result.clocks in
+      let at = c.invariant_at-at.result in
+      let b = c.args.automaton.now in
+      ((n ≤ 8) × (at + 8 * n ≤ length b)) × (OnScale scale n (limits_at b at) × Sized step_counts (suc n) c.reset-cleared.result)
+  unfolding invariant_of
+  asks =
+      let a = c.requires.accepted.0 in
+      let hl = c.requires.accepted.1 in
+      asks_limits _ _ at≡ size≡ n≤ (invariant_within _ a.complete _ hl)
+      (invariant_scale _ a _ hl) (omega arith) ready.0
+
+pub narrow-met-requires : goal.narrow-met-requires
+narrow-met-requires c =
+    record { accepted = c.requires.accepted.0; c_bound = (asks (goal.at.narrow-met-requires c).After-reset-cleared).0; on_scale = (asks (goal.at.narrow-met-requires c).After-reset-cleared).1; settled = λ e. rw (size≡ (goal.at.narrow-met-requires c).After-reset-cleared) (ready (goal.at.narrow-met-requires c).After-reset-cleared).1 }
+
+pub returns-then-met : goal.returns-then-met
+unfolding invariant_of
+returns-then-met c =
+    let met = meets _ _ (at≡ (goal.at.returns-then-met c).After-reset-cleared) (size≡ (goal.at.returns-then-met c).After-reset-cleared) c.narrow-met.ensures in
+    entered_none _ (n≤ (goal.at.returns-then-met c).After-reset-cleared) _ (one_more (size≡ (goal.at.returns-then-met c).After-reset-cleared)) _ met c.if-met.true ∙ ap (enter_of _ _) (cleared (goal.at.returns-then-met c).After-reset-cleared)
+
+pub raise-raised-requires : goal.raise-raised-requires
+raise-raised-requires c =
+    record { accepted = c.requires.accepted.0; c_bound = (asks (goal.at.raise-raised-requires c).After-reset-cleared).0 }
+
+pub reduce_raised-requires : goal.reduce_raised-requires
+unfolding invariant_of
+reduce_raised-requires c =
+    let a = c.requires.accepted.0 in
+    let hl = c.requires.accepted.1 in
+    let at = at≡ (goal.at.reduce_raised-requires c).After-reset-cleared in
+    let n = size≡ (goal.at.reduce_raised-requires c).After-reset-cleared in
+    let met = meets _ _ at n c.narrow-met.ensures in
+    let up = raises _ _ at n c.raise-raised.ensures in
+    let live = c.if-met.false in
+    let o = invariant_scale _ a _ hl in (
+      raised_ready _ (n≤ (goal.at.reduce_raised-requires c).After-reset-cleared) _ (one_more n) (10 * counts) (omega arith) (omega arith) _ o (ready (goal.at.reduce_raised-requires c).After-reset-cleared).0 met live
+          (λ x px hx. a.invariant_hi _ x hl px (omega arith)) up,
+      raised_lifted _ (n≤ (goal.at.reduce_raised-requires c).After-reset-cleared) _ (one_more n) (10 * counts) (omega arith) (omega arith) _ o (ready (goal.at.reduce_raised-requires c).After-reset-cleared).0 met live
+          (λ x px hx. a.invariant_present _ x hl px (omega arith)) up,
+    )
+
+pub returns : goal.returns
+unfolding invariant_of
+returns c =
+    let at = at≡ (goal.at.returns c).After-reset-cleared in
+    let n = size≡ (goal.at.returns c).After-reset-cleared in
+    let met = meets _ _ at n c.narrow-met.ensures in
+    entered _ (n≤ (goal.at.returns c).After-reset-cleared) _ (one_more n) _ met c.if-met.false (raises _ _ at n c.raise-raised.ensures) c.reduce_raised.ensures
+    ∙ ap (enter_of _ _) (cleared (goal.at.returns c).After-reset-cleared)
+
+pub counts_of-counts-requires : goal.counts_of-counts-requires
+counts_of-counts-requires c = c.requires.accepted.0
+
+pub invariant_at-at-requires : goal.invariant_at-at-requires
+invariant_at-at-requires c = let pre = c.requires.accepted in asks_invariant _ c.counts_of-counts.ensures pre.0 pre.1
+
+pub overflow_add-c : goal.overflow_add-c
+overflow_add-c c = omega (arith, few (goal.at.overflow_add-c c).After-counts_of-counts)
+
+pub reset-cleared-requires : goal.reset-cleared-requires
+reset-cleared-requires c = omega (arith, few (goal.at.reset-cleared-requires c).After-counts_of-counts)
+
+pub overflow_add-c-2 : goal.overflow_add-c-2
+overflow_add-c-2 c = omega (arith, few (goal.at.overflow_add-c-2 c).After-counts_of-counts)

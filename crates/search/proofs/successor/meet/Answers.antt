@@ -1,0 +1,56 @@
+-- `meet` meets its contract: what is done is the limits of the clocks passed, met one by one; while none lowered an entry, the square is as it was.
+-- Assumes nothing.
+use Prim.Native.Nat.{◌-◌}
+use mathlib.Core.Path.{◌≡◌, refl, sym, ap, ◌∙◌}
+use mathlib.Core.Logic.{⊎_elim}
+use native.Mathlib.Omega.{arith}
+use lib.Dec.{eqb}
+use Rattle.zones.specs.declared.zone.Work.{Work}
+use Rattle.zones.specs.Zones.{meet_limits}
+use Rattle.runs.proofs.Contradictions.{true_false}
+use Rattle.zones.proofs.places.Limits.{limits_all}
+use Rattle.automata.specs.Automata.{limits_at, no_upper}
+use Rattle.automata.specs.declared.fields.Limits.{Limits}
+use Rattle.search.proofs.successor.Stepping.{turn_ready, turn_met, turn_same}
+use Rattle.search.proofs.successor.meet.Goals as goal
+
+pub loop-x-init : goal.loop-x-init
+unfolding meet_limits
+loop-x-init c = (omega arith, omega arith, refl, λ e. (e, refl))
+
+pub limits_of-limits-requires : goal.limits_of-limits-requires
+limits_of-limits-requires c = (c.requires.accepted, omega arith, omega arith)
+
+pub meet-met-requires : goal.meet-met-requires
+unfolding limits_at
+meet-met-requires c =
+    let limits = c.limits_of-limits.ensures in
+    turn_ready _ _ c.args.w c.loop-x.work c.requires.c_bound.0 c.requires.on_scale.0
+    c.requires.on_scale.1 c.loop-x.x c.loop-x.invariant.0 (omega arith) c.loop-x.invariant.2
+    (ap (λ (l : Limits). l.lo) limits) (ap (λ (l : Limits). l.hi) limits) (ap (λ (l : Limits). eqb l.hi no_upper) limits)
+
+pub loop-x-preserved : goal.loop-x-preserved
+unfolding limits_at
+loop-x-preserved c =
+    let limits = c.limits_of-limits.ensures in
+    let below = c.is_below.ensures in (
+      omega arith,
+      omega arith,
+      turn_met _ _ c.args.w c.loop-x.work c.requires.c_bound.0 c.requires.on_scale.0
+          c.requires.on_scale.1 c.loop-x.x c.loop-x.invariant.0 (omega arith) c.loop-x.invariant.2
+          (ap (λ (l : Limits). l.lo) limits) (ap (λ (l : Limits). l.hi) limits)
+          (ap (λ (l : Limits). eqb l.hi no_upper) limits) c.meet-met.ensures,
+      λ e. ⊎_elim (λ x. true_false (sym e ∙ x.1))
+          (λ x.
+          let s = c.loop-x.invariant.3 (sym x.1 ∙ e) in (
+            s.0,
+            turn_same _ _ _ c.limits_of-limits.result.lo c.limits_of-limits.result.hi (eqb c.limits_of-limits.result.hi no_upper)
+                c.meet-met.ensures (sym below ∙ x.0.false) ∙ s.1,
+          )) c.if-is_below.branch,
+    )
+
+pub returns : goal.returns
+returns c =
+    let last : c.loop-x.x - 1 ≡ c.args.c = omega arith in
+    let all = limits_all _ _ c.args.w last c.loop-x.invariant.2 in
+    record { work = all; same = λ e. let s = c.loop-x.invariant.3 e in (s.0, ap (λ (v : Work). v.zone) (sym all) ∙ s.1) }

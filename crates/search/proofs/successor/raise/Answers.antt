@@ -1,0 +1,28 @@
+-- `raise` meets its contract: what is done is the upper bounds of the clocks passed.
+-- Assumes nothing.
+use Prim.Native.Nat.{◌-◌}
+use mathlib.Core.Path.{refl, ap, ◌∙◌}
+use native.Mathlib.Omega.{arith}
+use Rattle.zones.specs.Pairs.{at_most}
+use Rattle.zones.specs.Zones.{raise_limits}
+use Rattle.zones.proofs.places.Limits.{raise_more, raise_all}
+use Rattle.automata.specs.Automata.{limits_at}
+use Rattle.automata.specs.declared.fields.Limits.{Limits}
+use Rattle.search.proofs.successor.raise.Goals as goal
+
+pub loop-x-init : goal.loop-x-init
+unfolding raise_limits
+loop-x-init c = (omega arith, omega arith, refl)
+
+pub limits_of-requires : goal.limits_of-requires
+limits_of-requires c = (c.requires.accepted, omega arith, omega arith)
+
+pub loop-x-preserved : goal.loop-x-preserved
+unfolding limits_at
+loop-x-preserved c =
+    let inv = c.loop-x.invariant in
+    let bound = c.at_most.ensures ∙ ap (λ (l : Limits). at_most l.hi) c.limits_of.ensures in
+    (omega arith, omega arith, raise_more _ _ _ inv.0 inv.2 bound)
+
+pub returns : goal.returns
+returns c = raise_all _ _ _ (omega arith) c.loop-x.invariant.2

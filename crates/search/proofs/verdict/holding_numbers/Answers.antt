@@ -1,0 +1,12 @@
+-- `holding_numbers` meets its contract, by the case of the holding.
+use mathlib.Core.Path.{refl}
+use Rattle.search.specs.Verdicts.{numbers_of}
+use Rattle.search.proofs.verdict.holding_numbers.Goals as goal
+
+pub returns-in-AnyError : goal.returns-in-AnyError
+unfolding numbers_of
+returns-in-AnyError c = rw c.enum_told-1.given.1 refl
+
+pub returns-in-Below : goal.returns-in-Below
+unfolding numbers_of
+returns-in-Below c = rw c.h-1.given.1 refl

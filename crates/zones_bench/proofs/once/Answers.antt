@@ -1,0 +1,12 @@
+-- `once` meets its contract: the varied zone is ready, reduced and probed.
+use native.Mathlib.Omega.{arith}
+use Rattle.zones_bench.specs.Bench.{bench_once}
+use Rattle.zones_bench.proofs.Filling.{work_ready}
+use Rattle.zones_bench.proofs.once.Goals as goal
+
+pub reduce-r-requires : goal.reduce-r-requires
+reduce-r-requires c = rw c.varied.ensures (work_ready _ _ (omega arith))
+
+pub returns : goal.returns
+unfolding bench_once
+returns c = (rw (c.probe.ensures.0, c.reduce-r.ensures, c.varied.ensures), omega arith)
