@@ -84,8 +84,8 @@ abbrev pub record_at : List ℕ → ℕ → ℕ → List ℕ
 record_at s at m = take m (drop at s)
 
 -- its automaton, as it is lent
-abbrev pub field_own : Layout → List ℕ → ℕ → ℕ → List ℕ
-field_own L s at m = take ((at + m) - (at + L.head)) (drop (at + L.head) s)
+abbrev pub own_at : Layout → List ℕ → ℕ → ℕ → List ℕ
+own_at L s at m = take ((at + m) - (at + L.head)) (drop (at + L.head) s)
 
 module _ {L : Layout} {s : List ℕ} {at m : ℕ} (h : MeasuredAt L s at m) where
   measure_here : m ≡ measured L (drop at s)
@@ -120,7 +120,7 @@ module _ {L : Layout} {s : List ℕ} {at m : ℕ} (w : WholeAt L s at m) where
   lent : take ((at + m) - at) (drop at s) ≡ record_at s at m
   lent = let q : (at + m) - at ≡ m = omega arith in rw q
 
-  pub own : field_own L s at m ≡ record_automaton L (record_at s at m)
+  pub own : own_at L s at m ≡ record_automaton L (record_at s at m)
   own =
       let q : (at + m) - (at + L.head) ≡ m - L.head = omega arith in
       rw (q, ← drop-drop L.head at s) (sym (drop-take L.head m (drop at s)))
@@ -132,7 +132,7 @@ module _ {L : Layout} {s : List ℕ} {at m : ℕ} (w : WholeAt L s at m) where
   more_here = records_more L (drop at s) some ∙ (λ i. take (sym (measure_here w.measured) i) (drop at s) ∷ records_in L (left i))
 
   -- ---- lookup
-  module _ (b : List ℕ) {t : Bool} (q : t ≡ same_bytes (field_own L s at m) b) where
+  module _ (b : List ℕ) {t : Bool} (q : t ≡ same_bytes (own_at L s at m) b) where
     pub same_here : same_bytes (record_automaton L (record_at s at m)) b ≡ t
     same_here = sym (q ∙ ap (λ (x : List ℕ). same_bytes x b) own)
 

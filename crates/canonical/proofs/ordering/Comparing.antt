@@ -7,7 +7,7 @@ use mathlib.Core.Path.{◌≡◌, refl, sym, ap, ◌∙◌}
 use lib.ListN.{length, get_or}
 use lib.Seq.{drop-cons}
 use native.Mathlib.Numerals.{add-one}
-use native.Mathlib.Nat.{add-zero, sub-zero, suc-mul, mul-le-mul_right}
+use native.Mathlib.Nat.{suc-mul, mul-le-mul_right}
 use native.Mathlib.Omega.{arith}
 use Rattle.encoding.specs.Bytes.{Two, Four}
 use Rattle.encoding.specs.Numbers.{be16_at, be32_at}
@@ -15,9 +15,6 @@ use Rattle.order.specs.Edges.{bytes_less}
 use Rattle.order.specs.Laid.{edge_bytes}
 use Rattle.order.proofs.Order.{head-less, head_more, head_same, Numbers, less, same, more, numbers}
 use Rattle.canonical.specs.Comparing.{less_from}
-
-pub rest-start : (s : List ℕ) (a b size : ℕ) → less_from s a b size 0 ≡ bytes_less (edge_bytes size s a) (edge_bytes size s b)
-rest-start s a b size = rw (sub-zero, add-zero a, add-zero b)
 
 -- ---- byte by byte
 edge-cons : (m : ℕ) (s : List ℕ) (at : ℕ) → at < length s → edge_bytes (suc m) s at ≡ get_or s at 0 ∷ edge_bytes m s (at + 1)

@@ -1,6 +1,6 @@
 -- Where an edge belongs, by halving: what stands before lo is less, what stands at hi is not. It needs no order of those between.
 -- Assumes nothing.
-use Prim.Native.Nat.{ℕ, ◌+◌, ◌-◌, ◌/◌, ◌<◌, ◌≤◌}
+use Prim.Native.Nat.{ℕ, ◌-◌, ◌<◌, ◌≤◌}
 use mathlib.Core.Bool.{Bool, true, false, not, true≢false}
 use mathlib.Core.List.{List}
 use mathlib.Core.Path.{◌≡◌, refl, sym, ◌∙◌, subst}
@@ -20,9 +20,6 @@ pub record Between (size : ℕ) (s : List ℕ) (ns : List ℕ) (count : ℕ) (x 
   pub before : 0 < lo → bytes_less (nth_edge size s (get_or ns (lo - 1) 0)) (nth_edge size s x) ≡ true
   pub behind : bytes_less (nth_edge size s (get_or ns hi 0)) (nth_edge size s x) ≡ false
 
-pub middle : (lo hi : ℕ) → lo < hi → (lo ≤ lo + (hi - lo) / 2) × (lo + (hi - lo) / 2 < hi)
-middle lo hi h = (omega arith, omega arith)
-
 -- ---- the same bytes are not less; other bytes, where they are not less, are more
 same_not_less : (x y : Edge) → same_bytes x y ≡ true → bytes_less x y ≡ false
 same_not_less x y e = subst (λ (z : Edge). bytes_less x z ≡ false) ((one_list x y).0 e) (irreflexive x)
@@ -38,11 +35,7 @@ module _ (size : ℕ) (s : List ℕ) (ns : List ℕ) (count : ℕ) (x : ℕ) whe
   abbrev at : ℕ → Edge
   at k = nth_edge size s (get_or ns k 0)
 
-  -- its bytes are new where nothing stands
-  outside : {r : ℕ} → Belongs size s ns count x r → count ≤ r → Positioned size s ns count x r true
-  outside b h = record { belongs = b; fresh = λ e g. absurd (omega arith); there = λ e. absurd (true≢false e) }
-
-  -- or other bytes stand: as they are not less than x, x is less
+  -- its bytes are new where other bytes stand: as they are not less than x, x is less
   tested : {r : ℕ} {t : Bool} → Belongs size s ns count x r → r < count → t ≡ same_bytes (nth_edge size s x) (at r)
       → Positioned size s ns count x r (not t)
   tested b h e = record {
@@ -50,29 +43,6 @@ module _ (size : ℕ) (s : List ℕ) (ns : List ℕ) (count : ℕ) (x : ℕ) whe
     fresh = λ f g. differ_less _ _ (sym e ∙ not-true _ f) (b.behind g);
     there = λ f. (h, same_not_less _ _ (sym e ∙ not-false _ f));
   }
-
-  pub place_none : count ≡ 0 → Positioned size s ns count x 0 true
-  place_none e =
-      outside (record { inside = omega arith; before = λ h. absurd (omega arith); behind = λ h. absurd (omega arith) }) (omega arith)
-
-  -- the last one is tested
-  module _ {t : Bool} (e : t ≡ bytes_less (at (count - 1)) (nth_edge size s x)) where
-    pub place_last : t ≡ true → Positioned size s ns count x count true
-    place_last f = outside (record { inside = omega arith; before = λ h. sym e ∙ f; behind = λ h. absurd (omega arith) }) (omega arith)
-
-    pub between_all : t ≡ false → 0 < count → Between size s ns count x 0 (count - 1)
-    between_all f h = record { apart = omega arith; inside = omega arith; before = λ g. absurd (omega arith); behind = sym e ∙ f }
-
-  -- and then one between lo and hi
-  module _ (lo hi mid : ℕ) (b : Between size s ns count x lo hi) (h : (lo ≤ mid) × (mid < hi))
-      {t : Bool} (e : t ≡ bytes_less (at mid) (nth_edge size s x)) where
-    pub upper_half : t ≡ true → Between size s ns count x (mid + 1) hi
-    upper_half f =
-        let m : mid + 1 - 1 ≡ mid = omega arith in
-        record { apart = omega arith; inside = b.inside; before = λ g. rw m (sym e ∙ f); behind = b.behind }
-
-    pub lower_half : t ≡ false → Between size s ns count x lo mid
-    lower_half f = record { apart = h.0; inside = omega (arith, b.inside); before = b.before; behind = sym e ∙ f }
 
   pub place_found : (lo hi : ℕ) → Between size s ns count x lo hi → hi ≤ lo → {t : Bool} → t ≡ same_bytes (nth_edge size s x) (at lo)
       → Positioned size s ns count x lo (not t)

@@ -1,10 +1,9 @@
 -- Edge after edge: those from `at` on, of which n are left, rise as the whole does.
 -- Assumes nothing.
 use Prim.Native.Nat.{ℕ, zero, suc, ◌+◌, ◌-◌, ◌*◌, ◌<◌, ◌≤◌}
-use mathlib.Core.Bool.{Bool, true, false, not}
+use mathlib.Core.Bool.{Bool, true, false}
 use mathlib.Core.List.{List, ◌∷◌}
 use mathlib.Core.Path.{◌≡◌, refl, sym, ap, ◌∙◌}
-use borrow.Author.Tests.{not-true, not-false}
 use lib.ListN.{length}
 use native.Mathlib.Nat.{suc-mul}
 use native.Mathlib.Omega.{arith}
@@ -29,13 +28,13 @@ module _ (size : ℕ) (s : List ℕ) (at n : ℕ) (h : 1 < n) where
   rest-edges = let e : n - 1 ≡ suc (n - 1 - 1) = omega arith in ap (edges_from size s (at + size)) e
 
   module _ {t : Bool} (e : t ≡ bytes_less (edge_bytes size s at) (edge_bytes size s (at + size))) where
-    pub not_rising : not t ≡ true → rising (edges_from size s at n) ≡ false
+    pub not_rising : t ≡ false → rising (edges_from size s at n) ≡ false
     unfolding rising
-    not_rising f = rw (two_edges, sym e ∙ not-true t f)
+    not_rising f = rw (two_edges, sym e ∙ f)
 
-    pub rising_next : not t ≡ false → rising (edges_from size s at n) ≡ rising (edges_from size s (at + size) (n - 1))
+    pub rising_next : t ≡ true → rising (edges_from size s at n) ≡ rising (edges_from size s (at + size) (n - 1))
     unfolding rising
-    rising_next f = rw (two_edges, rest-edges, sym e ∙ not-false t f)
+    rising_next f = rw (two_edges, rest-edges, sym e ∙ f)
 
 pub rising_none : (size : ℕ) (s : List ℕ) (at n : ℕ) → n ≤ 1 → rising (edges_from size s at n) ≡ true
 unfolding rising edges_from

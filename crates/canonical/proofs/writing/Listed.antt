@@ -6,7 +6,7 @@ use mathlib.Core.Logic.{inl, inr}
 use mathlib.Core.Path.{◌≡◌, sym, ap, ◌∙◌, subst}
 use lib.ListN.{length, get_or, take, take-append-drop}
 use lib.Seq.{take-suc, take-take}
-use native.Mathlib.Nat.{suc-mul, add-zero, mul-le-mul_right}
+use native.Mathlib.Nat.{suc-mul, add-zero}
 use native.Mathlib.Numerals.{add-one}
 use native.Mathlib.Omega.{arith}
 use Rattle.encoding.specs.Placing.{placed}
@@ -36,9 +36,6 @@ joined_snoc (y ∷ es) x = ap (λ (l : List ℕ). y ++ l) (joined_snoc es x) ∙
 
 pub next_place : (at i size : ℕ) {to : ℕ} → to ≡ at + i * size → to + size ≡ at + (i + 1) * size
 next_place at i size e = rw (add-one i) (omega (arith, suc-mul i size))
-
-pub room_left : (at i count size n : ℕ) {to : ℕ} → to ≡ at + i * size → i < count → at + count * size ≤ n → to + size ≤ n
-room_left at i count size n e h g = omega (arith, suc-mul i size, mul-le-mul_right size h)
 
 module _ (size : ℕ) (s : List ℕ) (ns : List ℕ) (count : ℕ) (l : Listed size s ns count) where
   written-length : (i : ℕ) → i ≤ count → length (listed_bytes size s ns i) ≡ i * size

@@ -2,7 +2,7 @@
 -- Assumes nothing.
 use Prim.Native.Nat.{ℕ, ◌+◌, ◌-◌, ◌*◌, ◌≤◌, ◌<◌}
 use mathlib.Core.List.{List, ◌++◌, append_assoc}
-use mathlib.Core.Path.{◌≡◌, sym, ap, ◌∙◌, subst}
+use mathlib.Core.Path.{◌≡◌, sym, ap, ◌∙◌}
 use lib.ListN.{length, take, drop}
 use native.Mathlib.Omega.{arith}
 use Rattle.encoding.specs.Numbers.{be16, be32}
@@ -16,7 +16,7 @@ use Rattle.automata.specs.Canonical.{edge_size, invariants_size, ordered, form_l
 use Rattle.automata.proofs.canonical.Shape.{form_length_lem, small}
 use Rattle.canonical.specs.declared.edges.Edges.{Edges}
 use Rattle.canonical.specs.declared.ordering.Order.{Order}
-use Rattle.canonical.specs.Numbers.{Listed, listed_bytes}
+use Rattle.canonical.specs.Numbers.{listed_bytes}
 use Rattle.canonical.specs.Parts.{Sorted, front_of}
 use Rattle.canonical.proofs.ordering.Numbered.{listed-length}
 use Rattle.canonical.proofs.ordering.Inserting.{fits}
@@ -57,18 +57,12 @@ module _ (b : List ℕ) (e : Edges) (o : Order) (s : Sorted b e o) where
   pub total-small : e.at + o.count * e.size < 4294967296
   total-small = omega (arith, form_length_lem≡, small b s.complete)
 
-  -- ---- what its parts ask of a buffer of n bytes that has room for it
+  -- ---- what its front asks of a buffer of n bytes that has room for it
   module _ (n : ℕ) {total : ℕ} (t : total ≡ length (canonical_of b)) (h : total ≤ n) where
     pub asks_front : ((11 ≤ e.at) × (e.at ≤ length b) × (e.at ≤ n)) × ((total < 4294967296) × (o.count < 4294967296))
     asks_front = (
       (behind_head b s.edges s.complete, at_inside, omega (arith, total≡)),
       (omega (arith, total≡, total-small), omega (arith, s.order.listed.room)),
-    )
-
-    pub asks_edges : Listed e.size (take (length b - e.at) (drop e.at b)) o.numbers o.count × (e.at + o.count * e.size ≤ n)
-    asks_edges = (
-      subst (λ (l : List ℕ). Listed e.size l o.numbers o.count) (sym (lent_part b s.edges s.complete)) s.order.listed,
-      omega (arith, total≡),
     )
 
   -- ---- the whole of it

@@ -50,7 +50,7 @@ Known (ended (reached c)) = Unit {0}
 Known (ended (refused k)) = (k ≡ 9) ⊎ (k ≡ 10)
 
 module _ (b : List ℕ) (c : ℕ) where
-  judged_known : {q q' : ZoneState} {k : ZoneNode} {f : Fractions} → Judged (system_of b) (zones_of b) c q k f q' → Known q'.outcome
+  judged_known : {q : ZoneState} {k : ZoneNode} {f : Fractions} {q' : ZoneState} → Judged (system_of b) (zones_of b) c q k f q' → Known q'.outcome
   judged_known (was_target e) = tt
   judged_known (was_inside y e g) = rw dropping_going tt
   judged_known (was_big e g h) = inl refl

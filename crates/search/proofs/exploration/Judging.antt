@@ -18,7 +18,7 @@ use Rattle.zones.specs.Containment.{equal, inside_below, largest_count}
 use Rattle.zones.specs.Fractions.{lowered_by}
 use Rattle.zones.specs.Ranges.{AllBounded, Sized, Fits32, counts, last_counts}
 use Rattle.runs.specs.Limits.{scale}
-use Rattle.search.specs.declared.outcome.Outcome.TheVariants.{Going, Reached}
+use Rattle.search.specs.declared.outcome.Outcome.TheVariants.{Reached}
 use Rattle.search.specs.declared.outcome.Turn.{Turn}
 use Rattle.search.specs.Outcomes.{came_of, outcome_of, Few, most_offers, dropped_with, emptied_by, contained_by, kept_by, reached_by, refused_by}
 use Rattle.automata.specs.Accepted.{Accepted}

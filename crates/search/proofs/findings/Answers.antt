@@ -4,10 +4,10 @@ use Rattle.search.proofs.answers.Answers.{finds_holding, finds_reached, finds_re
 use Rattle.search.proofs.findings.Goals as goal
 
 pub returns-in-Going : goal.returns-in-Going
-returns-in-Going c = finds_holding _ _ _ _ c.enum_told-1.given.1 c.holding.ensures c.figures.ensures
+returns-in-Going c = finds_holding _ _ _ _ c.in-Going.is c.holding.ensures c.figures.ensures
 
 pub returns-in-Reached : goal.returns-in-Reached
-returns-in-Reached c = finds_reached _ _ _ _ c.outcome-1.given.1 c.figures-in-Reached.ensures
+returns-in-Reached c = finds_reached _ _ _ _ c.in-Reached.is c.figures-in-Reached.ensures
 
 pub returns-in-Refused : goal.returns-in-Refused
-returns-in-Refused c = finds_refused _ _ _ _ c.outcome-in-Refused-1.given.1
+returns-in-Refused c = finds_refused _ _ _ _ c.in-Refused.is

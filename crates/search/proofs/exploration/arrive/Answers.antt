@@ -7,8 +7,7 @@ use Rattle.search.proofs.exploration.arrive.Goals as goal
 
 pub offer-requires : goal.offer-requires
 offer-requires c =
-    let pre = c.requires.WHOLE in
-    record { accepted = (pre.0.0, pre.0.1); going = (pre.0.2, subst (SoundResult _) (sym c.enter-entered.ensures) pre.1.1.0, pre.1.1.1) }
+    record { accepted = (c.requires.accepted.0, c.requires.accepted.1); going = (c.requires.accepted.2, subst (SoundResult _) (sym c.enter-entered.ensures) c.requires.sound_result.0, c.requires.sound_result.1) }
 
 pub returns : goal.returns
 returns c = gives_of _ _ _ _ _ _ refl c.enter-entered.ensures c.offer.ensures

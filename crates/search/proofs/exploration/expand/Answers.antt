@@ -1,9 +1,8 @@
 -- `expand` meets its contract: what is done is the definition's expansion along the edges passed, or it has stopped at one.
 -- Assumes nothing.
-use Prim.Native.Nat.{◌-◌, ◌≤◌, ◌<◌}
+use Prim.Native.Nat.{◌<◌}
 use mathlib.Core.Path.{◌≡◌, refl, sym, ap, ◌∙◌}
 use mathlib.Core.List.{[]}
-use mathlib.Core.Logic.{⊎_elim}
 use native.Mathlib.Omega.{arith}
 use Rattle.zones.specs.declared.zone.Work.{Work}
 use Rattle.automata.specs.Automata.{edges, from}
@@ -15,7 +14,7 @@ use Rattle.search.proofs.exploration.Expanding.{Between, begins, passes, taken_f
 use Rattle.search.proofs.exploration.Expanding.{between_going, between_few, ends}
 use Rattle.search.proofs.exploration.Judging.{live-length, going_length}
 use Rattle.search.proofs.exploration.expand.Goals as goal
-use Rattle.search.proofs.exploration.expand.Goals.{After-edge_of-edge}
+use Rattle.search.proofs.exploration.expand.Goals.{After-edge_of-edge, then-edge-l+else-has_ended, else-edge-l}
 
 pub counts_of-last-requires : goal.counts_of-last-requires
 counts_of-last-requires c = c.requires.accepted.0
@@ -90,15 +89,21 @@ loop-i-preserved c =
     let pre = c.requires.accepted in (
       c.loop-i.invariant.0,
       omega arith,
-      ⊎_elim (λ x. ap (λ (v : Work). v.zone) x.10 ∙ c.loop-i.invariant.2)
-          (λ x. ap (λ (v : Work). v.zone) x.3 ∙ c.loop-i.invariant.2) c.if-edge-l.branch,
+      elim c.if-edge-l.branch [
+        | then-edge-l+else-has_ended x ↦ ap (λ (v : Work). v.zone) x.w-is ∙ c.loop-i.invariant.2
+        | else-edge-l x ↦ ap (λ (v : Work). v.zone) x.w-is ∙ c.loop-i.invariant.2
+      ],
       λ y p s₀ q₀ h.
           let between = c.loop-i.invariant.3 y p s₀ q₀ h in
-          ⊎_elim
-          (λ x. rw (x.8, x.9) (goes_on between (within (goal.at.loop-i-preserved c).After-edge_of-edge) pre.0 pre.2 (taken_is (goal.at.loop-i-preserved c).After-edge_of-edge)
-          (leaves (goal.at.loop-i-preserved c).After-edge_of-edge x.0.true) x.2.ensures x.4.ensures (sym x.6.ensures ∙ x.7.false)))
-          (λ x. rw (x.1, x.2) (passes between (within (goal.at.loop-i-preserved c).After-edge_of-edge) (λ e. x.0.false (ap (λ (k : Edge). k.from) c.edge_of-edge.ensures ∙ e))))
-          c.if-edge-l.branch,
+          let here = (goal.at.loop-i-preserved c).After-edge_of-edge in
+          elim c.if-edge-l.branch [
+            | then-edge-l+else-has_ended x ↦
+                rw (x.store-is, x.t-is) (goes_on between (within here) pre.0 pre.2 (taken_is here) (leaves here x.if-edge-l.true)
+                x.along-origin.ensures x.follow-t.ensures (sym x.has_ended.ensures ∙ x.if-has_ended.false))
+            | else-edge-l x ↦
+                rw (x.store-is, x.t-is)
+                (passes between (within here) (λ e. x.if-edge-l.false (ap (λ (k : Edge). k.from) c.edge_of-edge.ensures ∙ e)))
+          ],
     )
 
 pub shape_of-store : goal.shape_of-store

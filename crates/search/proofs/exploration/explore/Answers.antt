@@ -50,13 +50,25 @@ arrive-t-requires c =
     record { accepted = (a, rw c.start-l.ensures a.start<, blank_going a _ (capacity≡ (goal.at.arrive-t-requires c).After-first)); sized = rw c.first.ensures (first_sized (10 * counts) _ (n≤ _ a), first_settled _ (n≤ _ a)); sound_result = (subst (SoundResult _) (sym (arrived (goal.at.arrive-t-requires c).After-first)) (start-sound _ a), record { few = omega arith }) }
 
 -- ---- after the first offer
-offered : (c : After-arrive-t) →
-    Begun ((let it : List ℕ = c.args.automaton.now in it)) c.capacity_of-capacity.result c.args.store.now
-    c.arrive-t.last.1.0 c.arrive-t.result
-offered c = begun c.requires _ ((let it : c.capacity_of-capacity.result ≡ capacity_of (suc (clocks automaton)) (length c.args.store.now) = c.capacity_of-capacity.ensures
-    ∙ ap (λ (n : ℕ). capacity_of n (length c.args.store.now)) (size≡ _ c.counts_of.ensures) in it)) refl c.none.ensures
-    (gives_of _ _ _ _ _ _ c.start-l.ensures ((let it : arrival_of automaton c.start-l.result (set_of (replicate 9 false)) c.first.result ≡ enter_of (clocks automaton) (invariant_of automaton (start automaton)) first_work = (λ i. enter_of (clocks automaton) (invariant_of automaton (c.start-l.ensures i))
-    ((reset_none (suc (clocks automaton)) (set_of (replicate 9 false)) none_reset c.first.result ∙ c.first.ensures) i)) in it)) c.arrive-t.ensures)
+module _ (c : After-arrive-t) where
+  abbrev bytes : List ℕ
+  bytes = c.args.automaton.now
+
+  room : c.capacity_of-capacity.result ≡ capacity_of (suc (clocks bytes)) (length c.args.store.now)
+  room =
+      c.capacity_of-capacity.ensures
+      ∙ ap (λ (n : ℕ). capacity_of n (length c.args.store.now)) (size≡ _ c.counts_of.ensures)
+
+  came : arrival_of bytes c.start-l.result (set_of (replicate 9 false)) c.first.result
+      ≡ enter_of (clocks bytes) (invariant_of bytes (start bytes)) first_work
+  came =
+      (λ i. enter_of (clocks bytes) (invariant_of bytes (c.start-l.ensures i))
+      ((reset_none (suc (clocks bytes)) (set_of (replicate 9 false)) none_reset c.first.result ∙ c.first.ensures) i))
+
+  offered : Begun bytes c.capacity_of-capacity.result c.args.store.now c.arrive-t.new.store c.arrive-t.result
+  offered =
+      begun c.requires _ room refl c.none.ensures
+      (gives_of _ _ _ _ _ _ c.start-l.ensures came c.arrive-t.ensures)
 
 pub returns-then-has_ended : goal.returns-then-has_ended
 returns-then-has_ended c =

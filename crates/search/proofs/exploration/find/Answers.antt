@@ -1,8 +1,8 @@
 -- The oldest slot that contains the new one: none before slot j does.
 -- Assumes nothing.
-use Prim.Native.Nat.{◌+◌, ◌-◌, ◌≤◌}
+use Prim.Native.Nat.{◌+◌, ◌≤◌}
 use mathlib.Core.Path.{◌≡◌, sym, ap, ◌∙◌}
-use mathlib.Core.Logic.{⊎_elim}
+use borrow.Author.Rules.{rules}
 use mir.Syntax.{w32}
 use mir.Val.{of_z}
 use lib.ListN.{length}
@@ -12,7 +12,7 @@ use Rattle.slots.specs.Slots.{slot_length}
 use Rattle.search.proofs.exploration.Stores.{slot_fits, lent_length, hit, misses_more, miss_location, miss_inside}
 use Rattle.slots.proofs.slot.Loops.{same_bits}
 use Rattle.search.proofs.exploration.find.Goals as goal
-use Rattle.search.proofs.exploration.find.Goals.{In-loop-j}
+use Rattle.search.proofs.exploration.find.Goals.{In-loop-j, then-store-at+else-is_within, else-store-at}
 
 pub loop-j-init : goal.loop-j-init
 loop-j-init c = (c.slot_length-stride.ensures, omega arith, omega arith, λ i h. absurd (not-suc-le-zero h))
@@ -40,7 +40,7 @@ returns-then-is_within c =
       most = omega arith;
       before = c.loop-j.invariant.3;
       found = λ h. hit _ _ _ _ c.loop-j.invariant.2
-          (same_bits (record { sfits = c.t11-1.given }) (record { sfits = c.t13-1.given }) c.if-store-at.true)
+          (same_bits (search rules) (search rules) c.if-store-at.true)
           (sym c.is_within.ensures ∙ c.if-is_within.true);
     }
 
@@ -50,8 +50,10 @@ loop-j-preserved c = (
   omega arith,
   omega (arith, c.loop-j.invariant.0, c.loop-j.invariant.2),
   misses_more _ _ _ c.loop-j.j c.loop-j.invariant.3
-      (⊎_elim (λ w. miss_inside _ _ _ _ c.loop-j.invariant.2 (sym w.2.ensures ∙ w.3.false))
-      (λ w. miss_location _ _ _ _ c.loop-j.invariant.2 (λ e. w.false (ap (of_z w32) e))) c.if-store-at.branch),
+      (elim c.if-store-at.branch [
+        | then-store-at+else-is_within w ↦ miss_inside _ _ _ _ c.loop-j.invariant.2 (sym w.is_within.ensures ∙ w.if-is_within.false)
+        | else-store-at w ↦ miss_location _ _ _ _ c.loop-j.invariant.2 (λ e. w.if-store-at.false (ap (of_z w32) e))
+      ]),
 )
 
 pub returns : goal.returns

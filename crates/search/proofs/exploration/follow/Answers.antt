@@ -20,7 +20,7 @@ pub counts_of-counts-requires : goal.counts_of-counts-requires
 counts_of-counts-requires c = c.requires.accepted.0
 
 pub edge_at-at-requires : goal.edge_at-at-requires
-edge_at-at-requires c = let pre = c.requires.accepted in asks_edge _ c.counts_of-counts.ensures pre.0 pre.1
+edge_at-at-requires c = asks_edge _ c.counts_of-counts.ensures c.requires.accepted.0 c.requires.accepted.1
 
 -- ---- with the place of the guard
 module _ (c : After-edge_at-at) where
@@ -37,11 +37,10 @@ module _ (c : After-edge_at-at) where
 pub narrow-met-requires : goal.narrow-met-requires
 unfolding guard_of
 narrow-met-requires c =
-    let pre = c.requires.WHOLE in
-    let a = pre.0.0 in
-    let hi = pre.0.1 in
+    let a = c.requires.accepted.0 in
+    let hi = c.requires.accepted.1 in
     let q = asks_limits _ _ (ap (λ x. x + 3) (place≡ (goal.at.narrow-met-requires c).After-edge_at-at)) (size≡ (goal.at.narrow-met-requires c).After-edge_at-at) a.complete.clocks≤ (omega (arith, inside (goal.at.narrow-met-requires c).After-edge_at-at)) (guard_scale _ a _ hi)
-    (omega arith) (taken_sized _ a _ hi _ pre.1.1 pre.1.2) in
+    (omega arith) (taken_sized _ a _ hi _ c.requires.going.1 c.requires.going.2) in
     record { accepted = a; c_bound = q.0; on_scale = q.1; settled = λ e. true_false (sym e) }
 
 -- ---- the guard met
@@ -52,27 +51,28 @@ module _ (c : After-narrow-met) where
 
 pub emptied-requires : goal.emptied-requires
 emptied-requires c =
-    let pre = c.requires.WHOLE in
-    (going_safe _ pre.0.0 pre.1.0, emptied_fits _ pre.0.0 _ pre.0.1 _ pre.1.1 pre.1.2 (met (goal.at.emptied-requires c).After-narrow-met))
+    (going_safe _ c.requires.accepted.0 c.requires.going.0, emptied_fits _ c.requires.accepted.0 _ c.requires.accepted.1 _ c.requires.going.1 c.requires.going.2 (met (goal.at.emptied-requires c).After-narrow-met))
 
 pub returns-then-met : goal.returns-then-met
 returns-then-met c =
-    let pre = c.requires.WHOLE in
-    follows_none _ pre.0.0 _ pre.0.1 _ pre.1.1 pre.1.2 (met (goal.at.returns-then-met c).After-narrow-met) c.if-met.true _ _ _ _ c.emptied.ensures
+    follows_none _ c.requires.accepted.0 _ c.requires.accepted.1 _ c.requires.going.1 c.requires.going.2 (met (goal.at.returns-then-met c).After-narrow-met) c.if-met.true _ _ _ _ c.emptied.ensures
 
 pub arrive-requires : goal.arrive-requires
 arrive-requires c =
-    let pre = c.requires.WHOLE in
-    let a = pre.0.0 in
-    let hi = pre.0.1 in
+    let a = c.requires.accepted.0 in
+    let hi = c.requires.accepted.1 in
     let live = c.if-met.false in
-    record { accepted = (a, arrives_at _ a _ hi _ pre.1.1 pre.1.2 (met (goal.at.arrive-requires c).After-narrow-met) live pre.0.2, pre.1.0); sized = arrives _ a _ hi _ pre.1.1 pre.1.2 (met (goal.at.arrive-requires c).After-narrow-met) live; sound_result = (arrives_sound _ a _ hi _ pre.1.1 pre.1.2 (met (goal.at.arrive-requires c).After-narrow-met) live pre.0.2, pre.0.3) }
+    record { accepted = (a, arrives_at _ a _ hi _ c.requires.going.1 c.requires.going.2 (met (goal.at.arrive-requires c).After-narrow-met) live c.requires.accepted.2, c.requires.going.0); sized = arrives _ a _ hi _ c.requires.going.1 c.requires.going.2 (met (goal.at.arrive-requires c).After-narrow-met) live; sound_result = (arrives_sound _ a _ hi _ c.requires.going.1 c.requires.going.2 (met (goal.at.arrive-requires c).After-narrow-met) live c.requires.accepted.2, c.requires.accepted.3) }
 
 pub returns : goal.returns
 returns c =
-    let pre = c.requires.WHOLE in
-    let a = pre.0.0 in
-    let hi = pre.0.1 in
+    let a = c.requires.accepted.0 in
+    let hi = c.requires.accepted.1 in
     let live = c.if-met.false in
-    gives_of _ _ _ _ _ _ (edge_to _ a _ hi _ pre.1.1 pre.1.2 (met (goal.at.returns c).After-narrow-met) live pre.0.2)
-    (follows _ a _ hi _ pre.1.1 pre.1.2 (met (goal.at.returns c).After-narrow-met) live pre.0.2) c.arrive.ensures
+    gives_of _ _ _ _ _ _ (edge_to _ a _ hi _ c.requires.going.1 c.requires.going.2 (met (goal.at.returns c).After-narrow-met) live c.requires.accepted.2)
+    (follows _ a _ hi _ c.requires.going.1 c.requires.going.2 (met (goal.at.returns c).After-narrow-met) live c.requires.accepted.2) c.arrive.ensures
+
+pub overflow_add-at : goal.overflow_add-at
+overflow_add-at c =
+    let at = (goal.at.overflow_add-at c).After-edge_at-at in
+    omega (arith, place≡ at, inside at)

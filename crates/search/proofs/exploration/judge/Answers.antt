@@ -32,7 +32,9 @@ module _ (c : After-counts_of-size) where
   }
 
 pub encode-numbers-requires : goal.encode-numbers-requires
-encode-numbers-requires c = asks_encode (entered (goal.at.encode-numbers-requires c).After-counts_of-size)
+encode-numbers-requires c =
+    let q = asks_encode (entered (goal.at.encode-numbers-requires c).After-counts_of-size) in
+    record { size_bound = q.0; all_bounded = q.1 }
 
 pub find-j-requires : goal.find-j-requires
 find-j-requires c = asks_find (entered (goal.at.find-j-requires c).After-counts_of-size) c.encode-numbers.ensures
@@ -112,3 +114,6 @@ overflow_add-size c = omega (arith, few (goal.at.overflow_add-size c).After-coun
 
 pub slot_length-stride-requires : goal.slot_length-stride-requires
 slot_length-stride-requires c = omega (arith, few (goal.at.slot_length-stride-requires c).After-counts_of-size)
+
+pub slice_bounds-drop_inside-count : goal.slice_bounds-drop_inside-count
+slice_bounds-drop_inside-count c = omega (arith, slot_inside (goal.at.slice_bounds-drop_inside-count c).Then-j-count)

@@ -1,6 +1,6 @@
 -- The kept zones are taken oldest first, each once: each turn of the loop is one of the definition's.
 -- Assumes nothing.
-use Prim.Native.Nat.{ℕ, suc, ◌+◌, ◌*◌, ◌-◌, ◌≤◌, ◌<◌}
+use Prim.Native.Nat.{ℕ, suc, ◌+◌, ◌*◌, ◌≤◌, ◌<◌}
 use mathlib.Core.Path.{◌≡◌, sym, ap, ◌∙◌}
 use mathlib.Core.List.{List}
 use lib.IntN.{ℤ}
@@ -12,8 +12,9 @@ use Rattle.search.specs.Instance.{ZoneState}
 use Rattle.slots.specs.Slots.{slot_length}
 use Rattle.automata.proofs.fields.Counting.{size≡, few_clocks}
 use Rattle.search.proofs.exploration.Judging.{live-length, going_length}
-use Rattle.search.proofs.exploration.Taking.{read_location, Onward, Turned, begins, ends, onward, few, slot_inside, location}
+use Rattle.search.proofs.exploration.Taking.{read_location, reads_location, Onward, Turned, begins, ends, onward, few, slot_inside, location}
 use Rattle.search.proofs.exploration.Taking.{asks_decode, onward_few, sound_zone, turned}
+use borrow.Author.Rules.{rules}
 use Rattle.search.proofs.exploration.take.Goals as goal
 use Rattle.search.proofs.exploration.take.Goals.{After-counts_of-size, After-expand-t, At-loop-next, In-loop-next}
 
@@ -30,7 +31,7 @@ module _ (c : At-loop-next) where
   abbrev automaton : List ℕ
   automaton = c.args.automaton.now
 
-  on : Onward automaton c.args.capacity c.requires.1.base c.requires.1.state c.loop-next.next c.loop-next.store c.loop-next.t
+  on : Onward c.args.automaton.now c.args.capacity c.requires.1.base c.requires.1.state c.loop-next.next c.loop-next.store c.loop-next.t
   on = c.loop-next.invariant.2 c.requires.1.base c.requires.1.state c.requires.1.live
 
   at_entry : length c.args.store.now ≡ length c.requires.1.base
@@ -44,14 +45,14 @@ module _ (c : In-loop-next) where
   abbrev place : ℕ
   place = c.loop-next.next * c.slot_length-stride.result
 
-  place≡ : place ≡ c.loop-next.next * slot_length (suc (clocks ((let it : List ℕ = c.args.automaton.now in it))))
+  place≡ : place ≡ c.loop-next.next * slot_length (suc (clocks c.args.automaton.now))
   place≡ = ap (λ (x : ℕ). c.loop-next.next * x) c.loop-next.invariant.1
 
-  inside : place + slot_length (suc (clocks ((let it : List ℕ = c.args.automaton.now in it)))) ≤ length c.loop-next.store
-  inside = slot_inside c.requires.0 ((let it : Onward automaton c.args.capacity c.requires.1.base c.requires.1.state c.loop-next.next c.loop-next.store c.loop-next.t = c.loop-next.invariant.2 c.requires.1.base c.requires.1.state c.requires.1.live in it)) c.loop-next-test.true place≡ c.requires.1.long
+  inside : place + slot_length (suc (clocks c.args.automaton.now)) ≤ length c.loop-next.store
+  inside = slot_inside c.requires.0 ((let it : Onward c.args.automaton.now c.args.capacity c.requires.1.base c.requires.1.state c.loop-next.next c.loop-next.store c.loop-next.t = c.loop-next.invariant.2 c.requires.1.base c.requires.1.state c.requires.1.live in it)) c.loop-next-test.true place≡ c.requires.1.long
 
   below : c.loop-next.next < c.args.capacity
-  below = few c.requires.0 ((let it : Onward automaton c.args.capacity c.requires.1.base c.requires.1.state c.loop-next.next c.loop-next.store c.loop-next.t = c.loop-next.invariant.2 c.requires.1.base c.requires.1.state c.requires.1.live in it)) c.loop-next-test.true
+  below = few c.requires.0 ((let it : Onward c.args.automaton.now c.args.capacity c.requires.1.base c.requires.1.state c.loop-next.next c.loop-next.store c.loop-next.t = c.loop-next.invariant.2 c.requires.1.base c.requires.1.state c.requires.1.live in it)) c.loop-next-test.true
 
 pub slice_copy_out-l : goal.slice_copy_out-l
 slice_copy_out-l c = omega (arith, inside (goal.at.slice_copy_out-l c).In-loop-next)
@@ -61,7 +62,9 @@ slice_bounds-decode-start c = omega (arith, inside (goal.at.slice_bounds-decode-
 
 pub decode-z-requires : goal.decode-z-requires
 decode-z-requires c =
-    rw c.loop-next.invariant.0 (asks_decode c.requires.0 (on (goal.at.decode-z-requires c).At-loop-next) c.loop-next-test.true (place≡ (goal.at.decode-z-requires c).In-loop-next) c.requires.1.long)
+    let q = asks_decode c.requires.0 (on (goal.at.decode-z-requires c).At-loop-next) c.loop-next-test.true
+    (place≡ (goal.at.decode-z-requires c).In-loop-next) c.requires.1.long in
+    rw c.loop-next.invariant.0 (record { size_bound = q.0; by_index = q.1 })
 
 pub expand-t-requires : goal.expand-t-requires
 expand-t-requires c =
@@ -82,13 +85,13 @@ expand-t-requires c =
 -- ---- after the expansion
 module _ (c : After-expand-t) where
   expanded : (s₀ : List ℤ) (q₀ : ZoneState) →
-      Live ((let it : List ℕ = c.args.automaton.now in it)) c.args.capacity s₀ q₀ c.args.store.now c.args.turn →
-      Turned ((let it : List ℕ = c.args.automaton.now in it)) c.args.capacity s₀ q₀ c.loop-next.next c.expand-t.new.1.0 c.expand-t.result
+      Live c.args.automaton.now c.args.capacity s₀ q₀ c.args.store.now c.args.turn →
+      Turned c.args.automaton.now c.args.capacity s₀ q₀ c.loop-next.next c.expand-t.new.store c.expand-t.result
   expanded s₀ q₀ h =
       let w = c.loop-next.invariant.2 s₀ q₀ h in
-      let there = location c.requires.0 w c.loop-next-test.true ((let it : place ≡ c.loop-next.next * slot_length (suc (clocks ((let it : List ℕ = c.args.automaton.now in it)))) = ap (λ (x : ℕ). c.loop-next.next * x) c.loop-next.invariant.1 in it)) in
-      turned c.requires.0 w c.loop-next-test.true ((let it : place ≡ c.loop-next.next * slot_length (suc (clocks ((let it : List ℕ = c.args.automaton.now in it)))) = ap (λ (x : ℕ). c.loop-next.next * x) c.loop-next.invariant.1 in it)) (rw c.loop-next.invariant.0 at c.decode-z.ensures)
-      (read_location (record { sfits = c.l-1.given }) there) c.expand-t.ensures
+      let there = location c.requires.0 w c.loop-next-test.true (ap (λ (x : ℕ). c.loop-next.next * x) c.loop-next.invariant.1) in
+      turned c.requires.0 w c.loop-next-test.true (ap (λ (x : ℕ). c.loop-next.next * x) c.loop-next.invariant.1) (rw c.loop-next.invariant.0 at c.decode-z.ensures)
+      (read_location (search rules) there) c.expand-t.ensures
 
 pub shape_of-store-then-has_ended : goal.shape_of-store-then-has_ended
 shape_of-store-then-has_ended c =
@@ -121,3 +124,16 @@ overflow_add-size c = omega (arith, few-of (goal.at.overflow_add-size c).After-c
 
 pub slot_length-stride-requires : goal.slot_length-stride-requires
 slot_length-stride-requires c = omega (arith, few-of (goal.at.slot_length-stride-requires c).After-counts_of-size)
+
+pub overflow_cast-l : goal.overflow_cast-l
+overflow_cast-l c =
+    reads_location (search rules) (location c.requires.0 (on (goal.at.overflow_cast-l c).At-loop-next) c.loop-next-test.true
+    (place≡ (goal.at.overflow_cast-l c).In-loop-next))
+
+pub offset_bounds-store-at-in-loop-next : goal.offset_bounds-store-at-in-loop-next
+offset_bounds-store-at-in-loop-next c =
+    let steps = goal.at.offset_bounds-store-at-in-loop-next c in
+    omega (arith, inside steps.In-loop-next, now steps.At-loop-next)
+
+pub slice_bounds-decode-count : goal.slice_bounds-decode-count
+slice_bounds-decode-count c = omega (arith, inside (goal.at.slice_bounds-decode-count c).In-loop-next)

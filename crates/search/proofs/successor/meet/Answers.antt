@@ -2,7 +2,6 @@
 -- Assumes nothing.
 use Prim.Native.Nat.{◌-◌}
 use mathlib.Core.Path.{◌≡◌, refl, sym, ap, ◌∙◌}
-use mathlib.Core.Logic.{⊎_elim}
 use native.Mathlib.Omega.{arith}
 use lib.Dec.{eqb}
 use Rattle.zones.specs.declared.zone.Work.{Work}
@@ -13,6 +12,7 @@ use Rattle.automata.specs.Automata.{limits_at, no_upper}
 use Rattle.automata.specs.declared.fields.Limits.{Limits}
 use Rattle.search.proofs.successor.Stepping.{turn_ready, turn_met, turn_same}
 use Rattle.search.proofs.successor.meet.Goals as goal
+use Rattle.search.proofs.successor.meet.Goals.{then-is_below, else-is_below}
 
 pub loop-x-init : goal.loop-x-init
 unfolding meet_limits
@@ -40,13 +40,15 @@ loop-x-preserved c =
           c.requires.on_scale.1 c.loop-x.x c.loop-x.invariant.0 (omega arith) c.loop-x.invariant.2
           (ap (λ (l : Limits). l.lo) limits) (ap (λ (l : Limits). l.hi) limits)
           (ap (λ (l : Limits). eqb l.hi no_upper) limits) c.meet-met.ensures,
-      λ e. ⊎_elim (λ x. true_false (sym e ∙ x.1))
-          (λ x.
-          let s = c.loop-x.invariant.3 (sym x.1 ∙ e) in (
-            s.0,
-            turn_same _ _ _ c.limits_of-limits.result.lo c.limits_of-limits.result.hi (eqb c.limits_of-limits.result.hi no_upper)
-                c.meet-met.ensures (sym below ∙ x.0.false) ∙ s.1,
-          )) c.if-is_below.branch,
+      λ e. elim c.if-is_below.branch [
+        | then-is_below w ↦ true_false (sym e ∙ w.same-is)
+        | else-is_below w ↦
+            let s = c.loop-x.invariant.3 (sym w.same-is ∙ e) in (
+              s.0,
+              turn_same _ _ _ c.limits_of-limits.result.lo c.limits_of-limits.result.hi (eqb c.limits_of-limits.result.hi no_upper)
+                  c.meet-met.ensures (sym below ∙ w.if-is_below.false) ∙ s.1,
+            )
+      ],
     )
 
 pub returns : goal.returns

@@ -2,18 +2,22 @@
 -- Assumes nothing.
 use Prim.Native.Nat.{◌+◌}
 use mathlib.Core.Path.{refl}
-use mathlib.Core.Logic.{⊎_elim}
 use Rattle.zones.specs.Settled.{Begun}
 use Rattle.search.proofs.successor.Stepping.{one_more, met_is, met_ready, none_begun, all_begun}
 use Rattle.search.proofs.successor.narrow.Goals as goal
+use Rattle.search.proofs.successor.narrow.Goals.{then-met, else-met}
 
 pub reduce_from-requires : goal.reduce_from-requires
 reduce_from-requires c =
     let n≤ = c.requires.c_bound.0 in
     let work = c.meet-met.ensures.work in
     let begun : Begun (c.args.c + 1) c.if-met.first c.meet-met.result.work =
-    ⊎_elim (λ x. let s = c.meet-met.ensures.same x.0.true in all_begun _ n≤ _ (one_more refl) _ (c.requires.settled s.0) s.1 work x.1)
-    (λ x. none_begun _ n≤ c.args.w (one_more refl) _ x.1) c.if-met.branch in
+    elim c.if-met.branch [
+      | then-met x ↦
+          let s = c.meet-met.ensures.same x.if-met.true in
+          all_begun _ n≤ _ (one_more refl) _ (c.requires.settled s.0) s.1 work x.first-is
+      | else-met x ↦ none_begun _ n≤ c.args.w (one_more refl) _ x.first-is
+    ] in
     (met_ready _ n≤ _ (one_more refl) _ c.requires.on_scale.0 c.requires.on_scale.1 work, begun)
 
 pub returns : goal.returns

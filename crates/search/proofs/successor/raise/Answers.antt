@@ -1,6 +1,5 @@
 -- `raise` meets its contract: what is done is the upper bounds of the clocks passed.
 -- Assumes nothing.
-use Prim.Native.Nat.{◌-◌}
 use mathlib.Core.Path.{refl, ap, ◌∙◌}
 use native.Mathlib.Omega.{arith}
 use Rattle.zones.specs.Pairs.{at_most}

@@ -5,8 +5,8 @@ use Rattle.search.proofs.verdict.holding_numbers.Goals as goal
 
 pub returns-in-AnyError : goal.returns-in-AnyError
 unfolding numbers_of
-returns-in-AnyError c = rw c.enum_told-1.given.1 refl
+returns-in-AnyError c = rw c.in-AnyError.is refl
 
 pub returns-in-Below : goal.returns-in-Below
 unfolding numbers_of
-returns-in-Below c = rw c.h-1.given.1 refl
+returns-in-Below c = rw c.in-Below.is refl

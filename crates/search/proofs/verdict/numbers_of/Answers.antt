@@ -5,7 +5,7 @@ use Rattle.search.proofs.verdict.numbers_of.Goals as goal
 
 pub returns-in-Reached : goal.returns-in-Reached
 unfolding numbers_of
-returns-in-Reached c = rw c.enum_told-1.given.1 refl
+returns-in-Reached c = rw c.in-Reached.is refl
 
 pub returns-in-Holds : goal.returns-in-Holds
-returns-in-Holds c = rw c.v-1.given.1 c.holding_numbers.ensures
+returns-in-Holds c = rw c.in-Holds.is c.holding_numbers.ensures

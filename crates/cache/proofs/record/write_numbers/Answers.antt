@@ -1,0 +1,20 @@
+-- `write_numbers` meets its contract: kind, n and d, each right behind the one before.
+use mathlib.Core.List.{[], ◌∷◌}
+use native.Mathlib.Omega.{arith}
+use Rattle.encoding.specs.Numbers.{be32}
+use Rattle.cache.specs.Records.{number_bytes}
+use Rattle.encoding.proofs.Placed.{goes_on}
+use Rattle.cache.proofs.record.write_numbers.Goals as goal
+
+pub returns : goal.returns
+unfolding number_bytes be32
+returns c =
+    let laid = c.requires.laid in
+    let room = c.requires.head_in_bounds in
+    let L = c.args.layout in
+    let x = c.args.x in
+    let s = c.args.free.now in
+    let kind-n = goes_on s (x.kind ∷ []) (be32 x.n) L.kind L.n (omega (arith, laid)) (omega (arith, laid))
+    c.put.ensures c.bytes_of.ensures c.put-2.ensures in
+    goes_on s (x.kind ∷ be32 x.n) (be32 x.d) L.kind L.d (omega (arith, laid)) (omega (arith, laid))
+    kind-n c.bytes_of-2.ensures c.put-3.ensures

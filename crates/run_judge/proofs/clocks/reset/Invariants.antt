@@ -1,0 +1,11 @@
+use Prim.Native.Nat.{◌≤◌, ◌-◌}
+use mathlib.Core.Path.{◌≡◌}
+use lib.ListN.{length}
+use Rattle.run_judge.specs.Clocks.{reset_by, marked_in}
+use Rattle.run_judge.proofs.clocks.reset.Given as goal
+
+abbrev pub invariant-loop-x : goal.invariant-loop-x
+invariant-loop-x l = (l.x ≤ l.n) × (length l.clocks ≡ 8) × (l.clocks ≡ reset_by (marked_in l.resets) l.x l.initial.clocks)
+
+abbrev pub decreases-loop-x : goal.decreases-loop-x
+decreases-loop-x l = l.n - l.x
