@@ -2,7 +2,7 @@
 ghost use Rattle.std.specs.Prelude.{◌≡◌, ◌++◌, ◌+◌, ◌≤◌, length};
 ghost use Rattle.robustness.specs.Lines.{Writing, Behind, text_of, decimal, holding_text, verdict_text, findings_text, line_of};
 
-use itoa::write_digits;
+use itoa::Buffer;
 use search::verdict::{Findings, Holding, Verdict};
 
 // A line that is being written: the first `length` bytes have been.
@@ -19,18 +19,17 @@ fn with_text(line: Line, text: &[u8]) -> Line
 {
     let mut bytes = line.bytes;
     let at = line.length;
-    let end = at + text.len();
-    bytes[at..end].copy_from_slice(text);
-    Line { bytes, length: end }
+    let length = at + text.len();
+    bytes[at..length].copy_from_slice(text);
+    Line { bytes, length }
 }
 
 fn with_number(line: Line, n: u64) -> Line
     requires { Writing 116 line }
     ensures { Behind line (decimal n) 20 result }
 {
-    let mut digits = [0u8; 20];
-    let first = write_digits(n, &mut digits, 20);
-    with_text(line, &digits[first..])
+    let mut digits = Buffer::new();
+    with_text(line, digits.format(n).as_bytes())
 }
 
 fn with_holding(line: Line, h: Holding) -> Line

@@ -1,29 +1,28 @@
--- What std writes of a number in decimal is the line's decimal: both put the last digit behind the digits of a tenth.
+-- The digits by which a number is printed are the number in decimal; of a number of 64 bits there are at most 20.
 -- Assumes nothing.
-use Rattle.std.proofs.Common.{◌≡◌, ℕ, zero, suc, ◌+◌, ◌/◌, ◌%◌, ◌^◌, ◌≤◌, ◌<◌, List, [], ◌∷◌, ◌++◌, refl, sym, ap, length, arith}
-use Rattle.std.specs.Fmt.{decimal as std_decimal}
-use Rattle.std.proofs.lemmas.Fmt.{AppendsLastDigit, decimal_from_appends, length-decimal-le_succ}
-use borrow.Author.Tests.{lt-ltb, le-ltb}
+use Rattle.std.proofs.Common.{◌≡◌, ℕ, zero, suc, ◌+◌, ◌-◌, ◌/◌, ◌%◌, ◌^◌, ◌<◌, ◌≤◌, [], ◌∷◌, ◌++◌, length, arith, refl, sym, ap, ◌∙◌, le_refl}
+use Rattle.std.proofs.lemmas.Bool.{lt-ltb, le-ltb}
+use Rattle.std.proofs.lemmas.Fmt.{decimal_by_steps, length-decimal-le}
+use Rattle.std.specs.Fmt.{decimal as printed}
 use Rattle.robustness.specs.Lines.{digits_of, decimal}
 
--- at most k digits
-abbrev last_digits : ℕ → ℕ → List ℕ
-last_digits zero n = []
-last_digits (suc k) n = digits_of k n
-
-one : (k n : ℕ) → n < 10 → digits_of k n ≡ (48 + n) ∷ []
+-- the one digit of a number below 10, and the digits of any other, however many there may be
+single : (more n : ℕ) → n < 10 → digits_of more n ≡ (48 + n) ∷ []
 unfolding digits_of
-one zero n h = let e : n % 10 ≡ n = omega arith in ap (λ d. (48 + d) ∷ []) e
-one (suc k) n h = rw (digits_of, lt-ltb n 10 h) refl
+single zero n h = let e : n % 10 ≡ n = omega arith in ap (λ d. (48 + d) ∷ []) e
+single (suc more) n h = rw (lt-ltb n 10 h, digits_of) refl
 
-more : (k n : ℕ) → 10 ≤ n → digits_of k n ≡ last_digits k (n / 10) ++ ((48 + n % 10) ∷ [])
+tens : (more n : ℕ) → 10 ≤ n → n ≤ more → digits_of more n ≡ digits_of (more - 1) (n / 10) ++ ((48 + n % 10) ∷ [])
 unfolding digits_of
-more zero n h = refl
-more (suc k) n h = rw (digits_of, le-ltb n 10 h) refl
+tens zero n h g = absurd (omega (arith, h, g))
+tens (suc more) n h g =
+    let e : more ≡ suc more - 1 = omega arith in rw (le-ltb n 10 h, digits_of) (ap (λ m. digits_of m (n / 10) ++ ((48 + n % 10) ∷ [])) e)
 
-pub written_decimal : (n : ℕ) → n < 2 ^ 64 → std_decimal n ≡ decimal n
+pub printed_decimal : (n : ℕ) → n < 2 ^ 64 → printed n ≡ decimal n
 unfolding decimal
-written_decimal n h =
-    let steps : AppendsLastDigit last_digits = record { one = one; more = more } in
-    let few : length (std_decimal n) ≤ suc n = omega (arith, length-decimal-le_succ n h) in
-    sym (decimal_from_appends last_digits steps (suc n) n h few)
+printed_decimal n h =
+    sym (decimal_by_steps (λ n ds. (more : ℕ) → n ≤ more → digits_of more n ≡ ds) (λ n l more g. single more n l)
+    (λ n ds l p more g. tens more n l g ∙ ap (λ xs. xs ++ ((48 + n % 10) ∷ [])) (p (more - 1) (omega arith))) n h n (le_refl n))
+
+pub printed_length : (n : ℕ) → n < 2 ^ 64 → length (printed n) ≤ 20
+printed_length n h = length-decimal-le 20 n (omega arith) (omega (arith, h)) h

@@ -1,6 +1,5 @@
--- `line_of` meets its contract: the text of what was found and the end of the line, behind no text.
--- Assumes nothing.
-use native.Mathlib.Omega.{arith}
+-- The text of what was found and the end of the line, behind no text.
+use Rattle.std.proofs.Common.{arith}
 use Rattle.robustness.specs.Lines.{line_of}
 use Rattle.robustness.proofs.line.Writing.{two}
 use Rattle.robustness.proofs.line.line_of.Goals as goal

@@ -1,8 +1,6 @@
--- `with_holding` meets its contract: the texts of each case, one behind another.
--- Assumes nothing.
+-- The texts of each case, one behind another.
+use Rattle.std.proofs.Common.{arith, sym, ap}
 use Rattle.robustness.specs.Lines.{holding_text}
-use mathlib.Core.Path.{sym, ap}
-use native.Mathlib.Omega.{arith}
 use Rattle.robustness.proofs.line.Writing.{one, two}
 use Rattle.robustness.proofs.line.with_holding.Goals as goal
 
@@ -13,5 +11,5 @@ returns-in-AnyError c = one _ _ _ c.with_text.ensures (sym (ap holding_text c.in
 pub returns-in-Below : goal.returns-in-Below
 unfolding holding_text
 returns-in-Below c =
-    let b = two c.with_number.ensures (two c.with_text-over.ensures c.with_number-in-Below.ensures) in
-    one _ _ _ b (sym (ap holding_text c.in-Below.is)) (omega arith)
+    one _ _ _ (two c.with_number.ensures (two c.with_text-over.ensures c.with_number-in-Below.ensures)) (sym (ap holding_text c.in-Below.is))
+    (omega arith)

@@ -1,8 +1,6 @@
--- `with_verdict` meets its contract: the texts of each case, one behind another.
--- Assumes nothing.
+-- The texts of each case, one behind another.
+use Rattle.std.proofs.Common.{arith, sym, ap}
 use Rattle.robustness.specs.Lines.{verdict_text}
-use mathlib.Core.Path.{sym, ap}
-use native.Mathlib.Omega.{arith}
 use Rattle.robustness.proofs.line.Writing.{one, two}
 use Rattle.robustness.proofs.line.with_verdict.Goals as goal
 
@@ -12,6 +10,4 @@ returns-in-Reached c = one _ _ _ c.with_text.ensures (sym (ap verdict_text c.in-
 
 pub returns-in-Holds : goal.returns-in-Holds
 unfolding verdict_text
-returns-in-Holds c =
-    let b = two c.with_text-in-Holds.ensures c.with_holding.ensures in
-    one _ _ _ b (sym (ap verdict_text c.in-Holds.is)) (omega arith)
+returns-in-Holds c = one _ _ _ (two c.with_text-in-Holds.ensures c.with_holding.ensures) (sym (ap verdict_text c.in-Holds.is)) (omega arith)
