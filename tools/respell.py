@@ -20,6 +20,9 @@ KEYWORDS = {"use", "pub", "where", "unfolding", "let", "in", "elim", "mod", "abb
 # words of the library by which a dash may stand
 STD = set("length append take drop map set get_or gcd mul add sub div mod le lt suc zero cons snoc min max neg abs int sum placed".split())
 
+# definitions, which have no dash
+AT_HAND = {"Same-at": "SameAt", "take-from": "take_from", "first-node": "first_node", "from-to": "from_to"}
+
 
 def files(kinds):
     return sorted(f for k in kinds for f in glob.glob("crates/**/" + k, recursive=True) if "/out/" not in f)
@@ -36,7 +39,7 @@ def declared():
                 m = pattern.match(line)
                 if m and m.group(1) not in KEYWORDS:
                     names[m.group(1)] += 1
-                    if re.match(r"\s*(abbrev|unfoldable|pub record|record|pub data)\b", line):
+                    if pattern is HEAD and re.match(r"(abbrev|unfoldable|pub record|record|pub data)", line):
                         definitions.add(m.group(1))
     return names, definitions
 
@@ -50,7 +53,7 @@ def spelled(name, definitions):
     parts = [p if p[:1].isupper() else snake(p) for p in name.split("-")]
     out = parts[0]
     for a, b in zip(parts, parts[1:]):
-        both = name not in definitions and (a in definitions or a in STD or a[:1].isupper()) and (b in definitions or b in STD or b[:1].isupper())
+        both = (a in definitions or a in STD or a[:1].isupper()) and (b in definitions or b in STD or b[:1].isupper())
         out += ("-" if both else "_") + b
     return out
 
@@ -58,14 +61,13 @@ def spelled(name, definitions):
 def main():
     names, definitions = declared()
     snaked = {snake(d) for d in definitions}
-    # what `ltZ` and the like name stands in the library
     table = {n: spelled(n, snaked) for n in names}
     # a lemma that would have its function's name
     met = collections.Counter(table.values())
     for n, b in list(table.items()):
         if met[b] > 1 and n not in definitions:
             table[n] = b + "_lem"
-    table = {a: b for a, b in table.items() if a != b} | {"Same-at": "SameAt"}
+    table = {a: b for a, b in table.items() if a != b} | AT_HAND
     olds = collections.defaultdict(set)
     for a in names:
         olds[table.get(a, a)].add(a)
