@@ -32,7 +32,8 @@ module _ (b form : List ℕ) where
     pub short : {total : ℕ} → total ≡ length (canonical_of b) → length form < total
         → (Refused 13 ≡ form_answer b (length form)) × (form ≡ form_buffer b form)
     unfolding form_refusal
-    short t h = turned_away b form (rw (eq-eqb (refusal_of b) 0 free, lt-ltb (length form) (length (canonical_of b)) (omega arith))) (λ q. omega arith)
+    short t h = turned_away b form (rw (eq-eqb (refusal_of b) 0 free, lt-ltb (length form) (length (canonical_of b)) (omega arith)))
+        (λ q. omega arith)
 
     pub written : {total : ℕ} {now : List ℕ} → total ≡ length (canonical_of b) → total ≤ length form → now ≡ placed 0 (canonical_of b) form
         → (Written total ≡ form_answer b (length form)) × (now ≡ form_buffer b form)

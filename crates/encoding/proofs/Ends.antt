@@ -29,7 +29,8 @@ outer_same a b i j o h =
 
 module _ (a b : List ℕ) (i j : ℕ) (o : Outer a b i j) where
   -- the bytes from i to m agree too, and those from n to j
-  wider : (m n : ℕ) → ((k : ℕ) → i ≤ k → k < m → get_or a k 0 ≡ get_or b k 0) → ((k : ℕ) → n ≤ k → k < j → get_or a k 0 ≡ get_or b k 0) → Outer a b m n
+  wider : (m n : ℕ) → ((k : ℕ) → i ≤ k → k < m → get_or a k 0 ≡ get_or b k 0) → ((k : ℕ) → n ≤ k → k < j → get_or a k 0 ≡ get_or b k 0)
+      → Outer a b m n
   wider m n f g = record {
     size = o.size;
     front = λ k h. elim (dec_le i k) [ yes l ↦ f k l h | no l ↦ o.front k (omega arith) ];

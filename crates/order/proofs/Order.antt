@@ -50,7 +50,8 @@ transitive (x ∷ xs) [] z h k = not_both h refl
 transitive (x ∷ xs) (y ∷ ys) [] h k = not_both k refl
 transitive (x ∷ xs) (y ∷ ys) (z ∷ zs) h k = go (numbers x y) (numbers y z) (transitive xs ys zs)
   where
-    go : Numbers x y → Numbers y z → (bytes_less xs ys ≡ true → bytes_less ys zs ≡ true → bytes_less xs zs ≡ true) → bytes_less (x ∷ xs) (z ∷ zs) ≡ true
+    go : Numbers x y → Numbers y z → (bytes_less xs ys ≡ true → bytes_less ys zs ≡ true → bytes_less xs zs ≡ true)
+        → bytes_less (x ∷ xs) (z ∷ zs) ≡ true
     go (less p) (less q) t = head-less x z xs zs (omega arith)
     go (less p) (same q) t = head-less x z xs zs (omega arith)
     go (less p) (more q) t = not_both k (head_more y z ys zs q)

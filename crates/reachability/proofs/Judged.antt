@@ -137,7 +137,8 @@ module _ {Z F : Type 0} (A : System) (O : Zones Z F) where
       pub came : (c met).came ≡ x
       pub same : q'.kept ≡ q.kept
 
-    judge_met : {q : State Z F} {f : F} {x : Came} (c : Z → Node Z) (z : Z) {q' : State Z F} → Judged cap q (c z) f q' → q'.outcome ≡ ended (reached x)
+    judge_met : {q : State Z F} {f : F} {x : Came} (c : Z → Node Z) (z : Z) {q' : State Z F} → Judged cap q (c z) f q'
+        → q'.outcome ≡ ended (reached x)
         → Met q q' c (zone z f) x
     judge_met {f = f} c z (was_target e) h = record { met = z; after = f; made = refl; there = eqb-true _ _ e; came = cc; same = refl }
     judge_met c z (was_inside y e g) h = ended_going (sym h ∙ dropping_going _ _ _)

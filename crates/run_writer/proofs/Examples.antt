@@ -22,9 +22,12 @@ use Rattle.run_writer.specs.Examples.{AllRight}
 use Rattle.run_writer.specs.Writing.{outcome_numbers, run_numbers, run_findings, run_buffer}
 
 pub all_right : AllRight
-unfolding edge_in firsts guard_of in_byte invariant_in invariant_of limits_at reset_set resets_of out_of_range_at refusal_of some be16_at be32_at path_of
-    find judge offer follow expand take_from search back_to last_state findings_of search_findings state_findings entering following overcounted result_of
-    capacity_of places_of wait_to least_to back_of landing_of count_to larger lowered_by euclid gcd_of lowest_terms sum_of compare_of is_below is_less threshold_of
+unfolding edge_in firsts guard_of in_byte invariant_in invariant_of limits_at reset_set resets_of out_of_range_at refusal_of some be16_at be32_at
+    path_of
+    find judge offer follow expand take_from search back_to last_state findings_of search_findings state_findings entering following overcounted
+    result_of
+    capacity_of places_of wait_to least_to back_of landing_of count_to larger lowered_by euclid gcd_of lowest_terms sum_of compare_of is_below is_less
+    threshold_of
     smaller_of relaxed row_steps round_steps empty_in empty_below after_middle reduce_steps and_then meet_of enter_of follow_of
     pair_at first_work lower_at meet_upper meet_clock meet_limits raise_limits home reset_places reset_of
     back_along landing_along outcome_numbers run_numbers run_findings run_buffer

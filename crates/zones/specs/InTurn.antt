@@ -1,5 +1,5 @@
--- Document 02, word by word: a fraction lowered by one threshold after the other. `empty_below` and `inside_to` are the lowest of the same thresholds;
--- to lower by that is to lower by each in turn, to the same term (`diagonals_in_turn`, `places_in_turn`).
+-- Document 02, word by word: a fraction lowered by one threshold after the other. `empty_below` and `inside_to` are the lowest of the same
+-- thresholds; to lower by that is to lower by each in turn, to the same term (`diagonals_in_turn`, `places_in_turn`).
 -- There are n indices: 0 and the clocks.
 use Rattle.std.specs.Prelude.{ℕ, zero, suc, ◌%◌, cond, List, ltb, pos}
 use Rattle.std.specs.Int.Signed.{lt_z}

@@ -57,7 +57,8 @@ unfolding bench_places
 places_at zero j hk hj = let z : ⊥ = omega arith in absurd z
 places_at (suc k) j hk hj = go (ℕ_discrete j k) (places_at k j (omega arith))
   where
-    go : Dec (j ≡ k) → (j < k → get_or (bench_places k) j zero_pair ≡ bench_pair j) → get_or (set (bench_places k) k (bench_pair k)) j zero_pair ≡ bench_pair j
+    go : Dec (j ≡ k) → (j < k → get_or (bench_places k) j zero_pair ≡ bench_pair j)
+        → get_or (set (bench_places k) k (bench_pair k)) j zero_pair ≡ bench_pair j
     go (yes e) f = rw e (get_or-set_same (bench_places k) k (bench_pair k) zero_pair (omega (arith, places_size k)))
     go (no n) f = get_or-set_other (bench_places k) k j (bench_pair k) zero_pair n ∙ f (omega arith)
 
@@ -71,7 +72,8 @@ work_plain t j h = go (ℕ_discrete j 9)
   where
     go : Dec (j ≡ 9) → Plain (get_or (set bench_square 9 (vary t)) j zero_pair)
     go (yes e) =
-        rw (e, get_or-set_same bench_square 9 (vary t) zero_pair (omega (arith, places_size 81))) (plain (t % 64) (t % 16) (omega arith) (omega arith))
+        rw (e, get_or-set_same bench_square 9 (vary t) zero_pair (omega (arith, places_size 81)))
+        (plain (t % 64) (t % 16) (omega arith) (omega arith))
     go (no f) = rw (get_or-set_other bench_square 9 j (vary t) zero_pair f, places_at 81 j (omega arith) h) (pair_plain j h)
 
 work_narrow : (t : ℕ) → Fits32 (bench_work t).fraction

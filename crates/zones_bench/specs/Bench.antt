@@ -12,7 +12,8 @@ prime = 1000003
 
 -- the entry at the place k = i * 9 + j: (0, 0) on the diagonal
 unfoldable pub bench_pair : ℕ → Pair
-bench_pair k = cond (eqb (k / 9) (k % 9)) zero_pair (record { m = pos ((17 * (k / 9) + 13 * (k % 9)) % 31 + 1); p = (13 * (k / 9) + 3 * (k % 9)) % 29 })
+bench_pair k = cond (eqb (k / 9) (k % 9)) zero_pair
+    (record { m = pos ((17 * (k / 9) + 13 * (k % 9)) % 31 + 1); p = (13 * (k / 9) + 3 * (k % 9)) % 29 })
 
 -- the first k places filled
 unfoldable pub bench_places : ℕ → List Pair

@@ -123,7 +123,8 @@ module _ {L : Layout} (c r : List ℕ) (k : Sound L c) (room : Room c (length r)
         ap (records_of L) appended_front ∙ front_records appended_is (drop (used_of c + length r) c)
         ∙ records_append laid r e h (record_bytes c) k.fine.filled
 
-    pub appended-sound : sound_record L r ≡ true → is_absent (look_up L (records_of L c) (record_automaton L r)) ≡ true → sound_as L (appended c r) ≡ true
+    pub appended-sound : sound_record L r ≡ true → is_absent (look_up L (records_of L c) (record_automaton L r)) ≡ true
+        → sound_as L (appended c r) ≡ true
     appended-sound g a =
         ap (sound_as L) appended_front ∙ front_sound appended_is (drop (used_of c + length r) c) (with_fine laid k.fine r e h g a)
 

@@ -27,7 +27,8 @@ use Rattle.encoding.specs.Placing.{placed}
 use Rattle.cache.specs.Records.{measured, record_of}
 use Rattle.cache.specs.Lookups.{look_up, is_absent}
 use Rattle.cache.specs.Caches.{records_of, sound_as}
-use Rattle.cache.specs.Consulting.{empty_header, make_empty_as, look_up_as, full, Room, appended, consult_answer_as, consult_cache_as, consult_store_as}
+use Rattle.cache.specs.Consulting.{empty_header, make_empty_as, look_up_as, full, Room, appended, consult_answer_as, consult_cache_as}
+use Rattle.cache.specs.Consulting.{consult_store_as}
 use Rattle.cache.proofs.layouts.Written.{written-length, written_automaton, written-measured, given_fits, filed-back, record_sound}
 use Rattle.cache.proofs.records.Splitting.{no_records}
 use Rattle.cache.proofs.records.Looking.{look_append}

@@ -67,7 +67,8 @@ module _ (L : Layout) (c b : List ℕ) where
     unfolding consult_answer_as consult_cache_as searched answer_to is_absent
     searched_all f amount = (rw (consult_answer_as, e, f) refl, rw (consult_cache_as, searched, e, f) refl)
 
-    pub absent_all : (s : List ℤ) → Searches L c b s (consult_answer_as L c b (length s)) (consult_cache_as L c b (length s)) (consult_store_as L c b s)
+    pub absent_all : (s : List ℤ)
+        → Searches L c b s (consult_answer_as L c b (length s)) (consult_cache_as L c b (length s)) (consult_store_as L c b s)
     unfolding consult_answer_as consult_cache_as consult_store_as searched answer_to is_absent
     absent_all s = let t = full c (L.head + length b) in record { answer = rw (consult_answer_as, e) refl; cache = go t refl; store = stored t refl }
       where

@@ -20,7 +20,10 @@ pub returns-in-Written : goal.returns-in-Written
 returns-in-Written c =
     let wrote = c.write_canonical.ensures in
     let a = c.args in
-    record { value = looks_written a.automaton.now a.form.now wrote.value _ _ c.in-Written.is wrote.form_after c.look_up_form.ensures; form_after = wrote.form_after }
+    record {
+      value = looks_written a.automaton.now a.form.now wrote.value _ _ c.in-Written.is wrote.form_after c.look_up_form.ensures;
+      form_after = wrote.form_after;
+    }
 
 pub returns-in-Refused : goal.returns-in-Refused
 returns-in-Refused c =

@@ -1,3 +1,4 @@
+-- The loop of `same_by_words`: what it keeps, and what falls.
 use Prim.Native.Nat.{◌-◌, ◌≤◌}
 use lib.ListN.{length}
 use Rattle.encoding.proofs.Ends.{Outer}

@@ -6,7 +6,8 @@ use Rattle.std.specs.Io.KnownBytes.{Consumes}
 use Rattle.robustness.proofs.read_full.Goals as goal
 
 -- the beginning of a buffer, behind whose first bytes others have been put
-more : (at n : ℕ) (bytes part rest : List ℕ) → at ≤ length bytes → n ≤ length part → take (at + n) (take at bytes ++ (part ++ rest)) ≡ take at bytes ++ take n part
+more : (at n : ℕ) (bytes part rest : List ℕ) → at ≤ length bytes → n ≤ length part → take (at + n) (take at bytes ++ (part ++ rest)) ≡ take at bytes
+    ++ take n part
 more at n bytes part rest h k =
     ap (λ m. take (m + n) (take at bytes ++ (part ++ rest))) (sym (length-take-le at bytes h)) ∙ take-append-add (take at bytes) (part ++ rest) n
     ∙ ap (λ xs. take at bytes ++ xs) (take-append-le n part rest k)

@@ -27,8 +27,10 @@ returns-then-run-eq0 c =
 
 pub passes-requires : goal.passes-requires
 passes-requires c =
-    let run = c.args.run.now in
-    (accepted _ (free (goal.at.passes-requires c).Else-number-ne0), omega (arith, count_top (get_or run 0 (pos 0)) (length run), c.count_at-end.ensures))
+    let run = c.args.run.now in (
+      accepted _ (free (goal.at.passes-requires c).Else-number-ne0),
+      omega (arith, count_top (get_or run 0 (pos 0)) (length run), c.count_at-end.ensures),
+    )
 
 pub returns-then-passes : goal.returns-then-passes
 returns-then-passes c =

@@ -23,7 +23,8 @@ r : {A B : Type 0} {x : A} {y : B} → (x ≡ x) × (y ≡ y)
 r = (refl, refl)
 
 pub all_right : AllRight examples
-unfolding count_to larger inside_to every_to lowered_by euclid gcd_of lowest_terms sum_of compare_of is_below is_equal is_at_most is_less threshold_of smaller_of
+unfolding count_to larger inside_to every_to lowered_by euclid gcd_of lowest_terms sum_of compare_of is_below is_equal is_at_most is_less threshold_of
+    smaller_of
     pair_at first_work lower_at meet_upper meet_clock meet_limits raise_limits home reset_places reset_of
     relaxed row_steps round_steps empty_in empty_below after_middle reduce_steps and_then meet_of enter_of follow_of
     be16_at be32_at edge_in firsts guard_of in_byte invariant_in invariant_of limits_at reset_set resets_of out_of_range_at refusal_of some

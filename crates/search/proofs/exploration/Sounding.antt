@@ -90,7 +90,8 @@ enter_left : (c : ℕ) → suc c ≤ 9 → (P : ℕ) → 0 < P → P ≤ 10 * co
     ((x : ℕ) → 0 < x → x < suc c → I.hi x ≤ scale) → (w : Work) → Fit P (suc c) w → Left (10 * (10 * P)) (suc c) (enter_of c I w)
 unfolding enter_of
 enter_left c n≤ P P> P≤ I o k w h =
-    left_then (10 * P) (10 * (10 * P)) (suc c) (meet_of c I w) (λ v. reduce_of (suc c) (raise_limits I c v)) (meet_left c n≤ P P> (omega arith) I o w h)
+    left_then (10 * P) (10 * (10 * P)) (suc c) (meet_of c I w) (λ v. reduce_of (suc c) (raise_limits I c v))
+    (meet_left c n≤ P P> (omega arith) I o w h)
     (λ f. reduce_left c n≤ (10 * P) (omega arith) (omega arith) (raise_limits I c (meet_of c I w).work)
     (raise_fit c n≤ (10 * P) (omega arith) (omega arith) (meet_of c I w).work f I k))
 
@@ -182,7 +183,8 @@ module _ (b : List ℕ) (a : Accepted b) where
         (node_bounded b a k (sound.nodes i.place k i.kept)) i.holds
 
     -- each of the two fractions, by what has become of it
-    offer_fits : (g : Fractions → Fraction) → ((z y : List Pair) (f : Fractions) → g (lowered_inside b z y f) ≡ lowered_by (g f) (inside_below n z y)) →
+    offer_fits : (g : Fractions → Fraction)
+        → ((z y : List Pair) (f : Fractions) → g (lowered_inside b z y f) ≡ lowered_by (g f) (inside_below n z y)) →
         Fits32 (g (frac_of made)) → Fits32 (g (offer (system_of b) (zones_of b) capacity q (node_at l c p) made).frac)
     offer_fits g lowers m =
         offer_frac (system_of b) (zones_of b) capacity (λ f. Fits32 (g f)) q (node_at l c p) made m

@@ -57,7 +57,10 @@ module _ (n : ℕ) (n≤ : n ≤ 9) where
   slot_in [] t j k h = absurd h
   slot_in (x ∷ ks) t zero k h =
       let z : 0 * slot_length n ≡ 0 = omega arith in
-      record { rest = slots_of n ks ++ t; same = rw z (append_assoc (slot_as n x) (slots_of n ks) t ∙ ap (λ y. slot_as n y ++ (slots_of n ks ++ t)) h) }
+      record {
+        rest = slots_of n ks ++ t;
+        same = rw z (append_assoc (slot_as n x) (slots_of n ks) t ∙ ap (λ y. slot_as n y ++ (slots_of n ks ++ t)) h);
+      }
   slot_in (x ∷ ks) t (suc j) k h =
       let r = slot_in ks t j k h in
       let e : suc j * slot_length n ≡ slot_length n + j * slot_length n = omega arith in
@@ -109,7 +112,8 @@ capacity_is n amount e = rw e (go (dec_lt most_slots (amount / slot_length n)))
     go (no h) = rw (le-ltb most_slots (amount / slot_length n) (omega arith)) (omega arith)
 
 pub capacity_room : (n amount : ℕ) → capacity_of n amount * slot_length n ≤ amount
-capacity_room n amount = le_trans (mul-le-mul_right (slot_length n) (omega (arith, capacity_is n amount refl))) (div-mul-le_self amount (slot_length n))
+capacity_room n amount = le_trans (mul-le-mul_right (slot_length n) (omega (arith, capacity_is n amount refl)))
+    (div-mul-le_self amount (slot_length n))
 
 pub capacity_small : (n amount : ℕ) → capacity_of n amount ≤ most_slots
 capacity_small n amount = omega (arith, capacity_is n amount refl)

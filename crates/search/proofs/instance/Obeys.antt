@@ -319,7 +319,8 @@ module _ (b : List ℕ) (a : Accepted b) where
       }
 
   from_zone : (s e i : ℕ) (y : List Pair) (f : Fraction) (u : ℕ → ℕ) (v : Valuation) → length v ≡ c → Has s e c (work_of y f) u →
-      Follows s e c (guard_of b i) (resets_of b i) (invariant_of b (to b i)) u (ticks v) → FromZone (system_of b) (zones_of b) (meaning_of b) s e i y v
+      Follows s e c (guard_of b i) (resets_of b i) (invariant_of b (to b i)) u (ticks v)
+      → FromZone (system_of b) (zones_of b) (meaning_of b) s e i y v
   from_zone s e i y f u v l h n =
       let j = jumped s e i y f u v l h n in
       record {

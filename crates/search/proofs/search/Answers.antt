@@ -12,7 +12,11 @@ use Rattle.search.proofs.search.Goals.{Else-number-ne0}
 pub returns-then-number-ne0 : goal.returns-then-number-ne0
 returns-then-number-ne0 c =
     let found = refused_findings _ c.refusal-number.ensures c.if-number-ne0.true _ in
-    record { value = found; store_after = refused_store _ c.refusal-number.ensures c.if-number-ne0.true _; promised = subst (Promised _ _) (sym found) (promised _ _) }
+    record {
+      value = found;
+      store_after = refused_store _ c.refusal-number.ensures c.if-number-ne0.true _;
+      promised = subst (Promised _ _) (sym found) (promised _ _);
+    }
 
 ok : (c : Else-number-ne0) → refusal_of c.args.automaton.now ≡ 0
 ok c = sym c.refusal-number.ensures ∙ c.if-number-ne0.false

@@ -23,7 +23,8 @@ use Rattle.zones.specs.Pairs.{zero_pair, compare_of, is_at_most, is_equal, thres
 use Rattle.zones.specs.Ranges.{AllBounded, Bounded}
 use Rattle.zones.proofs.places.Inside.{bounded_place}
 use Rattle.zones.proofs.sets.Squares.{up_to}
-use Rattle.slots.specs.Slots.{fields, slot_length, m_at, p_at, pairs_to, pairs_of, flat, head_of, slot_of, slot_location, slot_pair, counted, square_to}
+use Rattle.slots.specs.Slots.{fields, slot_length, m_at, p_at, pairs_to, pairs_of, flat, head_of, slot_of, slot_location, slot_pair, counted}
+use Rattle.slots.specs.Slots.{square_to}
 use Rattle.slots.specs.Slots.{slot_origin, zone_of, Framed}
 use Rattle.slots.specs.declared.slot.Origin.{Origin}
 use Rattle.slots.specs.Containing.{compare_numbers, every_pair, within_slots, equal_slots, inside_slots, largest_slot, Readable}

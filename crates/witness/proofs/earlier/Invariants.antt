@@ -1,3 +1,4 @@
+-- The loop of `earlier`: what it keeps, and what falls.
 use Prim.Native.Nat.{◌-◌, ◌≤◌}
 use mathlib.Core.Path.{◌≡◌}
 use Rattle.witness.specs.Witnesses.{clocks_of, places_of}

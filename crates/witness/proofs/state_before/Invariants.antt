@@ -1,3 +1,4 @@
+-- The loop of `state_before`: what it keeps, and what falls.
 use Prim.Native.Nat.{◌-◌, ◌≤◌}
 use mathlib.Core.Path.{◌≡◌}
 use Rattle.zones.specs.Zones.{set_of}

@@ -1,3 +1,4 @@
+-- The loop of `wait_before`: what it keeps, and what falls.
 use Prim.Native.Nat.{◌-◌, ◌≤◌}
 use mathlib.Core.Path.{◌≡◌}
 use Rattle.witness.specs.Witnesses.{wait_to}

@@ -76,7 +76,8 @@ module _ (n : ℕ) (z y : List Pair) where
 
   -- what each lowering keeps, they all keep
   pub inside_ind : (P : Fraction → Type 0) (K : ℕ) →
-      ((k : ℕ) (g : Fraction) → k < K → k % 9 < n → P g → P (lowered_by g (threshold_of (place_of z k) (place_of y k)))) → P no_limit → (k : ℕ) → k ≤ K →
+      ((k : ℕ) (g : Fraction) → k < K → k % 9 < n → P g → P (lowered_by g (threshold_of (place_of z k) (place_of y k)))) → P no_limit → (k : ℕ)
+      → k ≤ K →
       P (inside_to n k z y)
   unfolding inside_to
   inside_ind P K s p zero h = p

@@ -19,7 +19,8 @@ use Rattle.runs.proofs.Contradictions.{true_false}
 use Rattle.zones.proofs.pairs.Choices.{smaller_same}
 use Rattle.zones.proofs.places.Places.{lower_off}
 use Rattle.runs.specs.Limits.{Limits}
-use Rattle.zones.specs.Zones.{pair_at, entry, lower_at, meet_limits, raise_limits, meet_upper, meet_clock, upper_met, lower_met, bounds_met, bounds_below}
+use Rattle.zones.specs.Zones.{pair_at, entry, lower_at, meet_limits, raise_limits, meet_upper, meet_clock, upper_met, lower_met, bounds_met}
+use Rattle.zones.specs.Zones.{bounds_below}
 
 -- ---- as the code makes them
 pub upper_met_lem : (hi : ℕ) (b : Bounds) {q : Pair} {c : Choice} {f : Fraction} → q ≡ at_most hi → c ≡ smaller_of b.upper q →

@@ -270,7 +270,8 @@ start_grown C P n w b = record {
   high = λ i j hi hj. (b i j hi hj).high;
 }
 
-grown_next : (C P n k : ℕ) (v : Work) → k < n → Alive n v → Alive n (round_steps n k n v) → RoundDone n k n v (round_steps n k n v) → Grown C P n k v →
+grown_next : (C P n k : ℕ) (v : Work) → k < n → Alive n v → Alive n (round_steps n k n v) → RoundDone n k n v (round_steps n k n v)
+    → Grown C P n k v →
     Grown C P n (suc k) (round_steps n k n v)
 grown_next C P n k v k< a b d t = record {
   triangle = round_triangle n k v (round_steps n k n v) k< (a.diagonal k k<) d t.triangle;

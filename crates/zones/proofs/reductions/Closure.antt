@@ -40,13 +40,29 @@ to_middle : (x ik kj ia ak : Pair) → x ≼ sum_of ik kj → ik ≼ sum_of ia a
 to_middle x ik kj ia ak h g =
     large (x.p + ik.p + kj.p + ia.p + ak.p) λ K big.
     lex_make K (omega (arith, sum_p ia (sum_of ak kj), sum_p ak kj))
-    (omega (arith, sum_at K ik kj, sum_at K ia ak, sum_at K ak kj, sum_at K ia (sum_of ak kj), lex_read K (omega arith) h, lex_read K (omega arith) g))
+    (omega (
+      arith,
+      sum_at K ik kj,
+      sum_at K ia ak,
+      sum_at K ak kj,
+      sum_at K ia (sum_of ak kj),
+      lex_read K (omega arith) h,
+      lex_read K (omega arith) g,
+    ))
 
 from_middle : (x ik kj ka aj : Pair) → x ≼ sum_of ik kj → kj ≼ sum_of ka aj → x ≼ sum_of (sum_of ik ka) aj
 from_middle x ik kj ka aj h g =
     large (x.p + ik.p + kj.p + ka.p + aj.p) λ K big.
     lex_make K (omega (arith, sum_p (sum_of ik ka) aj, sum_p ik ka))
-    (omega (arith, sum_at K ik kj, sum_at K ka aj, sum_at K ik ka, sum_at K (sum_of ik ka) aj, lex_read K (omega arith) h, lex_read K (omega arith) g))
+    (omega (
+      arith,
+      sum_at K ik kj,
+      sum_at K ka aj,
+      sum_at K ik ka,
+      sum_at K (sum_of ik ka) aj,
+      lex_read K (omega arith) h,
+      lex_read K (omega arith) g,
+    ))
 
 twice_middle : (x ik kj ka ak kk : Pair) → x ≼ sum_of ik kj → kk ≼ sum_of ka ak → pos 0 ≤ℤ kk.m → x ≼ sum_of (sum_of ik ka) (sum_of ak kj)
 twice_middle x ik kj ka ak kk h g d =

@@ -171,4 +171,5 @@ module _ (n k : ℕ) (w₀ w : Work) (d : Diagonal) (e : reduce_steps n k w₀ �
     pub reduced_next : (v : Work) → v ≡ round_steps n k n w → {s : Diagonal} → s ≡ seen_in n v → reduce_steps n (k + 1) w₀ ≡ leaves v s
     unfolding reduce_steps
     reduced_next v g {s} h =
-        rw add-one (ap (after_middle n k) e ∙ after_live n k (leaves w d) f ∙ ap (λ (u : Work). leaves u (seen_in n u)) (sym g) ∙ ap (leaves v) (sym h))
+        rw add-one (ap (after_middle n k) e ∙ after_live n k (leaves w d) f ∙ ap (λ (u : Work). leaves u (seen_in n u)) (sym g)
+        ∙ ap (leaves v) (sym h))

@@ -118,7 +118,8 @@ module _ (c : ℕ) (n≤ : suc c ≤ 9) (L : Limits)
     };
   }
     where
-      r : RaisedBy c L (reduce_steps (suc c) (suc c) (meet_limits L c w)).work (raise_limits L c (reduce_steps (suc c) (suc c) (meet_limits L c w)).work)
+      r : RaisedBy c L (reduce_steps (suc c) (suc c) (meet_limits L c w)).work
+          (raise_limits L c (reduce_steps (suc c) (suc c) (meet_limits L c w)).work)
       r = raised_by L base h.size c (omega arith)
 
       place : (P : ℕ → Pair → Type 0) → ((x : ℕ) → 0 < x → x < suc c → P x (at_most (L.hi x))) →

@@ -1,3 +1,4 @@
+-- The loop of `total`: what it keeps, and what falls.
 use Prim.Native.Nat.{◌-◌, ◌≤◌, ◌<◌}
 use mathlib.Core.Path.{◌≡◌}
 use Rattle.zones_bench.specs.Bench.{bench_square, bench_total}

@@ -46,7 +46,8 @@ returns-then-length-eq0 c =
 
 pub returns-then-second_length-eq0 : goal.returns-then-second_length-eq0
 returns-then-second_length-eq0 c =
-    distinct_last (whole-at (goal.at.returns-then-second_length-eq0 c).Else-length-eq0) (measured-second (goal.at.returns-then-second_length-eq0 c).After-measure-second_length) c.if-second_length-eq0.true ∙ c.loop-at.invariant.1
+    distinct_last (whole-at (goal.at.returns-then-second_length-eq0 c).Else-length-eq0)
+    (measured-second (goal.at.returns-then-second_length-eq0 c).After-measure-second_length) c.if-second_length-eq0.true ∙ c.loop-at.invariant.1
 
 pub loop-at-preserved : goal.loop-at-preserved
 loop-at-preserved c =
@@ -108,7 +109,8 @@ pub slice_bounds-both_new-count-in-loop-at-2 : goal.slice_bounds-both_new-count-
 slice_bounds-both_new-count-in-loop-at-2 c = omega (arith, two_at (goal.at.slice_bounds-both_new-count-in-loop-at-2 c).Else-second_length-eq0)
 
 pub slice_bounds-both_new-start-in-loop-at-2 : goal.slice_bounds-both_new-start-in-loop-at-2
-slice_bounds-both_new-start-in-loop-at-2 c = let w = two_at (goal.at.slice_bounds-both_new-start-in-loop-at-2 c).Else-second_length-eq0 in search rules
+slice_bounds-both_new-start-in-loop-at-2 c = let w = two_at (goal.at.slice_bounds-both_new-start-in-loop-at-2 c).Else-second_length-eq0 in
+    search rules
 
 pub slice_bounds-both_new-end-in-loop-at-2 : goal.slice_bounds-both_new-end-in-loop-at-2
 slice_bounds-both_new-end-in-loop-at-2 c = let w = two_at (goal.at.slice_bounds-both_new-end-in-loop-at-2 c).Else-second_length-eq0 in search rules

@@ -15,7 +15,9 @@ measured-at c = record { place = c.loop-at.invariant.0; read = c.measure-length.
 whole-at : (c : Else-length-eq0) →
     let a = c.args in
     WholeAt a.layout a.bytes.now c.loop-at.at c.measure-length.result
-whole-at c = whole ((let it : let a = c.args in MeasuredAt a.layout a.bytes.now c.loop-at.at c.measure-length.result = record { place = c.loop-at.invariant.0; read = c.measure-length.ensures } in it)) c.if-length-eq0.false
+whole-at c = whole ((let it : let a = c.args in
+    MeasuredAt a.layout a.bytes.now c.loop-at.at
+    c.measure-length.result = record { place = c.loop-at.invariant.0; read = c.measure-length.ensures } in it)) c.if-length-eq0.false
 
 pub returns-then-length-eq0 : goal.returns-then-length-eq0
 returns-then-length-eq0 c =

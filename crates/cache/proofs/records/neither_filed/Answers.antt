@@ -16,7 +16,9 @@ measured-at c = record { place = c.loop-at.invariant.0; read = c.measure-length.
 whole-at : (c : Else-length-eq0) →
     let a = c.args in
     WholeAt a.layout a.bytes.now c.loop-at.at c.measure-length.result
-whole-at c = whole ((let it : let a = c.args in MeasuredAt a.layout a.bytes.now c.loop-at.at c.measure-length.result = record { place = c.loop-at.invariant.0; read = c.measure-length.ensures } in it)) c.if-length-eq0.false
+whole-at c = whole ((let it : let a = c.args in
+    MeasuredAt a.layout a.bytes.now c.loop-at.at
+    c.measure-length.result = record { place = c.loop-at.invariant.0; read = c.measure-length.ensures } in it)) c.if-length-eq0.false
 
 pub returns-then-length-eq0 : goal.returns-then-length-eq0
 returns-then-length-eq0 c =
@@ -28,7 +30,8 @@ returns-then-same c =
 
 pub returns-then-same-2 : goal.returns-then-same-2
 returns-then-same-2 c =
-    neither_second (whole-at (goal.at.returns-then-same-2 c).Else-length-eq0) _ _ c.same.ensures c.if-same.false c.same-in-loop-at.ensures c.if-same-2.true
+    neither_second (whole-at (goal.at.returns-then-same-2 c).Else-length-eq0) _ _ c.same.ensures c.if-same.false c.same-in-loop-at.ensures
+    c.if-same-2.true
     ∙ c.loop-at.invariant.1
 
 pub loop-at-smaller : goal.loop-at-smaller

@@ -1,3 +1,4 @@
+-- The loop of `neither_filed`: what it keeps, and what falls.
 use Prim.Native.Nat.{◌-◌, ◌≤◌}
 use mathlib.Core.Path.{◌≡◌}
 use lib.ListN.{length, drop}
@@ -7,7 +8,8 @@ use Rattle.cache.proofs.records.neither_filed.Given as goal
 
 abbrev pub invariant-loop-at : goal.invariant-loop-at
 invariant-loop-at l =
-    (l.at ≤ length l.bytes) × (neither_filed l.layout (records_in l.layout (drop l.at l.bytes)) l.a l.b ≡ neither_filed l.layout (records_in l.layout l.bytes) l.a l.b)
+    (l.at ≤ length l.bytes) × (neither_filed l.layout (records_in l.layout (drop l.at l.bytes)) l.a l.b ≡ neither_filed l.layout
+    (records_in l.layout l.bytes) l.a l.b)
 
 abbrev pub decreases-loop-at : goal.decreases-loop-at
 decreases-loop-at l = length l.bytes - l.at

@@ -1,3 +1,4 @@
+-- The loop of `less`: what it keeps, and what falls.
 use Prim.Native.Nat.{◌-◌, ◌≤◌}
 use mathlib.Core.Path.{◌≡◌}
 use Rattle.order.specs.Edges.{bytes_less}

@@ -1,3 +1,4 @@
+-- The loop of `less_from`: what it keeps, and what falls.
 use Prim.Native.Nat.{◌-◌, ◌≤◌}
 use mathlib.Core.Path.{◌≡◌}
 use Rattle.canonical.specs.Comparing.{less_from}

@@ -1,3 +1,4 @@
+-- The loop of `order_of`: what it keeps, and what falls.
 use Prim.Native.Nat.{◌-◌, ◌≤◌}
 use Rattle.canonical.specs.Numbers.{ListsOf, taken}
 use Rattle.canonical.proofs.ordering.order_of.Given as goal

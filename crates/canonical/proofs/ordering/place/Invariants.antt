@@ -1,3 +1,4 @@
+-- The loop of `place`: what it keeps, and what falls.
 use Prim.Native.Nat.{◌-◌}
 use Rattle.canonical.proofs.ordering.Placing.{Between}
 use Rattle.canonical.proofs.ordering.place.Given as goal

@@ -30,9 +30,18 @@ overflow_add-edge_at c = let w = (goal.at.overflow_add-edge_at c).After-edge_at 
 
 pub within-requires : goal.within-requires
 within-requires c =
-    let pre = c.requires in
-    (pre.0, few_clocks _ c.counts_of-counts.ensures pre.0, omega (arith, size≡ (goal.at.within-requires c).After-edge_at, at≡ (goal.at.within-requires c).After-edge_at, inside (goal.at.within-requires c).After-edge_at))
+    let pre = c.requires in (
+      pre.0,
+      few_clocks _ c.counts_of-counts.ensures pre.0,
+      omega (
+        arith,
+        size≡ (goal.at.within-requires c).After-edge_at,
+        at≡ (goal.at.within-requires c).After-edge_at,
+        inside (goal.at.within-requires c).After-edge_at,
+      ),
+    )
 
 pub returns : goal.returns
 returns c =
-    c.within.ensures ∙ (λ j. within_at c.args.automaton.now (at≡ (goal.at.returns c).After-edge_at j + 3) c.args.clocks (size≡ (goal.at.returns c).After-edge_at j))
+    c.within.ensures ∙ (λ j. within_at c.args.automaton.now (at≡ (goal.at.returns c).After-edge_at j + 3) c.args.clocks
+    (size≡ (goal.at.returns c).After-edge_at j))

@@ -24,9 +24,15 @@ within-requires c =
     let pre = c.requires in (
       pre.0,
       few_clocks _ c.counts_of-counts.ensures pre.0,
-      omega (arith, size≡ (goal.at.within-requires c).After-invariant_at, at≡ (goal.at.within-requires c).After-invariant_at, invariant_within _ pre.0.complete _ pre.1),
+      omega (
+        arith,
+        size≡ (goal.at.within-requires c).After-invariant_at,
+        at≡ (goal.at.within-requires c).After-invariant_at,
+        invariant_within _ pre.0.complete _ pre.1,
+      ),
     )
 
 pub returns : goal.returns
 returns c =
-    c.within.ensures ∙ (λ j. within_at c.args.automaton.now (at≡ (goal.at.returns c).After-invariant_at j) c.args.clocks (size≡ (goal.at.returns c).After-invariant_at j))
+    c.within.ensures ∙ (λ j. within_at c.args.automaton.now (at≡ (goal.at.returns c).After-invariant_at j) c.args.clocks
+    (size≡ (goal.at.returns c).After-invariant_at j))

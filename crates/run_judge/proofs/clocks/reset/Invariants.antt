@@ -1,3 +1,4 @@
+-- The loop of `reset`: what it keeps, and what falls.
 use Prim.Native.Nat.{◌≤◌, ◌-◌}
 use mathlib.Core.Path.{◌≡◌}
 use lib.ListN.{length}

@@ -1,3 +1,4 @@
+-- The loop of `within`: what it keeps, and what falls.
 use Prim.Native.Nat.{◌≤◌}
 use mathlib.Core.Path.{◌≡◌}
 use Rattle.run_judge.specs.Clocks.{within_at}

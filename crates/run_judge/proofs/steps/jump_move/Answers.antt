@@ -23,12 +23,16 @@ edge_of-edge-requires c = (c.requires.0, there (goal.at.edge_of-edge-requires c)
 
 pub returns-then-edge-location : goal.returns-then-edge-location
 returns-then-edge-location c =
-    jump_elsewhere _ _ _ _ (there (goal.at.returns-then-edge-location c).Else-counts_of-i) c.edge_of-edge.ensures c.if-edge-location.true c.stop-then-edge-location.ensures
+    jump_elsewhere _ _ _ _ (there (goal.at.returns-then-edge-location c).Else-counts_of-i) c.edge_of-edge.ensures c.if-edge-location.true
+    c.stop-then-edge-location.ensures
 
 pub take-requires : goal.take-requires
 take-requires c =
-    let a = c.requires.0 in
-    (a, there (goal.at.take-requires c).Else-counts_of-i, omega (arith, ap (λ (e : Edge). e.to) c.edge_of-edge.ensures, a.to< _ (there (goal.at.take-requires c).Else-counts_of-i)))
+    let a = c.requires.0 in (
+      a,
+      there (goal.at.take-requires c).Else-counts_of-i,
+      omega (arith, ap (λ (e : Edge). e.to) c.edge_of-edge.ensures, a.to< _ (there (goal.at.take-requires c).Else-counts_of-i)),
+    )
 
 pub returns : goal.returns
 returns c =

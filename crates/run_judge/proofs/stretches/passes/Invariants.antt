@@ -1,3 +1,4 @@
+-- The loop of `passes`: what it keeps, and what falls.
 use Rattle.run_judge.specs.Stretches.{Rest}
 use Rattle.run_judge.proofs.stretches.Ending.{left}
 use Rattle.run_judge.proofs.stretches.passes.Given as goal

@@ -1,3 +1,4 @@
+-- The loop of `jumps_to`: what it keeps, and what falls.
 use Prim.Native.Nat.{suc, ◌+◌, ◌≤◌}
 use mathlib.Core.Path.{◌≡◌}
 use Rattle.search.specs.Store.{most_slots}
@@ -7,7 +8,8 @@ use Rattle.run_writer.proofs.branch.jumps_to.Given as goal
 
 abbrev pub invariant-loop-from : goal.invariant-loop-from
 invariant-loop-from l =
-    Standing l.automaton l.amount l.from × (l.k + jumps_before l.automaton l.amount l.from ≡ jumps_before l.automaton l.amount l.initial.from) × (l.k + left_of l.from ≤ suc most_slots)
+    Standing l.automaton l.amount l.from × (l.k + jumps_before l.automaton l.amount l.from ≡ jumps_before l.automaton l.amount l.initial.from)
+    × (l.k + left_of l.from ≤ suc most_slots)
 
 abbrev pub decreases-loop-from : goal.decreases-loop-from
 decreases-loop-from l = left_of l.from

@@ -39,7 +39,8 @@ decode-requires c =
 pub returns : goal.returns
 returns c =
     let pre = c.requires in
-    reads_zone pre.0 pre.1 pre.2 c.slot.ensures (stride≡ (goal.at.returns c).After-slot_length) (indices≡ (goal.at.returns c).After-slot_length) c.decode.ensures
+    reads_zone pre.0 pre.1 pre.2 c.slot.ensures (stride≡ (goal.at.returns c).After-slot_length) (indices≡ (goal.at.returns c).After-slot_length)
+    c.decode.ensures
 
 pub overflow_add-size : goal.overflow_add-size
 overflow_add-size c = omega (arith, few (goal.at.overflow_add-size c).After-counts_of-size)

@@ -42,13 +42,21 @@ unfolding invariant_of
 narrow-requires c =
     let a = c.requires.accepted.0 in
     let hl = c.requires.accepted.1 in
-    let q = asks_limits _ _ (at≡ (goal.at.narrow-requires c).After-cleared) (size≡ (goal.at.narrow-requires c).After-cleared) (n≤ (goal.at.narrow-requires c).After-cleared) (invariant_within _ a.complete _ hl) (invariant_scale _ a _ hl) (omega arith) (ready (goal.at.narrow-requires c).After-cleared).0 in
-    record { accepted = a; c_bound = q.0; on_scale = q.1; settled = λ e. rw (size≡ (goal.at.narrow-requires c).After-cleared) (ready (goal.at.narrow-requires c).After-cleared).1 }
+    let q = asks_limits _ _ (at≡ (goal.at.narrow-requires c).After-cleared) (size≡ (goal.at.narrow-requires c).After-cleared)
+    (n≤ (goal.at.narrow-requires c).After-cleared) (invariant_within _ a.complete _ hl) (invariant_scale _ a _ hl) (omega arith)
+    (ready (goal.at.narrow-requires c).After-cleared).0 in
+    record {
+      accepted = a;
+      c_bound = q.0;
+      on_scale = q.1;
+      settled = λ e. rw (size≡ (goal.at.narrow-requires c).After-cleared) (ready (goal.at.narrow-requires c).After-cleared).1;
+    }
 
 pub returns : goal.returns
 unfolding invariant_of
 returns c =
-    meets _ _ (at≡ (goal.at.returns c).After-cleared) (size≡ (goal.at.returns c).After-cleared) c.narrow.ensures ∙ ap (meet_of _ _) (reset≡ (goal.at.returns c).After-cleared)
+    meets _ _ (at≡ (goal.at.returns c).After-cleared) (size≡ (goal.at.returns c).After-cleared) c.narrow.ensures
+    ∙ ap (meet_of _ _) (reset≡ (goal.at.returns c).After-cleared)
 
 pub counts_of-counts-requires : goal.counts_of-counts-requires
 counts_of-counts-requires c = c.requires.accepted.0

@@ -34,12 +34,14 @@ module _ (c : In-loop-k) where
 module _ (c : After-home-in-loop-k) where
   there : (c.home.result < 9) × (c.home-in-loop-k.result < 9)
   there = (
-    rw c.home.ensures (home_below _ 9 _ (omega (arith, (let it : c.loop-k.k < 81 = omega (arith, c.loop-k.invariant.0, c.loop-k-test.true, c.requires) in it)))),
+    rw c.home.ensures (home_below _ 9 _
+        (omega (arith, (let it : c.loop-k.k < 81 = omega (arith, c.loop-k.invariant.0, c.loop-k-test.true, c.requires) in it)))),
     rw c.home-in-loop-k.ensures (home_below _ 9 _ (omega arith)),
   )
 
 row-there : (c : After-home) → c.home.result < 9
-row-there c = rw c.home.ensures (home_below _ 9 _ (omega (arith, (let it : c.loop-k.k < 81 = omega (arith, c.loop-k.invariant.0, c.loop-k-test.true, c.requires) in it))))
+row-there c = rw c.home.ensures
+    (home_below _ 9 _ (omega (arith, (let it : c.loop-k.k < 81 = omega (arith, c.loop-k.invariant.0, c.loop-k-test.true, c.requires) in it))))
 
 pub loop-k-init : goal.loop-k-init
 unfolding reset_places

@@ -42,7 +42,9 @@ narrow-requires c =
     let pre = c.requires in
     let a = pre.0 in
     let hi = pre.1 in
-    let q = asks_limits _ _ (ap (λ x. x + 3) (place≡ (goal.at.narrow-requires c).After-edge_at-at)) (size≡ (goal.at.narrow-requires c).After-edge_at-at) a.complete.clocks≤ (omega (arith, inside (goal.at.narrow-requires c).After-edge_at-at)) (guard_scale _ a _ hi)
+    let q = asks_limits _ _ (ap (λ x. x + 3) (place≡ (goal.at.narrow-requires c).After-edge_at-at))
+    (size≡ (goal.at.narrow-requires c).After-edge_at-at) a.complete.clocks≤ (omega (arith, inside (goal.at.narrow-requires c).After-edge_at-at))
+    (guard_scale _ a _ hi)
     (omega arith) (zone_sized _ a _ hi _ pre.2) in
     record { accepted = a; c_bound = q.0; on_scale = q.1; settled = λ e. true_false (sym e) }
 

@@ -47,8 +47,10 @@ module _ (c : After-edge_of-edge) where
   some = c.loop-i.invariant.3 first_zone [] c.requires.accepted.1.base c.requires.accepted.1.state c.requires.accepted.1.live
 
 pub along-origin-requires : goal.along-origin-requires
-along-origin-requires c =
-    (omega (arith, c.requires.parent_lt_most_slots.0), omega (arith, within (goal.at.along-origin-requires c).After-edge_of-edge, c.requires.accepted.0.complete.edges≤))
+along-origin-requires c = (
+  omega (arith, c.requires.parent_lt_most_slots.0),
+  omega (arith, within (goal.at.along-origin-requires c).After-edge_of-edge, c.requires.accepted.0.complete.edges≤),
+)
 
 pub follow-t-requires : goal.follow-t-requires
 follow-t-requires c =
@@ -58,20 +60,26 @@ follow-t-requires c =
         pre.0,
         within (goal.at.follow-t-requires c).After-edge_of-edge,
         c.edge_of-edge.ensures,
-        between_few (some (goal.at.follow-t-requires c).After-edge_of-edge) (omega (arith, pre.1.live.shown.again, pre.1.live.shown.inside, c.requires.parent_lt_most_slots.1.few))
+        between_few (some (goal.at.follow-t-requires c).After-edge_of-edge)
+            (omega (arith, pre.1.live.shown.again, pre.1.live.shown.inside, c.requires.parent_lt_most_slots.1.few))
             c.requires.parent_lt_most_slots.0 (omega (arith, within (goal.at.follow-t-requires c).After-edge_of-edge, pre.0.complete.edges≤)),
       );
       going = (
         between_going (some (goal.at.follow-t-requires c).After-edge_of-edge) pre.1.long pre.1.few,
-        taken-sound (some (goal.at.follow-t-requires c).After-edge_of-edge) (within (goal.at.follow-t-requires c).After-edge_of-edge) pre.0 pre.2 (taken_is (goal.at.follow-t-requires c).After-edge_of-edge),
-        taken_fits (some (goal.at.follow-t-requires c).After-edge_of-edge) (within (goal.at.follow-t-requires c).After-edge_of-edge) pre.0 pre.2 (taken_is (goal.at.follow-t-requires c).After-edge_of-edge),
+        taken-sound (some (goal.at.follow-t-requires c).After-edge_of-edge) (within (goal.at.follow-t-requires c).After-edge_of-edge) pre.0 pre.2
+            (taken_is (goal.at.follow-t-requires c).After-edge_of-edge),
+        taken_fits (some (goal.at.follow-t-requires c).After-edge_of-edge) (within (goal.at.follow-t-requires c).After-edge_of-edge) pre.0 pre.2
+            (taken_is (goal.at.follow-t-requires c).After-edge_of-edge),
       );
     }
 
 pub shape_of-store-then-has_ended : goal.shape_of-store-then-has_ended
 shape_of-store-then-has_ended c =
     let pre = c.requires.accepted in
-    offered_length (some (goal.at.shape_of-store-then-has_ended c).After-edge_of-edge) (within (goal.at.shape_of-store-then-has_ended c).After-edge_of-edge) pre.0 pre.2 (taken_is (goal.at.shape_of-store-then-has_ended c).After-edge_of-edge) (leaves (goal.at.shape_of-store-then-has_ended c).After-edge_of-edge c.if-edge-l.true)
+    offered_length (some (goal.at.shape_of-store-then-has_ended c).After-edge_of-edge)
+    (within (goal.at.shape_of-store-then-has_ended c).After-edge_of-edge) pre.0 pre.2
+    (taken_is (goal.at.shape_of-store-then-has_ended c).After-edge_of-edge)
+    (leaves (goal.at.shape_of-store-then-has_ended c).After-edge_of-edge c.if-edge-l.true)
     c.along-origin.ensures c.follow-t.ensures pre.1.long
     ∙ sym (going_length _ pre.0 pre.1)
 
@@ -79,7 +87,8 @@ pub returns-then-has_ended : goal.returns-then-has_ended
 returns-then-has_ended c =
     let pre = c.requires.accepted in
     λ x p. record {
-      shows = λ s₀ q₀ h. stops (c.loop-i.invariant.3 x p s₀ q₀ h) (within (goal.at.returns-then-has_ended c).After-edge_of-edge) pre.0 pre.2 (taken_is (goal.at.returns-then-has_ended c).After-edge_of-edge)
+      shows = λ s₀ q₀ h. stops (c.loop-i.invariant.3 x p s₀ q₀ h) (within (goal.at.returns-then-has_ended c).After-edge_of-edge) pre.0 pre.2
+          (taken_is (goal.at.returns-then-has_ended c).After-edge_of-edge)
           (leaves (goal.at.returns-then-has_ended c).After-edge_of-edge c.if-edge-l.true) c.along-origin.ensures c.follow-t.ensures
           (sym c.has_ended.ensures ∙ c.if-has_ended.true);
     }

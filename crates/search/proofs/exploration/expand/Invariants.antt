@@ -1,3 +1,4 @@
+-- The loop of `expand`: what it keeps, and what falls.
 use Prim.Native.Nat.{ℕ, ◌-◌, ◌≤◌}
 use mathlib.Core.Path.{◌≡◌}
 use mathlib.Core.List.{List}

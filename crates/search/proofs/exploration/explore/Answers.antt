@@ -47,7 +47,14 @@ module _ (c : After-first) where
 pub arrive-t-requires : goal.arrive-t-requires
 arrive-t-requires c =
     let a = c.requires in
-    record { accepted = (a, rw c.start-l.ensures a.start<, blank_going a _ (capacity≡ (goal.at.arrive-t-requires c).After-first)); sized = rw c.first.ensures (first_sized (10 * counts) _ (n≤ _ a), first_settled _ (n≤ _ a)); sound_result = (subst (SoundResult _) (sym (arrived (goal.at.arrive-t-requires c).After-first)) (start-sound _ a), record { few = omega arith }) }
+    record {
+      accepted = (a, rw c.start-l.ensures a.start<, blank_going a _ (capacity≡ (goal.at.arrive-t-requires c).After-first));
+      sized = rw c.first.ensures (first_sized (10 * counts) _ (n≤ _ a), first_settled _ (n≤ _ a));
+      sound_result = (
+        subst (SoundResult _) (sym (arrived (goal.at.arrive-t-requires c).After-first)) (start-sound _ a),
+        record { few = omega arith },
+      );
+    }
 
 -- ---- after the first offer
 module _ (c : After-arrive-t) where
@@ -75,8 +82,11 @@ returns-then-has_ended c =
     (offered (goal.at.returns-then-has_ended c).After-arrive-t).stops (sym c.has_ended.ensures ∙ c.if-has_ended.true)
 
 pub take-requires : goal.take-requires
-take-requires c =
-    (c.requires, (offered (goal.at.take-requires c).After-arrive-t).goes_on (sym c.has_ended.ensures ∙ c.if-has_ended.false), (offered (goal.at.take-requires c).After-arrive-t).few)
+take-requires c = (
+  c.requires,
+  (offered (goal.at.take-requires c).After-arrive-t).goes_on (sym c.has_ended.ensures ∙ c.if-has_ended.false),
+  (offered (goal.at.take-requires c).After-arrive-t).few,
+)
 
 pub returns : goal.returns
 returns c =

@@ -1,3 +1,4 @@
+-- The loop of `find`: what it keeps, and what falls.
 use Prim.Native.Nat.{ℕ, ◌*◌, ◌-◌, ◌≤◌, ◌<◌}
 use mathlib.Core.Path.{◌≡◌}
 use Rattle.search.specs.Exploring.{Hits}

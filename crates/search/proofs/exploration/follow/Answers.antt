@@ -39,7 +39,9 @@ unfolding guard_of
 narrow-met-requires c =
     let a = c.requires.accepted.0 in
     let hi = c.requires.accepted.1 in
-    let q = asks_limits _ _ (ap (λ x. x + 3) (place≡ (goal.at.narrow-met-requires c).After-edge_at-at)) (size≡ (goal.at.narrow-met-requires c).After-edge_at-at) a.complete.clocks≤ (omega (arith, inside (goal.at.narrow-met-requires c).After-edge_at-at)) (guard_scale _ a _ hi)
+    let q = asks_limits _ _ (ap (λ x. x + 3) (place≡ (goal.at.narrow-met-requires c).After-edge_at-at))
+    (size≡ (goal.at.narrow-met-requires c).After-edge_at-at) a.complete.clocks≤
+    (omega (arith, inside (goal.at.narrow-met-requires c).After-edge_at-at)) (guard_scale _ a _ hi)
     (omega arith) (taken_sized _ a _ hi _ c.requires.going.1 c.requires.going.2) in
     record { accepted = a; c_bound = q.0; on_scale = q.1; settled = λ e. true_false (sym e) }
 
@@ -47,29 +49,49 @@ narrow-met-requires c =
 module _ (c : After-narrow-met) where
   met : c.narrow-met.result ≡ meet_of (clocks c.args.automaton.now) (guard_of c.args.automaton.now c.args.i) c.args.w
   unfolding guard_of
-  met = meets _ _ (ap (λ x. x + 3) ((let it : c.edge_at-at.result ≡ edge_at c.args.automaton.now c.args.i = edge≡ _ c.counts_of-counts.ensures _ c.edge_at-at.ensures in it))) ((let it : c.counts_of-counts.result.clocks ≡ clocks c.args.automaton.now = clocks≡ _ c.counts_of-counts.ensures in it)) c.narrow-met.ensures
+  met = meets _ _ (ap (λ x. x + 3)
+      ((let it : c.edge_at-at.result ≡ edge_at c.args.automaton.now c.args.i = edge≡ _ c.counts_of-counts.ensures _ c.edge_at-at.ensures in it)))
+      ((let it : c.counts_of-counts.result.clocks ≡ clocks c.args.automaton.now = clocks≡ _ c.counts_of-counts.ensures in it)) c.narrow-met.ensures
 
 pub emptied-requires : goal.emptied-requires
-emptied-requires c =
-    (going_safe _ c.requires.accepted.0 c.requires.going.0, emptied_fits _ c.requires.accepted.0 _ c.requires.accepted.1 _ c.requires.going.1 c.requires.going.2 (met (goal.at.emptied-requires c).After-narrow-met))
+emptied-requires c = (
+  going_safe _ c.requires.accepted.0 c.requires.going.0,
+  emptied_fits _ c.requires.accepted.0 _ c.requires.accepted.1 _ c.requires.going.1 c.requires.going.2
+      (met (goal.at.emptied-requires c).After-narrow-met),
+)
 
 pub returns-then-met : goal.returns-then-met
 returns-then-met c =
-    follows_none _ c.requires.accepted.0 _ c.requires.accepted.1 _ c.requires.going.1 c.requires.going.2 (met (goal.at.returns-then-met c).After-narrow-met) c.if-met.true _ _ _ _ c.emptied.ensures
+    follows_none _ c.requires.accepted.0 _ c.requires.accepted.1 _ c.requires.going.1 c.requires.going.2
+    (met (goal.at.returns-then-met c).After-narrow-met) c.if-met.true _ _ _ _ c.emptied.ensures
 
 pub arrive-requires : goal.arrive-requires
 arrive-requires c =
     let a = c.requires.accepted.0 in
     let hi = c.requires.accepted.1 in
     let live = c.if-met.false in
-    record { accepted = (a, arrives_at _ a _ hi _ c.requires.going.1 c.requires.going.2 (met (goal.at.arrive-requires c).After-narrow-met) live c.requires.accepted.2, c.requires.going.0); sized = arrives _ a _ hi _ c.requires.going.1 c.requires.going.2 (met (goal.at.arrive-requires c).After-narrow-met) live; sound_result = (arrives_sound _ a _ hi _ c.requires.going.1 c.requires.going.2 (met (goal.at.arrive-requires c).After-narrow-met) live c.requires.accepted.2, c.requires.accepted.3) }
+    record {
+      accepted = (
+        a,
+        arrives_at _ a _ hi _ c.requires.going.1 c.requires.going.2 (met (goal.at.arrive-requires c).After-narrow-met) live
+            c.requires.accepted.2,
+        c.requires.going.0,
+      );
+      sized = arrives _ a _ hi _ c.requires.going.1 c.requires.going.2 (met (goal.at.arrive-requires c).After-narrow-met) live;
+      sound_result = (
+        arrives_sound _ a _ hi _ c.requires.going.1 c.requires.going.2 (met (goal.at.arrive-requires c).After-narrow-met) live
+            c.requires.accepted.2,
+        c.requires.accepted.3,
+      );
+    }
 
 pub returns : goal.returns
 returns c =
     let a = c.requires.accepted.0 in
     let hi = c.requires.accepted.1 in
     let live = c.if-met.false in
-    gives_of _ _ _ _ _ _ (edge_to _ a _ hi _ c.requires.going.1 c.requires.going.2 (met (goal.at.returns c).After-narrow-met) live c.requires.accepted.2)
+    gives_of _ _ _ _ _ _ (edge_to _ a _ hi _ c.requires.going.1 c.requires.going.2 (met (goal.at.returns c).After-narrow-met) live
+    c.requires.accepted.2)
     (follows _ a _ hi _ c.requires.going.1 c.requires.going.2 (met (goal.at.returns c).After-narrow-met) live c.requires.accepted.2) c.arrive.ensures
 
 pub overflow_add-at : goal.overflow_add-at

@@ -43,15 +43,16 @@ find-j-requires c = asks_find (entered (goal.at.find-j-requires c).After-counts_
 module _ (c : Then-j-count) where
   slot_inside : c.find-j.result * c.slot_length-stride.result + slot_length (c.counts_of-size.result.clocks + 1)
       ≤ length c.args.store.now
-  slot_inside = slot_within ((let it : Entered c.args.automaton.now c.args.l c.args.origin c.args.w c.args.capacity c.args.turn c.args.store.now (c.counts_of-size.result.clocks + 1) = record {
-    accepted = c.requires.accepted.0;
-    location = c.requires.accepted.1;
-    away = c.requires.accepted.2;
-    sized = c.requires.sized.0;
-    progress = c.requires.going.0;
-    few = c.requires.going.1;
-    size≡ = size≡ _ c.counts_of-size.ensures;
-  } in it)) c.slot_length-stride.ensures c.if-j-count.true
+  slot_inside = slot_within ((let it : Entered c.args.automaton.now c.args.l c.args.origin c.args.w c.args.capacity c.args.turn c.args.store.now
+      (c.counts_of-size.result.clocks + 1) = record {
+        accepted = c.requires.accepted.0;
+        location = c.requires.accepted.1;
+        away = c.requires.accepted.2;
+        sized = c.requires.sized.0;
+        progress = c.requires.going.0;
+        few = c.requires.going.1;
+        size≡ = size≡ _ c.counts_of-size.ensures;
+      } in it)) c.slot_length-stride.ensures c.if-j-count.true
 
   place≡ : c.find-j.result * c.slot_length-stride.result
       ≡ c.find-j.result * slot_length (c.counts_of-size.result.clocks + 1)
@@ -62,11 +63,13 @@ slice_bounds-drop_inside-start c = omega (arith, slot_inside (goal.at.slice_boun
 
 pub drop_inside-requires : goal.drop_inside-requires
 drop_inside-requires c =
-    asks_drop (entered (goal.at.drop_inside-requires c).After-counts_of-size) c.encode-numbers.ensures c.find-j.ensures c.if-j-count.true (place≡ (goal.at.drop_inside-requires c).Then-j-count)
+    asks_drop (entered (goal.at.drop_inside-requires c).After-counts_of-size) c.encode-numbers.ensures c.find-j.ensures c.if-j-count.true
+    (place≡ (goal.at.drop_inside-requires c).Then-j-count)
 
 pub returns-then-j-count : goal.returns-then-j-count
 returns-then-j-count c =
-    gives_inside (entered (goal.at.returns-then-j-count c).After-counts_of-size) c.encode-numbers.ensures c.find-j.ensures c.if-j-count.true (place≡ (goal.at.returns-then-j-count c).Then-j-count)
+    gives_inside (entered (goal.at.returns-then-j-count c).After-counts_of-size) c.encode-numbers.ensures c.find-j.ensures c.if-j-count.true
+    (place≡ (goal.at.returns-then-j-count c).Then-j-count)
     c.drop_inside.ensures
 
 -- ---- none does
@@ -76,26 +79,30 @@ largest_count-requires c = asks_largest (entered (goal.at.largest_count-requires
 pub returns-then-largest_count-gt-COUNTS : goal.returns-then-largest_count-gt-COUNTS
 returns-then-largest_count-gt-COUNTS c =
     rw c.refused.ensures
-    (gives_big (entered (goal.at.returns-then-largest_count-gt-COUNTS c).After-counts_of-size) c.encode-numbers.ensures c.find-j.ensures c.if-j-count.false
+    (gives_big (entered (goal.at.returns-then-largest_count-gt-COUNTS c).After-counts_of-size) c.encode-numbers.ensures c.find-j.ensures
+    c.if-j-count.false
     c.largest_count.ensures c.if-largest_count-gt-COUNTS.true)
 
 module _ (c : Then-count-capacity) where
   next-inside : c.args.turn.count * c.slot_length-stride.result + slot_length (c.counts_of-size.result.clocks + 1)
       ≤ length c.args.store.now
-  next-inside = next_within ((let it : Entered c.args.automaton.now c.args.l c.args.origin c.args.w c.args.capacity c.args.turn c.args.store.now (c.counts_of-size.result.clocks + 1) = record {
-    accepted = c.requires.accepted.0;
-    location = c.requires.accepted.1;
-    away = c.requires.accepted.2;
-    sized = c.requires.sized.0;
-    progress = c.requires.going.0;
-    few = c.requires.going.1;
-    size≡ = size≡ _ c.counts_of-size.ensures;
-  } in it)) c.slot_length-stride.ensures c.if-count-capacity.true
+  next-inside = next_within ((let it : Entered c.args.automaton.now c.args.l c.args.origin c.args.w c.args.capacity c.args.turn c.args.store.now
+      (c.counts_of-size.result.clocks + 1) = record {
+        accepted = c.requires.accepted.0;
+        location = c.requires.accepted.1;
+        away = c.requires.accepted.2;
+        sized = c.requires.sized.0;
+        progress = c.requires.going.0;
+        few = c.requires.going.1;
+        size≡ = size≡ _ c.counts_of-size.ensures;
+      } in it)) c.slot_length-stride.ensures c.if-count-capacity.true
 
 pub keep-requires : goal.keep-requires
 keep-requires c =
-    let e = c.slot_length-stride.ensures in
-    (omega (arith, e, next-inside (goal.at.keep-requires c).Then-count-capacity), omega (arith, e, (asks_largest (entered (goal.at.keep-requires c).After-counts_of-size) c.encode-numbers.ensures).long))
+    let e = c.slot_length-stride.ensures in (
+      omega (arith, e, next-inside (goal.at.keep-requires c).Then-count-capacity),
+      omega (arith, e, (asks_largest (entered (goal.at.keep-requires c).After-counts_of-size) c.encode-numbers.ensures).long),
+    )
 
 pub returns-then-count-capacity : goal.returns-then-count-capacity
 returns-then-count-capacity c =

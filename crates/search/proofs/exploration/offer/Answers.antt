@@ -16,7 +16,11 @@ returns-then-l-target c = λ p. gives_target _ _ _ _ _ c.args.r p c.if-r.false (
 
 pub judge-requires : goal.judge-requires
 judge-requires c =
-    record { accepted = (c.requires.accepted.0, c.requires.accepted.1, λ e. c.if-l-target.false (e ∙ sym c.target.ensures)); going = (c.requires.going.0, c.requires.going.2); sized = (c.requires.going.1.sized c.if-r.false, c.requires.going.1.framed c.if-r.false) }
+    record {
+      accepted = (c.requires.accepted.0, c.requires.accepted.1, λ e. c.if-l-target.false (e ∙ sym c.target.ensures));
+      going = (c.requires.going.0, c.requires.going.2);
+      sized = (c.requires.going.1.sized c.if-r.false, c.requires.going.1.framed c.if-r.false);
+    }
 
 pub returns : goal.returns
 returns c = λ p. gives_judged _ _ _ _ _ c.args.r p c.if-r.false c.judge.ensures

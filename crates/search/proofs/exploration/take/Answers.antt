@@ -49,10 +49,14 @@ module _ (c : In-loop-next) where
   place≡ = ap (λ (x : ℕ). c.loop-next.next * x) c.loop-next.invariant.1
 
   inside : place + slot_length (suc (clocks c.args.automaton.now)) ≤ length c.loop-next.store
-  inside = slot_inside c.requires.0 ((let it : Onward c.args.automaton.now c.args.capacity c.requires.1.base c.requires.1.state c.loop-next.next c.loop-next.store c.loop-next.t = c.loop-next.invariant.2 c.requires.1.base c.requires.1.state c.requires.1.live in it)) c.loop-next-test.true place≡ c.requires.1.long
+  inside = slot_inside c.requires.0
+      ((let it : Onward c.args.automaton.now c.args.capacity c.requires.1.base c.requires.1.state c.loop-next.next c.loop-next.store
+      c.loop-next.t = c.loop-next.invariant.2 c.requires.1.base c.requires.1.state c.requires.1.live in it)) c.loop-next-test.true place≡
+      c.requires.1.long
 
   below : c.loop-next.next < c.args.capacity
-  below = few c.requires.0 ((let it : Onward c.args.automaton.now c.args.capacity c.requires.1.base c.requires.1.state c.loop-next.next c.loop-next.store c.loop-next.t = c.loop-next.invariant.2 c.requires.1.base c.requires.1.state c.requires.1.live in it)) c.loop-next-test.true
+  below = few c.requires.0 ((let it : Onward c.args.automaton.now c.args.capacity c.requires.1.base c.requires.1.state c.loop-next.next
+      c.loop-next.store c.loop-next.t = c.loop-next.invariant.2 c.requires.1.base c.requires.1.state c.requires.1.live in it)) c.loop-next-test.true
 
 pub slice_copy_out-l : goal.slice_copy_out-l
 slice_copy_out-l c = omega (arith, inside (goal.at.slice_copy_out-l c).In-loop-next)
@@ -73,7 +77,8 @@ expand-t-requires c =
       accepted = (
         pre.0,
         onward pre.0 (on (goal.at.expand-t-requires c).At-loop-next) c.loop-next-test.true pre.1.long pre.1.few,
-        sound_zone pre.0 (on (goal.at.expand-t-requires c).At-loop-next) c.loop-next-test.true (place≡ (goal.at.expand-t-requires c).In-loop-next) (rw c.loop-next.invariant.0 at c.decode-z.ensures),
+        sound_zone pre.0 (on (goal.at.expand-t-requires c).At-loop-next) c.loop-next-test.true (place≡ (goal.at.expand-t-requires c).In-loop-next)
+            (rw c.loop-next.invariant.0 at c.decode-z.ensures),
       );
       parent_lt_most_slots = (
         omega (arith, below (goal.at.expand-t-requires c).In-loop-next, pre.1.few),
@@ -90,25 +95,34 @@ module _ (c : After-expand-t) where
   expanded s₀ q₀ h =
       let w = c.loop-next.invariant.2 s₀ q₀ h in
       let there = location c.requires.0 w c.loop-next-test.true (ap (λ (x : ℕ). c.loop-next.next * x) c.loop-next.invariant.1) in
-      turned c.requires.0 w c.loop-next-test.true (ap (λ (x : ℕ). c.loop-next.next * x) c.loop-next.invariant.1) (rw c.loop-next.invariant.0 at c.decode-z.ensures)
+      turned c.requires.0 w c.loop-next-test.true (ap (λ (x : ℕ). c.loop-next.next * x) c.loop-next.invariant.1)
+      (rw c.loop-next.invariant.0 at c.decode-z.ensures)
       (read_location (search rules) there) c.expand-t.ensures
 
 pub shape_of-store-then-has_ended : goal.shape_of-store-then-has_ended
 shape_of-store-then-has_ended c =
     let going = c.requires.1 in
-    (expanded (goal.at.shape_of-store-then-has_ended c).After-expand-t _ _ going.live).same_length going.long ∙ sym (at_entry (goal.at.shape_of-store-then-has_ended c).At-loop-next)
+    (expanded (goal.at.shape_of-store-then-has_ended c).After-expand-t _ _ going.live).same_length going.long
+    ∙ sym (at_entry (goal.at.shape_of-store-then-has_ended c).At-loop-next)
 
 pub returns-then-has_ended : goal.returns-then-has_ended
 returns-then-has_ended c =
-    record { shows = λ s₀ q₀ h. (expanded (goal.at.returns-then-has_ended c).After-expand-t s₀ q₀ h).stops (sym c.has_ended.ensures ∙ c.if-has_ended.true) }
+    record {
+      shows = λ s₀ q₀ h. (expanded (goal.at.returns-then-has_ended c).After-expand-t s₀ q₀ h).stops
+          (sym c.has_ended.ensures ∙ c.if-has_ended.true);
+    }
 
 pub loop-next-smaller : goal.loop-next-smaller
 loop-next-smaller c = omega (arith, below (goal.at.loop-next-smaller c).In-loop-next)
 
 pub loop-next-preserved : goal.loop-next-preserved
 loop-next-preserved c =
-    let inv = c.loop-next.invariant in
-    (inv.0, inv.1, λ s₀ q₀ h. (expanded (goal.at.loop-next-preserved c).After-expand-t s₀ q₀ h).goes_on (sym c.has_ended.ensures ∙ c.if-has_ended.false))
+    let inv = c.loop-next.invariant in (
+      inv.0,
+      inv.1,
+      λ s₀ q₀ h. (expanded (goal.at.loop-next-preserved c).After-expand-t s₀ q₀ h).goes_on
+          (sym c.has_ended.ensures ∙ c.if-has_ended.false),
+    )
 
 pub shape_of-store : goal.shape_of-store
 shape_of-store c = now (goal.at.shape_of-store c).At-loop-next

@@ -54,13 +54,20 @@ module _ (c : After-reset-cleared) where
 
 pub narrow-met-requires : goal.narrow-met-requires
 narrow-met-requires c =
-    record { accepted = c.requires.accepted.0; c_bound = (asks (goal.at.narrow-met-requires c).After-reset-cleared).0; on_scale = (asks (goal.at.narrow-met-requires c).After-reset-cleared).1; settled = λ e. rw (size≡ (goal.at.narrow-met-requires c).After-reset-cleared) (ready (goal.at.narrow-met-requires c).After-reset-cleared).1 }
+    record {
+      accepted = c.requires.accepted.0;
+      c_bound = (asks (goal.at.narrow-met-requires c).After-reset-cleared).0;
+      on_scale = (asks (goal.at.narrow-met-requires c).After-reset-cleared).1;
+      settled = λ e. rw (size≡ (goal.at.narrow-met-requires c).After-reset-cleared) (ready (goal.at.narrow-met-requires c).After-reset-cleared).1;
+    }
 
 pub returns-then-met : goal.returns-then-met
 unfolding invariant_of
 returns-then-met c =
-    let met = meets _ _ (at≡ (goal.at.returns-then-met c).After-reset-cleared) (size≡ (goal.at.returns-then-met c).After-reset-cleared) c.narrow-met.ensures in
-    entered_none _ (n≤ (goal.at.returns-then-met c).After-reset-cleared) _ (one_more (size≡ (goal.at.returns-then-met c).After-reset-cleared)) _ met c.if-met.true ∙ ap (enter_of _ _) (cleared (goal.at.returns-then-met c).After-reset-cleared)
+    let met = meets _ _ (at≡ (goal.at.returns-then-met c).After-reset-cleared) (size≡ (goal.at.returns-then-met c).After-reset-cleared)
+    c.narrow-met.ensures in
+    entered_none _ (n≤ (goal.at.returns-then-met c).After-reset-cleared) _ (one_more (size≡ (goal.at.returns-then-met c).After-reset-cleared)) _ met
+    c.if-met.true ∙ ap (enter_of _ _) (cleared (goal.at.returns-then-met c).After-reset-cleared)
 
 pub raise-raised-requires : goal.raise-raised-requires
 raise-raised-requires c =
@@ -77,9 +84,11 @@ reduce_raised-requires c =
     let up = raises _ _ at n c.raise-raised.ensures in
     let live = c.if-met.false in
     let o = invariant_scale _ a _ hl in (
-      raised_ready _ (n≤ (goal.at.reduce_raised-requires c).After-reset-cleared) _ (one_more n) (10 * counts) (omega arith) (omega arith) _ o (ready (goal.at.reduce_raised-requires c).After-reset-cleared).0 met live
+      raised_ready _ (n≤ (goal.at.reduce_raised-requires c).After-reset-cleared) _ (one_more n) (10 * counts) (omega arith) (omega arith) _ o
+          (ready (goal.at.reduce_raised-requires c).After-reset-cleared).0 met live
           (λ x px hx. a.invariant_hi _ x hl px (omega arith)) up,
-      raised_lifted _ (n≤ (goal.at.reduce_raised-requires c).After-reset-cleared) _ (one_more n) (10 * counts) (omega arith) (omega arith) _ o (ready (goal.at.reduce_raised-requires c).After-reset-cleared).0 met live
+      raised_lifted _ (n≤ (goal.at.reduce_raised-requires c).After-reset-cleared) _ (one_more n) (10 * counts) (omega arith) (omega arith) _ o
+          (ready (goal.at.reduce_raised-requires c).After-reset-cleared).0 met live
           (λ x px hx. a.invariant_present _ x hl px (omega arith)) up,
     )
 
@@ -89,7 +98,8 @@ returns c =
     let at = at≡ (goal.at.returns c).After-reset-cleared in
     let n = size≡ (goal.at.returns c).After-reset-cleared in
     let met = meets _ _ at n c.narrow-met.ensures in
-    entered _ (n≤ (goal.at.returns c).After-reset-cleared) _ (one_more n) _ met c.if-met.false (raises _ _ at n c.raise-raised.ensures) c.reduce_raised.ensures
+    entered _ (n≤ (goal.at.returns c).After-reset-cleared) _ (one_more n) _ met c.if-met.false (raises _ _ at n c.raise-raised.ensures)
+    c.reduce_raised.ensures
     ∙ ap (enter_of _ _) (cleared (goal.at.returns c).After-reset-cleared)
 
 pub counts_of-counts-requires : goal.counts_of-counts-requires

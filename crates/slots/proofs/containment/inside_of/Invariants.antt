@@ -1,3 +1,4 @@
+-- The loop of `inside_of`: what it keeps, and what falls.
 use Prim.Native.Nat.{◌-◌, ◌≤◌}
 use mathlib.Core.Path.{◌≡◌}
 use Rattle.zones.specs.Ranges.{Fits32}

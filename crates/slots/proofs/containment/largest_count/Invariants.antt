@@ -1,3 +1,4 @@
+-- The loop of `largest_count`: what it keeps, and what falls.
 use Prim.Native.Nat.{◌-◌, ◌≤◌}
 use mathlib.Core.Path.{◌≡◌}
 use Rattle.slots.specs.Containing.{largest_slot}

@@ -1,3 +1,4 @@
+-- The loop of `decode`: what it keeps, and what falls.
 use Prim.Native.Nat.{◌*◌, ◌-◌, ◌≤◌}
 use mathlib.Core.Path.{◌≡◌}
 use Rattle.slots.specs.Slots.{counted, square_to}

@@ -1,3 +1,4 @@
+-- The loop of `gcd`: what it keeps, and what falls.
 use mathlib.Core.Path.{◌≡◌}
 use Rattle.zones.specs.Fractions.{gcd_of}
 use Rattle.zones.proofs.fraction.gcd.Given as goal

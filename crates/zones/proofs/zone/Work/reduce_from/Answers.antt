@@ -14,7 +14,8 @@ use Rattle.zones.proofs.ranges.Ranges.{TurnReady, spread_small, sum-small, turn_
 use Rattle.zones.proofs.reductions.Rounds.{relaxed_is, relaxed_stays, row_next, row_all, round_all}
 use Rattle.zones.proofs.reductions.Progress.{seen_in, seen_first, seen_next, seen_live, reduced_next, reduced_stop, reduced_end}
 use Rattle.zones.proofs.zone.Work.reduce_from.Goals as goal
-use Rattle.zones.proofs.zone.Work.reduce_from.Goals.{After-smaller-choice, In-loop-j, then-is_less, else-is_less, then-i-k+else-loop-j-test, else-i-k, then-loop-k-test+else-not-seen, else-loop-k-test}
+use Rattle.zones.proofs.zone.Work.reduce_from.Goals.{After-smaller-choice, In-loop-j, then-is_less, else-is_less, then-i-k+else-loop-j-test, else-i-k}
+use Rattle.zones.proofs.zone.Work.reduce_from.Goals.{then-loop-k-test+else-not-seen, else-loop-k-test}
 
 pub loop-k-init : goal.loop-k-init
 loop-k-init c = (c.requires.0.n≤, c.requires.1.most, c.requires.1.same)

@@ -1,3 +1,4 @@
+-- The loops of `reduce_from`: what they keep, and what falls in each.
 use Prim.Native.Nat.{◌≤◌, ◌<◌, ◌-◌}
 use mathlib.Core.Path.{◌≡◌}
 use Rattle.zones.specs.Reductions.{row_steps, round_steps, reduce_steps}

@@ -18,14 +18,16 @@ row : (c : Joined-marked-i) →
     (c.if-marked-i.a < 9) × (c.if-marked-i.a ≡ home (set_of c.args.marked) c.loop-i.i)
 row c = let R = set_of c.args.marked in
     let i = c.loop-i.i in
-    let h = home_is R i (elim c.if-marked-i.branch [ then-marked-i w ↦ inl (w.if-marked-i.true, w.a-is) | else-marked-i w ↦ inr (w.if-marked-i.false, w.a-is) ]) in
+    let h = home_is R i (elim c.if-marked-i.branch
+    [ then-marked-i w ↦ inl (w.if-marked-i.true, w.a-is) | else-marked-i w ↦ inr (w.if-marked-i.false, w.a-is) ]) in
     (omega (arith, h, home_below R 9 i (omega arith)), h)
 
 column : (c : Joined-marked-j) →
     (c.if-marked-j.b < 9) × (c.if-marked-j.b ≡ home (set_of c.args.marked) c.loop-j.j)
 column c = let R = set_of c.args.marked in
     let j = c.loop-j.j in
-    let h = home_is R j (elim c.if-marked-j.branch [ then-marked-j w ↦ inl (w.if-marked-j.true, w.b-is) | else-marked-j w ↦ inr (w.if-marked-j.false, w.b-is) ]) in
+    let h = home_is R j (elim c.if-marked-j.branch
+    [ then-marked-j w ↦ inl (w.if-marked-j.true, w.b-is) | else-marked-j w ↦ inr (w.if-marked-j.false, w.b-is) ]) in
     (omega (arith, h, home_below R 9 j (omega arith)), h)
 
 pub loop-j-init : goal.loop-j-init
