@@ -124,7 +124,7 @@ fn file(cache: &mut [u8], layout: Layout, automaton: &[u8], answer: Answer)
 // The search of an automaton that is not in the sound cache, its verdict filed.
 fn search_and_file(cache: &mut [u8], layout: Layout, automaton: &[u8], store: &mut [i32]) -> Answer
     requires laid { Laid layout }
-    requires header_length_bound { (header_length ≤ used_of cache.old) × (used_of cache.old ≤ length cache.old) }
+    requires used_fits { (header_length ≤ used_of cache.old) × (used_of cache.old ≤ length cache.old) }
     ensures { Searches layout cache.old automaton.now store.old result cache.new store.new }
 {
     let used = be32(cache, 0) as usize;

@@ -30,7 +30,7 @@ fn in_order(automaton: &[u8]) -> bool
 // Whether bytes are an automaton in its own form.
 pub fn is_canonical(automaton: &[u8]) -> bool
     ensures value { result ≡ is_canonical automaton.now }
-    ensures variant { (result ≡ true) ↔ OwnForm automaton.now }
+    ensures own_form { (result ≡ true) ↔ OwnForm automaton.now }
 {
     if refusal(automaton) != 0 {
         return false;

@@ -12,7 +12,7 @@ use encoding::{bytes_of, put, two_bytes_of, wide};
 
 // The head and the invariants: length and number of edges put right, all else as drawn.
 fn write_front(form: &mut [u8], automaton: &[u8], at: usize, total: usize, count: usize)
-    requires le_at { (11 ≤ at) × (at ≤ length automaton.now) × (at ≤ length form.old) }
+    requires at_fits { (11 ≤ at) × (at ≤ length automaton.now) × (at ≤ length form.old) }
     requires total_bound { (total < 4294967296) × (count < 4294967296) }
     ensures { form.new ≡ placed 0 (front_of automaton.now at total count) form.old }
 {

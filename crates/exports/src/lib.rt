@@ -207,7 +207,7 @@ pub extern "C" fn robustness_write_run(
 pub extern "C" fn robustness_judge(automaton: &[u8], run: &[i64], passes: &mut u64) -> u32
     ensures value { result ≡ judgement_number (judgement_of automaton.now run.now) }
     ensures passes_after { passes.new ≡ passes_told (judgement_of automaton.now run.now) passes.old }
-    ensures variant { (judgement_of automaton.now run.now ≡ Yes) ↔ Passes automaton.now run.now }
+    ensures yes { (judgement_of automaton.now run.now ≡ Yes) ↔ Passes automaton.now run.now }
 {
     tell_judgement(judge(automaton, run), passes)
 }

@@ -13,8 +13,8 @@ pub struct Line {
 }
 
 fn with_text(line: Line, text: &[u8]) -> Line
-    requires bytes_len { length line.bytes ≡ 136 }
-    requires text_bound { line.length + length text.now ≤ 136 }
+    requires whole { length line.bytes ≡ 136 }
+    requires text_fits { line.length + length text.now ≤ 136 }
     ensures { Behind line text.now (length text.now) result }
 {
     let mut bytes = line.bytes;

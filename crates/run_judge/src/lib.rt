@@ -21,7 +21,7 @@ use stretches::passes;
 // Whether the buffer begins with a run of the automaton that ends at the target.
 pub fn judge(automaton: &[u8], run: &[i64]) -> Judgement
     ensures value { result ≡ judgement_of automaton.now run.now }
-    ensures variant { (result ≡ Yes) ↔ Passes automaton.now run.now }
+    ensures yes { (result ≡ Yes) ↔ Passes automaton.now run.now }
 {
     let number = refusal(automaton);
     if number != 0 {

@@ -78,7 +78,7 @@ pub(crate) fn write_back(
     k: usize,
 )
     requires ended { Ended automaton.now amount store.now × Standing automaton.now amount origin }
-    requires k_value { (k ≡ jumps_before automaton.now amount origin) × (2 * k + 2 ≤ length run.old) }
+    requires jumps_fit { (k ≡ jumps_before automaton.now amount origin) × (2 * k + 2 ≤ length run.old) }
     ensures { run.new ≡ written (run_of automaton.now (state_of automaton.now amount) (came_of origin))
         ++ drop (2 * k + 2) run.old }
 {

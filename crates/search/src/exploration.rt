@@ -209,7 +209,7 @@ fn expand(
     z: [Pair; 81],
 ) -> Turn
     requires accepted { Accepted automaton.now × Going automaton.now capacity store.old turn × SoundZone automaton.now z }
-    requires parent_lt_most_slots { (parent < most_slots) × Few (suc (parent * 256)) turn.dropped }
+    requires parent_kept { (parent < most_slots) × Few (suc (parent * 256)) turn.dropped }
     ensures { (c : Came) (p : List ℕ) → Continues automaton.now capacity store.old turn
         (expand (system_of automaton.now) (zones_of automaton.now) capacity parent (node_at l c p z)
         (edges automaton.now) 0) store.new result }

@@ -26,7 +26,7 @@ struct Met {
 // The limits at `at` of c clocks are met, clock by clock. A settled zone stays settled where they lower no entry.
 fn meet(automaton: &[u8], at: usize, c: usize, w: Work, settled: bool) -> Met
     requires accepted { Accepted automaton.now }
-    requires c_bound { (c ≤ 8) × (at + 8 * c ≤ length automaton.now) }
+    requires few_clocks { (c ≤ 8) × (at + 8 * c ≤ length automaton.now) }
     requires on_scale { OnScale scale c (limits_at automaton.now at) × Sized step_counts (suc c) w }
     ensures { MetBy (limits_at automaton.now at) c w «settled» result }
 {
@@ -62,7 +62,7 @@ fn meet(automaton: &[u8], at: usize, c: usize, w: Work, settled: bool) -> Met
 // The limits at `at` are met, and the zone is reduced. A settled zone is its own reduction: every middle index is left out.
 pub fn narrow(automaton: &[u8], at: usize, c: usize, w: Work, settled: bool) -> Reduced
     requires accepted { Accepted automaton.now }
-    requires c_bound { (c ≤ 8) × (at + 8 * c ≤ length automaton.now) }
+    requires few_clocks { (c ≤ 8) × (at + 8 * c ≤ length automaton.now) }
     requires on_scale { OnScale scale c (limits_at automaton.now at) × Sized step_counts (suc c) w }
     requires settled { «settled» ≡ true → Settled (suc c) w }
     ensures { result ≡ meet_of c (limits_at automaton.now at) w }
@@ -75,7 +75,7 @@ pub fn narrow(automaton: &[u8], at: usize, c: usize, w: Work, settled: bool) -> 
 // Each entry (clock, 0) is put to (hi, 1), hi among the limits at `at`.
 fn raise(automaton: &[u8], at: usize, c: usize, w: Work) -> Work
     requires accepted { Accepted automaton.now }
-    requires c_bound { (c ≤ 8) × (at + 8 * c ≤ length automaton.now) }
+    requires few_clocks { (c ≤ 8) × (at + 8 * c ≤ length automaton.now) }
     ensures { result ≡ raise_limits (limits_at automaton.now at) c w }
 {
     let fraction = w.fraction;

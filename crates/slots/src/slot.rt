@@ -137,7 +137,7 @@ pub fn origin_of(slot: &[i32]) -> Origin
 // The zone of a slot, (0, 0) outside its rows and columns.
 pub fn decode(slot: &[i32], size: usize) -> [Pair; 81]
     requires size_bound { (size ≤ 9) × (slot_length size ≤ length slot.now) }
-    requires by_index { (t : ℕ) → t < size * size → pos 0 ≤ℤ get_or slot.now (p_at t) (pos 0) }
+    requires counts_natural { (t : ℕ) → t < size * size → pos 0 ≤ℤ get_or slot.now (p_at t) (pos 0) }
     ensures { result ≡ zone_of size slot.now }
 {
     let mut z = [Pair { m: 0, p: 0 }; 81];

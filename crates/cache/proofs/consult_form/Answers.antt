@@ -7,7 +7,7 @@ search_and_file-requires c =
     let looked = c.look_up_form in
     record {
       laid = c.version_1.ensures.laid;
-      header_length_bound = absent_used _ _ c.args.store.now looked.ensures c.in-Absent.is;
+      used_fits = absent_used _ _ c.args.store.now looked.ensures c.in-Absent.is;
     }
 
 pub returns-in-Filed : goal.returns-in-Filed

@@ -31,7 +31,7 @@ returns-then-refusal-ne0-clause-value c = by_number c.args.automaton.now c.refus
 pub returns-clause-value : goal.returns-clause-value
 returns-clause-value c = by_order c.args.automaton.now c.refusal.ensures (omega arith) c.in_order.ensures
 
-pub returns-clause-variant : goal.returns-clause-variant
-returns-clause-variant c =
+pub returns-clause-own_form : goal.returns-clause-own_form
+returns-clause-own_form c =
     tells c.args.automaton.now (λ k. omega (arith, c.type_inv.automaton k))
     (by_order c.args.automaton.now c.refusal.ensures (omega arith) c.in_order.ensures)

@@ -8,5 +8,5 @@ returns c =
     record {
       value = rw did.value at told.value;
       passes_after = rw did.value at told.passes_after;
-      variant = rw did.value at did.variant;
+      yes = rw did.value at did.yes;
     }

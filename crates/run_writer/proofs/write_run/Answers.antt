@@ -76,7 +76,7 @@ write_back-requires c =
     let o = ok (goal.at.write_back-requires c).Else-number-ne0 in
     record {
       ended = (stored _ o _ _ _ h g, stands _ o _ _ _ h g);
-      k_value = (c.jumps_to-k.ensures, c.if-run-k.false);
+      jumps_fit = (c.jumps_to-k.ensures, c.if-run-k.false);
     }
 
 pub returns-then-run-k : goal.returns-then-run-k

@@ -5,8 +5,8 @@ use Rattle.canonical.proofs.edges.Lying.{edges_whole}
 use Rattle.canonical.proofs.writing.Parts.{asks_front, total≡, form_put}
 use Rattle.canonical.proofs.writing.write_form.Goals as goal
 
-pub write_front-requires-clause-le_at : goal.write_front-requires-clause-le_at
-write_front-requires-clause-le_at c =
+pub write_front-requires-clause-at_fits : goal.write_front-requires-clause-at_fits
+write_front-requires-clause-at_fits c =
     let a = c.args in
     (asks_front a.automaton.now a.edges a.order c.requires.sorted (length a.form.now) c.requires.total_value.0 c.requires.total_value.1).0
 

@@ -5,6 +5,6 @@ use Rattle.canonical.proofs.writing.write_front.Goals as goal
 pub returns : goal.returns
 returns c =
     let a = c.args in
-    front_put a.automaton.now a.at a.total a.count c.requires.le_at.0 c.requires.le_at.1 a.form.now
+    front_put a.automaton.now a.at a.total a.count c.requires.at_fits.0 c.requires.at_fits.1 a.form.now
     c.bytes_of.ensures c.put.ensures c.put-2.ensures
     c.two_bytes_of.ensures c.put-3.ensures c.put-4.ensures

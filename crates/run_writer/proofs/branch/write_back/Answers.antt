@@ -30,7 +30,7 @@ last_state-v-requires c = c.requires.ended
 pub loop-left-init : goal.loop-left-init
 loop-left-init c =
     let pre = c.requires.ended in
-    let many = c.requires.k_value.0 in
+    let many = c.requires.jumps_fit.0 in
     let last = c.last_state-v.ensures in
     (omega arith, refl, pre.1, many, last_small pre.0 pre.1 last, fill_none _ many last)
 
@@ -62,7 +62,7 @@ module _ (c : After-back_along-back) where
       back-small c.requires.ended.0 inv.2 on c.loop-left.v inv.4 c.edge-edge.ensures c.zone_before-z.ensures c.back_along-back.ensures
 
   room : 2 * c.loop-left.left + 2 ≤ length c.loop-left.run
-  room = omega (arith, c.loop-left.invariant.0, c.loop-left.invariant.1, c.requires.k_value.1)
+  room = omega (arith, c.loop-left.invariant.0, c.loop-left.invariant.1, c.requires.jumps_fit.1)
 
 pub overflow_mul-left : goal.overflow_mul-left
 overflow_mul-left c =
@@ -91,20 +91,20 @@ loop-left-preserved c =
       omega (arith, inv.3, c.loop-left-test.true, fewer ended inv.2 on p),
       (small (goal.at.loop-left-preserved c).After-back_along-back).2,
       rw c.put_two.ensures
-          (fill_turn ended inv.2 on c.loop-left.left c.loop-left-test.true (omega (arith, inv.0, c.requires.k_value.1)) inv.5
+          (fill_turn ended inv.2 on c.loop-left.left c.loop-left-test.true (omega (arith, inv.0, c.requires.jumps_fit.1)) inv.5
           c.edge-edge.ensures c.zone_before-z.ensures c.back_along-back.ensures p),
     )
 
 -- ---- after the loop
 pub overflow_mul-k : goal.overflow_mul-k
-overflow_mul-k c = omega (arith, c.requires.k_value.1, run_fits (goal.at.overflow_mul-k c).Start)
+overflow_mul-k c = omega (arith, c.requires.jumps_fit.1, run_fits (goal.at.overflow_mul-k c).Start)
 
 pub overflow_add-k : goal.overflow_add-k
-overflow_add-k c = omega (arith, c.requires.k_value.1, run_fits (goal.at.overflow_add-k c).Start)
+overflow_add-k c = omega (arith, c.requires.jumps_fit.1, run_fits (goal.at.overflow_add-k c).Start)
 
 pub put_two-requires-2 : goal.put_two-requires-2
 put_two-requires-2 c =
-    let long = c.requires.k_value.1 in (
+    let long = c.requires.jumps_fit.1 in (
       omega (arith, long, c.loop-left.invariant.1),
       omega (arith, long, run_fits (goal.at.put_two-requires-2 c).Start),
       omega (arith, c.loop-left.invariant.4 1),
@@ -116,4 +116,4 @@ shape_of-run c = ap length c.put_two-2.ensures ∙ two-set c.loop-left.run _ _ _
 pub returns : goal.returns
 returns c =
     c.put_two-2.ensures
-    ∙ fill_all (omega (arith, c.loop-left-test.false)) (omega (arith, c.requires.k_value.1)) c.loop-left.invariant.5
+    ∙ fill_all (omega (arith, c.loop-left-test.false)) (omega (arith, c.requires.jumps_fit.1)) c.loop-left.invariant.5

@@ -34,7 +34,7 @@ decode-requires c =
     let pre = c.requires in
     let at = (goal.at.decode-requires c).After-slot_length in
     let asks = asks_decode pre.0 pre.1 pre.2 c.slot.ensures (stride≡ at) (indices≡ at) in
-    record { size_bound = asks.0; by_index = asks.1 }
+    record { size_bound = asks.0; counts_natural = asks.1 }
 
 pub returns : goal.returns
 returns c =

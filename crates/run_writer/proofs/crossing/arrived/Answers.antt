@@ -47,7 +47,7 @@ narrow-requires c =
     (ready (goal.at.narrow-requires c).After-cleared).0 in
     record {
       accepted = a;
-      c_bound = q.0;
+      few_clocks = q.0;
       on_scale = q.1;
       settled = λ e. rw (size≡ (goal.at.narrow-requires c).After-cleared) (ready (goal.at.narrow-requires c).After-cleared).1;
     }

@@ -46,7 +46,7 @@ narrow-requires c =
     (size≡ (goal.at.narrow-requires c).After-edge_at-at) a.complete.clocks≤ (omega (arith, inside (goal.at.narrow-requires c).After-edge_at-at))
     (guard_scale _ a _ hi)
     (omega arith) (zone_sized _ a _ hi _ pre.2) in
-    record { accepted = a; c_bound = q.0; on_scale = q.1; settled = λ e. true_false (sym e) }
+    record { accepted = a; few_clocks = q.0; on_scale = q.1; settled = λ e. true_false (sym e) }
 
 pub returns : goal.returns
 unfolding guard_of

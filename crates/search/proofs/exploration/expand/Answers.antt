@@ -48,7 +48,7 @@ module _ (c : After-edge_of-edge) where
 
 pub along-origin-requires : goal.along-origin-requires
 along-origin-requires c = (
-  omega (arith, c.requires.parent_lt_most_slots.0),
+  omega (arith, c.requires.parent_kept.0),
   omega (arith, within (goal.at.along-origin-requires c).After-edge_of-edge, c.requires.accepted.0.complete.edges≤),
 )
 
@@ -61,8 +61,8 @@ follow-t-requires c =
         within (goal.at.follow-t-requires c).After-edge_of-edge,
         c.edge_of-edge.ensures,
         between_few (some (goal.at.follow-t-requires c).After-edge_of-edge)
-            (omega (arith, pre.1.live.shown.again, pre.1.live.shown.inside, c.requires.parent_lt_most_slots.1.few))
-            c.requires.parent_lt_most_slots.0 (omega (arith, within (goal.at.follow-t-requires c).After-edge_of-edge, pre.0.complete.edges≤)),
+            (omega (arith, pre.1.live.shown.again, pre.1.live.shown.inside, c.requires.parent_kept.1.few))
+            c.requires.parent_kept.0 (omega (arith, within (goal.at.follow-t-requires c).After-edge_of-edge, pre.0.complete.edges≤)),
       );
       going = (
         between_going (some (goal.at.follow-t-requires c).After-edge_of-edge) pre.1.long pre.1.few,

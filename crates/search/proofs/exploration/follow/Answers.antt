@@ -43,7 +43,7 @@ narrow-met-requires c =
     (size≡ (goal.at.narrow-met-requires c).After-edge_at-at) a.complete.clocks≤
     (omega (arith, inside (goal.at.narrow-met-requires c).After-edge_at-at)) (guard_scale _ a _ hi)
     (omega arith) (taken_sized _ a _ hi _ c.requires.going.1 c.requires.going.2) in
-    record { accepted = a; c_bound = q.0; on_scale = q.1; settled = λ e. true_false (sym e) }
+    record { accepted = a; few_clocks = q.0; on_scale = q.1; settled = λ e. true_false (sym e) }
 
 -- ---- the guard met
 module _ (c : After-narrow-met) where

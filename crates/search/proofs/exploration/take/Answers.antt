@@ -68,7 +68,7 @@ pub decode-z-requires : goal.decode-z-requires
 decode-z-requires c =
     let q = asks_decode c.requires.0 (on (goal.at.decode-z-requires c).At-loop-next) c.loop-next-test.true
     (place≡ (goal.at.decode-z-requires c).In-loop-next) c.requires.1.long in
-    rw c.loop-next.invariant.0 (record { size_bound = q.0; by_index = q.1 })
+    rw c.loop-next.invariant.0 (record { size_bound = q.0; counts_natural = q.1 })
 
 pub expand-t-requires : goal.expand-t-requires
 expand-t-requires c =
@@ -80,7 +80,7 @@ expand-t-requires c =
         sound_zone pre.0 (on (goal.at.expand-t-requires c).At-loop-next) c.loop-next-test.true (place≡ (goal.at.expand-t-requires c).In-loop-next)
             (rw c.loop-next.invariant.0 at c.decode-z.ensures),
       );
-      parent_lt_most_slots = (
+      parent_kept = (
         omega (arith, below (goal.at.expand-t-requires c).In-loop-next, pre.1.few),
         onward_few pre.0 (on (goal.at.expand-t-requires c).At-loop-next) c.loop-next-test.true
             (omega (arith, pre.1.live.shown.again, pre.1.live.shown.inside, pre.2.few)),

@@ -56,7 +56,7 @@ pub narrow-met-requires : goal.narrow-met-requires
 narrow-met-requires c =
     record {
       accepted = c.requires.accepted.0;
-      c_bound = (asks (goal.at.narrow-met-requires c).After-reset-cleared).0;
+      few_clocks = (asks (goal.at.narrow-met-requires c).After-reset-cleared).0;
       on_scale = (asks (goal.at.narrow-met-requires c).After-reset-cleared).1;
       settled = λ e. rw (size≡ (goal.at.narrow-met-requires c).After-reset-cleared) (ready (goal.at.narrow-met-requires c).After-reset-cleared).1;
     }
@@ -71,7 +71,7 @@ returns-then-met c =
 
 pub raise-raised-requires : goal.raise-raised-requires
 raise-raised-requires c =
-    record { accepted = c.requires.accepted.0; c_bound = (asks (goal.at.raise-raised-requires c).After-reset-cleared).0 }
+    record { accepted = c.requires.accepted.0; few_clocks = (asks (goal.at.raise-raised-requires c).After-reset-cleared).0 }
 
 pub reduce_raised-requires : goal.reduce_raised-requires
 unfolding invariant_of

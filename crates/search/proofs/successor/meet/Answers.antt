@@ -25,7 +25,7 @@ pub meet-met-requires : goal.meet-met-requires
 unfolding limits_at
 meet-met-requires c =
     let limits = c.limits_of-limits.ensures in
-    turn_ready _ _ c.args.w c.loop-x.work c.requires.c_bound.0 c.requires.on_scale.0
+    turn_ready _ _ c.args.w c.loop-x.work c.requires.few_clocks.0 c.requires.on_scale.0
     c.requires.on_scale.1 c.loop-x.x c.loop-x.invariant.0 (omega arith) c.loop-x.invariant.2
     (ap (λ (l : Limits). l.lo) limits) (ap (λ (l : Limits). l.hi) limits) (ap (λ (l : Limits). eqb l.hi no_upper) limits)
 
@@ -36,7 +36,7 @@ loop-x-preserved c =
     let below = c.is_below.ensures in (
       omega arith,
       omega arith,
-      turn_met _ _ c.args.w c.loop-x.work c.requires.c_bound.0 c.requires.on_scale.0
+      turn_met _ _ c.args.w c.loop-x.work c.requires.few_clocks.0 c.requires.on_scale.0
           c.requires.on_scale.1 c.loop-x.x c.loop-x.invariant.0 (omega arith) c.loop-x.invariant.2
           (ap (λ (l : Limits). l.lo) limits) (ap (λ (l : Limits). l.hi) limits)
           (ap (λ (l : Limits). eqb l.hi no_upper) limits) c.meet-met.ensures,

@@ -15,7 +15,7 @@ pub get_pair-requires : goal.get_pair-requires
 get_pair-requires c =
     let l = c.loop-at in
     let f = few _ _ l.invariant.2 (omega arith) (omega arith) c.if-at-size.true in
-    (omega arith, c.requires.by_index l.t f.0)
+    (omega arith, c.requires.counts_natural l.t f.0)
 
 pub loop-at-preserved : goal.loop-at-preserved
 loop-at-preserved c =
