@@ -158,9 +158,6 @@ module _ {b : List ℕ} {amount : ℕ} {o : Origin} (st : Standing b amount o) w
     pub edge_is : up o.edge ≡ a.edge
     edge_is = ap (λ (x : Origin). up x.edge) a.told
 
-    pub asks_parent : pos 0 ≤ℤ o.parent
-    asks_parent = subst (λ (x : Origin). pos 0 ≤ℤ x.parent) (sym a.told) (le_make (pos 0) (pos a.parent) (omega arith))
-
     pub asks_edge : pos 0 ≤ℤ o.edge
     asks_edge = subst (λ (x : Origin). pos 0 ≤ℤ x.edge) (sym a.told) (le_make (pos 0) (pos a.edge) (omega arith))
 

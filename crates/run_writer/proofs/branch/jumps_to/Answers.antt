@@ -5,14 +5,9 @@ use mathlib.Core.Bool.{true}
 use native.Mathlib.Omega.{arith}
 use Rattle.slots.specs.Slots.{is_along}
 use Rattle.run_writer.proofs.branch.Stepping.{next, nearer, fewer}
-use Rattle.run_writer.proofs.branch.Walking.{left_of, few, none_left, left_most}
+use Rattle.run_writer.proofs.branch.Walking.{left_of, none_left}
 use Rattle.run_writer.proofs.branch.jumps_to.Goals as goal
 use Rattle.run_writer.proofs.branch.jumps_to.Goals.{After-origin_before-from, In-loop-from}
-
-pub loop-from-init : goal.loop-from-init
-loop-from-init c =
-    let pre = c.requires in
-    (pre.1, omega arith, omega (arith, left_most pre.1, pre.1.most, few pre.0))
 
 -- ---- in a turn
 goes : (c : In-loop-from) → is_along c.loop-from.from ≡ true
@@ -39,9 +34,3 @@ loop-from-smaller c = shorter (goal.at.loop-from-smaller c).After-origin_before-
 pub returns : goal.returns
 returns c =
     omega (arith, c.loop-from.invariant.1, none_left c.loop-from.invariant.0 (sym c.is_along.ensures ∙ c.loop-from-test.false))
-
-pub origin_before-from-requires : goal.origin_before-from-requires
-origin_before-from-requires c = (c.requires.0, c.loop-from.invariant.0, goes (goal.at.origin_before-from-requires c).In-loop-from)
-
-pub overflow_add-k : goal.overflow_add-k
-overflow_add-k c = omega (arith, c.loop-from.invariant.2, shorter (goal.at.overflow_add-k c).After-origin_before-from)

@@ -8,12 +8,8 @@ use Rattle.run_writer.proofs.branch.last_state.Goals as goal
 use Rattle.run_writer.proofs.branch.last_state.Goals.{Then-is_along}
 
 -- ---- where there is a slot
-module _ (c : Then-is_along) where
-  goes : is_along c.args.origin ≡ true
-  goes = sym c.is_along.ensures ∙ c.if-is_along.true
-
-pub zone_before-z-requires : goal.zone_before-z-requires
-zone_before-z-requires c = (c.requires.0, c.requires.1, goes (goal.at.zone_before-z-requires c).Then-is_along)
+goes : (c : Then-is_along) → is_along c.args.origin ≡ true
+goes c = sym c.is_along.ensures ∙ c.if-is_along.true
 
 pub edge-requires : goal.edge-requires
 edge-requires c = let pre = c.requires in asks_edge pre.1 (along pre.1 (goes (goal.at.edge-requires c).Then-is_along))

@@ -12,20 +12,11 @@ use Rattle.witness.specs.Sizes.{AllUpTo}
 use Rattle.run_writer.proofs.branch.Filling.{fill_none, fill_turn, fill_all, crosses_back, back-small, last_small}
 use Rattle.run_writer.proofs.branch.Stepping.{next, fewer}
 use Rattle.run_writer.proofs.branch.Walking.{along, goes_on, asks_edge}
-use mir.Syntax.{w64}
-use mir.Val.{Fits}
-use borrow.Author.Rules.{rules}
 use Rattle.run_writer.proofs.branch.write_back.Goals as goal
-use Rattle.run_writer.proofs.branch.write_back.Goals.{After-back_along-back, In-loop-left, Start}
+use Rattle.run_writer.proofs.branch.write_back.Goals.{After-back_along-back, In-loop-left}
 
 two-set : (l : List ℤ) (i j : ℕ) (x y : ℤ) → length (set (set l i x) j y) ≡ length l
 two-set l i j x y = length-set (set l i x) j y ∙ length-set l i x
-
-run_fits : (c : Start) → Fits w64 (length c.args.run.now * 8)
-run_fits c = search rules
-
-pub last_state-v-requires : goal.last_state-v-requires
-last_state-v-requires c = c.requires.ended
 
 pub loop-left-init : goal.loop-left-init
 loop-left-init c =
@@ -64,11 +55,6 @@ module _ (c : After-back_along-back) where
   room : 2 * c.loop-left.left + 2 ≤ length c.loop-left.run
   room = omega (arith, c.loop-left.invariant.0, c.loop-left.invariant.1, c.requires.jumps_fit.1)
 
-pub overflow_mul-left : goal.overflow_mul-left
-overflow_mul-left c =
-    let at = goal.at.overflow_mul-left c in
-    omega (arith, room at.After-back_along-back, c.loop-left.invariant.1, run_fits at.Start)
-
 pub put_two-requires : goal.put_two-requires
 put_two-requires c =
     let at = (goal.at.put_two-requires c).After-back_along-back in
@@ -96,23 +82,6 @@ loop-left-preserved c =
     )
 
 -- ---- after the loop
-pub overflow_mul-k : goal.overflow_mul-k
-overflow_mul-k c = omega (arith, c.requires.jumps_fit.1, run_fits (goal.at.overflow_mul-k c).Start)
-
-pub overflow_add-k : goal.overflow_add-k
-overflow_add-k c = omega (arith, c.requires.jumps_fit.1, run_fits (goal.at.overflow_add-k c).Start)
-
-pub put_two-requires-2 : goal.put_two-requires-2
-put_two-requires-2 c =
-    let long = c.requires.jumps_fit.1 in (
-      omega (arith, long, c.loop-left.invariant.1),
-      omega (arith, long, run_fits (goal.at.put_two-requires-2 c).Start),
-      omega (arith, c.loop-left.invariant.4 1),
-    )
-
-pub shape_of-run : goal.shape_of-run
-shape_of-run c = ap length c.put_two-2.ensures ∙ two-set c.loop-left.run _ _ _ _ ∙ c.loop-left.invariant.1
-
 pub returns : goal.returns
 returns c =
     c.put_two-2.ensures

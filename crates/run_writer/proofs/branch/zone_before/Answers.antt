@@ -4,18 +4,11 @@ use mathlib.Core.Path.{◌≡◌, ap, ◌∙◌}
 use lib.ListN.{length}
 use native.Mathlib.Omega.{arith}
 use Rattle.automata.specs.Automata.{clocks}
-use Rattle.automata.proofs.fields.Counting.{size≡, few_clocks}
+use Rattle.automata.proofs.fields.Counting.{size≡}
 use Rattle.slots.specs.Slots.{slot_length}
 use Rattle.run_writer.proofs.branch.Stepping.{inside, asks_decode, reads_zone}
-use Rattle.run_writer.proofs.branch.Walking.{along, asks_parent}
 use Rattle.run_writer.proofs.branch.zone_before.Goals as goal
-use Rattle.run_writer.proofs.branch.zone_before.Goals.{After-counts_of-size, After-slot_length}
-
-few : (c : After-counts_of-size) → c.counts_of-size.result.clocks ≤ 8
-few c = few_clocks _ c.counts_of-size.ensures c.requires.0.accepted
-
-pub slot-requires : goal.slot-requires
-slot-requires c = let pre = c.requires in asks_parent pre.1 (along pre.1 pre.2)
+use Rattle.run_writer.proofs.branch.zone_before.Goals.{After-slot_length}
 
 -- ---- with the length of a slot
 module _ (c : After-slot_length) where
@@ -39,17 +32,8 @@ decode-requires c =
 pub returns : goal.returns
 returns c =
     let pre = c.requires in
-    reads_zone pre.0 pre.1 pre.2 c.slot.ensures (stride≡ (goal.at.returns c).After-slot_length) (indices≡ (goal.at.returns c).After-slot_length)
-    c.decode.ensures
-
-pub overflow_add-size : goal.overflow_add-size
-overflow_add-size c = omega (arith, few (goal.at.overflow_add-size c).After-counts_of-size)
-
-pub slot_length-requires : goal.slot_length-requires
-slot_length-requires c = omega (arith, few (goal.at.slot_length-requires c).After-counts_of-size)
-
-pub overflow_mul-at : goal.overflow_mul-at
-overflow_mul-at c = omega (arith, within (goal.at.overflow_mul-at c).After-slot_length)
+    let at = (goal.at.returns c).After-slot_length in
+    reads_zone pre.0 pre.1 pre.2 c.slot.ensures (stride≡ at) (indices≡ at) c.decode.ensures
 
 pub offset_bounds-store-at : goal.offset_bounds-store-at
 offset_bounds-store-at c = omega (arith, within (goal.at.offset_bounds-store-at c).After-slot_length)

@@ -8,14 +8,11 @@ use Rattle.zones.specs.Settled.{Settled}
 use Rattle.zones.specs.Successors.{meet_of}
 use Rattle.zones.specs.Zones.{set_of, reset_of}
 use Rattle.automata.specs.Automata.{clocks, invariant_at, invariant_of}
-use Rattle.automata.proofs.fields.Counting.{clocks≡, invariant≡, few_clocks, asks_invariant}
+use Rattle.automata.proofs.fields.Counting.{clocks≡, invariant≡}
 use Rattle.automata.proofs.fields.Places.{invariant_within}
 use Rattle.search.proofs.successor.Stepping.{one_more, meets, asks_limits, reset_is, reset_enters, invariant_scale}
 use Rattle.run_writer.proofs.crossing.arrived.Goals as goal
-use Rattle.run_writer.proofs.crossing.arrived.Goals.{After-cleared, After-counts_of-counts}
-
-few : (c : After-counts_of-counts) → c.counts_of-counts.result.clocks ≤ 8
-few c = few_clocks _ c.counts_of-counts.ensures c.requires.accepted.0
+use Rattle.run_writer.proofs.crossing.arrived.Goals.{After-cleared}
 
 -- ---- with the clocks reset
 module _ (c : After-cleared) where
@@ -42,30 +39,13 @@ unfolding invariant_of
 narrow-requires c =
     let a = c.requires.accepted.0 in
     let hl = c.requires.accepted.1 in
-    let q = asks_limits _ _ (at≡ (goal.at.narrow-requires c).After-cleared) (size≡ (goal.at.narrow-requires c).After-cleared)
-    (n≤ (goal.at.narrow-requires c).After-cleared) (invariant_within _ a.complete _ hl) (invariant_scale _ a _ hl) (omega arith)
-    (ready (goal.at.narrow-requires c).After-cleared).0 in
-    record {
-      accepted = a;
-      few_clocks = q.0;
-      on_scale = q.1;
-      settled = λ e. rw (size≡ (goal.at.narrow-requires c).After-cleared) (ready (goal.at.narrow-requires c).After-cleared).1;
-    }
+    let at = (goal.at.narrow-requires c).After-cleared in
+    let q = asks_limits _ _ (at≡ at) (size≡ at) (n≤ at) (invariant_within _ a.complete _ hl) (invariant_scale _ a _ hl) (omega arith)
+    (ready at).0 in
+    record { accepted = a; few_clocks = q.0; on_scale = q.1; settled = λ e. rw (size≡ at) (ready at).1 }
 
 pub returns : goal.returns
 unfolding invariant_of
 returns c =
-    meets _ _ (at≡ (goal.at.returns c).After-cleared) (size≡ (goal.at.returns c).After-cleared) c.narrow.ensures
-    ∙ ap (meet_of _ _) (reset≡ (goal.at.returns c).After-cleared)
-
-pub counts_of-counts-requires : goal.counts_of-counts-requires
-counts_of-counts-requires c = c.requires.accepted.0
-
-pub invariant_at-at-requires : goal.invariant_at-at-requires
-invariant_at-at-requires c = let pre = c.requires.accepted in asks_invariant _ c.counts_of-counts.ensures pre.0 pre.1
-
-pub overflow_add-c : goal.overflow_add-c
-overflow_add-c c = omega (arith, few (goal.at.overflow_add-c c).After-counts_of-counts)
-
-pub cleared-requires : goal.cleared-requires
-cleared-requires c = omega (arith, few (goal.at.cleared-requires c).After-counts_of-counts)
+    let at = (goal.at.returns c).After-cleared in
+    meets _ _ (at≡ at) (size≡ at) c.narrow.ensures ∙ ap (meet_of _ _) (reset≡ at)

@@ -1,5 +1,5 @@
 -- Place by place, each has its home's entry.
-use Prim.Native.Nat.{ℕ, ◌+◌, ◌-◌, ◌*◌, ◌/◌, ◌%◌, ◌<◌}
+use Prim.Native.Nat.{ℕ, ◌+◌, ◌*◌, ◌/◌, ◌%◌, ◌<◌}
 use mathlib.Core.Bool.{Bool}
 use mathlib.Core.List.{List}
 use mathlib.Core.Path.{◌≡◌, refl, ap, ◌∙◌}
@@ -12,7 +12,7 @@ use Rattle.zones.specs.Pairs.{zero_pair}
 use Rattle.zones.specs.Zones.{pair_at, set_of, home, reset_places, reset_of}
 use Rattle.zones.proofs.places.Places.{home_below}
 use Rattle.run_writer.proofs.crossing.cleared.Goals as goal
-use Rattle.run_writer.proofs.crossing.cleared.Goals.{After-home, After-home-in-loop-k, In-loop-k}
+use Rattle.run_writer.proofs.crossing.cleared.Goals.{After-home, After-home-in-loop-k}
 
 -- one place more
 place-more : (R : ℕ → Bool) (old : List Pair) (k : ℕ) {zone : List Pair} {a b : ℕ} → zone ≡ reset_places R old k old → a ≡ home R (k / 9)
@@ -25,23 +25,15 @@ all-places : (R : ℕ → Bool) (w : Work) (size : ℕ) {k : ℕ} {zone : List P
 unfolding reset_of
 all-places R w size e f = let g = f ∙ ap (λ (k : ℕ). reset_places R w.zone k w.zone) e in λ i. record { zone = g i; fraction = w.fraction }
 
--- ---- in a turn
-module _ (c : In-loop-k) where
-  within : c.loop-k.k < 81
-  within = omega (arith, c.loop-k.invariant.0, c.loop-k-test.true, c.requires)
-
--- ---- with both homes
-module _ (c : After-home-in-loop-k) where
-  there : (c.home.result < 9) × (c.home-in-loop-k.result < 9)
-  there = (
-    rw c.home.ensures (home_below _ 9 _
-        (omega (arith, (let it : c.loop-k.k < 81 = omega (arith, c.loop-k.invariant.0, c.loop-k-test.true, c.requires) in it)))),
-    rw c.home-in-loop-k.ensures (home_below _ 9 _ (omega arith)),
-  )
-
+-- ---- in a turn, with one home, and with both
 row-there : (c : After-home) → c.home.result < 9
-row-there c = rw c.home.ensures
-    (home_below _ 9 _ (omega (arith, (let it : c.loop-k.k < 81 = omega (arith, c.loop-k.invariant.0, c.loop-k-test.true, c.requires) in it))))
+row-there c = rw c.home.ensures (home_below _ 9 _ (omega arith))
+
+there : (c : After-home-in-loop-k) → (c.home.result < 9) × (c.home-in-loop-k.result < 9)
+there c = (
+  rw c.home.ensures (home_below _ 9 _ (omega arith)),
+  rw c.home-in-loop-k.ensures (home_below _ 9 _ (omega arith)),
+)
 
 pub loop-k-init : goal.loop-k-init
 unfolding reset_places
@@ -59,12 +51,6 @@ returns c =
     all-places (set_of c.args.marked) c.args.w c.args.size
     (omega (arith, c.loop-k-test.false, c.loop-k.invariant.1)) c.loop-k.invariant.2
 
-pub overflow_mul-last : goal.overflow_mul-last
-overflow_mul-last c = omega (arith, c.requires)
-
-pub home-requires : goal.home-requires
-home-requires c = omega (arith, within (goal.at.home-requires c).In-loop-k)
-
 pub overflow_mul-zone : goal.overflow_mul-zone
 overflow_mul-zone c = omega (arith, row-there (goal.at.overflow_mul-zone c).After-home)
 
@@ -76,15 +62,3 @@ offset_bounds-old-home c = omega (arith, there (goal.at.offset_bounds-old-home c
 
 pub bounds-old-home : goal.bounds-old-home
 bounds-old-home c = omega (arith, there (goal.at.bounds-old-home c).After-home-in-loop-k)
-
-pub offset_bounds-zone-k : goal.offset_bounds-zone-k
-offset_bounds-zone-k c = omega (arith, within (goal.at.offset_bounds-zone-k c).In-loop-k)
-
-pub bounds-zone-k : goal.bounds-zone-k
-bounds-zone-k c = omega (arith, within (goal.at.bounds-zone-k c).In-loop-k)
-
-pub overflow_add-k : goal.overflow_add-k
-overflow_add-k c = omega (arith, within (goal.at.overflow_add-k c).In-loop-k)
-
-pub loop-k-smaller : goal.loop-k-smaller
-loop-k-smaller c = omega (arith, c.loop-k-test.true)

@@ -3,12 +3,6 @@
 use Rattle.run_writer.proofs.crossing.Along.{arrived_asks, crossed}
 use Rattle.run_writer.proofs.crossing.cross.Goals as goal
 
-pub edge_of-edge-requires : goal.edge_of-edge-requires
-edge_of-edge-requires c = let pre = c.requires in (pre.0, pre.1.edge)
-
-pub guarded-met-requires : goal.guarded-met-requires
-guarded-met-requires c = let pre = c.requires in (pre.0, pre.1.edge, pre.1.sound)
-
 pub arrived-entered-requires : goal.arrived-entered-requires
 arrived-entered-requires c =
     let pre = c.requires in

@@ -6,19 +6,12 @@ use lib.ListN.{length}
 use native.Mathlib.Omega.{arith}
 use Rattle.runs.proofs.Contradictions.{true_false}
 use Rattle.automata.specs.Automata.{clocks, edge_at, guard_of}
-use Rattle.automata.proofs.fields.Counting.{clocks≡, edge≡, asks_edge}
+use Rattle.automata.proofs.fields.Counting.{clocks≡, edge≡}
 use Rattle.automata.proofs.fields.Places.{edge-within}
 use Rattle.search.proofs.successor.Stepping.{meets, asks_limits, guard_scale}
 use Rattle.run_writer.proofs.crossing.Along.{zone_sized}
-use borrow.Author.Rules.{rules}
 use Rattle.run_writer.proofs.crossing.guarded.Goals as goal
 use Rattle.run_writer.proofs.crossing.guarded.Goals.{After-edge_at-at}
-
-pub counts_of-counts-requires : goal.counts_of-counts-requires
-counts_of-counts-requires c = search rules
-
-pub edge_at-at-requires : goal.edge_at-at-requires
-edge_at-at-requires c = let pre = c.requires in asks_edge _ c.counts_of-counts.ensures pre.0 pre.1
 
 -- ---- with the place of the guard
 module _ (c : After-edge_at-at) where
@@ -34,7 +27,8 @@ module _ (c : After-edge_at-at) where
 
 pub overflow_add-at : goal.overflow_add-at
 overflow_add-at c =
-    omega (arith, place≡ (goal.at.overflow_add-at c).After-edge_at-at, inside (goal.at.overflow_add-at c).After-edge_at-at)
+    let at = (goal.at.overflow_add-at c).After-edge_at-at in
+    omega (arith, place≡ at, inside at)
 
 pub narrow-requires : goal.narrow-requires
 unfolding guard_of
@@ -42,13 +36,13 @@ narrow-requires c =
     let pre = c.requires in
     let a = pre.0 in
     let hi = pre.1 in
-    let q = asks_limits _ _ (ap (λ x. x + 3) (place≡ (goal.at.narrow-requires c).After-edge_at-at))
-    (size≡ (goal.at.narrow-requires c).After-edge_at-at) a.complete.clocks≤ (omega (arith, inside (goal.at.narrow-requires c).After-edge_at-at))
-    (guard_scale _ a _ hi)
+    let at = (goal.at.narrow-requires c).After-edge_at-at in
+    let q = asks_limits _ _ (ap (λ x. x + 3) (place≡ at)) (size≡ at) a.complete.clocks≤ (omega (arith, inside at)) (guard_scale _ a _ hi)
     (omega arith) (zone_sized _ a _ hi _ pre.2) in
     record { accepted = a; few_clocks = q.0; on_scale = q.1; settled = λ e. true_false (sym e) }
 
 pub returns : goal.returns
 unfolding guard_of
 returns c =
-    meets _ _ (ap (λ x. x + 3) (place≡ (goal.at.returns c).After-edge_at-at)) (size≡ (goal.at.returns c).After-edge_at-at) c.narrow.ensures
+    let at = (goal.at.returns c).After-edge_at-at in
+    meets _ _ (ap (λ x. x + 3) (place≡ at)) (size≡ at) c.narrow.ensures

@@ -1,18 +1,8 @@
 -- `landing_along` meets its contract: the zone crosses the edge, and the landing is read from what arrived.
 -- Assumes nothing.
-use native.Mathlib.Omega.{arith}
-use Rattle.automata.proofs.fields.Counting.{size≡, few_clocks}
+use Rattle.automata.proofs.fields.Counting.{size≡}
 use Rattle.run_writer.proofs.crossing.Along.{landing_asks, landing_is}
 use Rattle.run_writer.proofs.crossing.landing_along.Goals as goal
-
-pub cross-x-requires : goal.cross-x-requires
-cross-x-requires c = let pre = c.requires in (pre.0, pre.1)
-
-pub counts_of-size-requires : goal.counts_of-size-requires
-counts_of-size-requires c = c.requires.0
-
-pub overflow_add-size : goal.overflow_add-size
-overflow_add-size c = omega (arith, few_clocks _ c.counts_of-size.ensures c.requires.0)
 
 pub landing-requires : goal.landing-requires
 landing-requires c =
