@@ -9,8 +9,8 @@ use Rattle.cache.proofs.look_up_form.Goals as goal
 use Rattle.cache.proofs.look_up_form.Goals.{Then-sound}
 
 -- past its test, the cache is sound
-sound-cache : (c : Then-sound) → Sound version1 c.args.cache.now
-sound-cache c = sound_facts _ _ (sym c.sound.ensures ∙ c.if-sound.true)
+sound_cache : (c : Then-sound) → Sound version1 c.args.cache.now
+sound_cache c = sound_facts _ _ (sym c.sound.ensures ∙ c.if-sound.true)
 
 pub returns-then-sound : goal.returns-then-sound
 returns-then-sound c =
@@ -21,13 +21,13 @@ pub returns : goal.returns
 returns c = asks_unsound _ _ _ c.sound.ensures c.if-sound.false
 
 pub be32-used-requires : goal.be32-used-requires
-be32-used-requires c = omega (arith, sound-cache (goal.at.be32-used-requires c).Then-sound)
+be32-used-requires c = omega (arith, sound_cache (goal.at.be32-used-requires c).Then-sound)
 
 pub slice_bounds-look_in-count : goal.slice_bounds-look_in-count
-slice_bounds-look_in-count c = omega (arith, sound-cache (goal.at.slice_bounds-look_in-count c).Then-sound)
+slice_bounds-look_in-count c = omega (arith, sound_cache (goal.at.slice_bounds-look_in-count c).Then-sound)
 
 pub slice_bounds-look_in-start : goal.slice_bounds-look_in-start
-slice_bounds-look_in-start c = let f = sound-cache (goal.at.slice_bounds-look_in-start c).Then-sound in search rules
+slice_bounds-look_in-start c = let f = sound_cache (goal.at.slice_bounds-look_in-start c).Then-sound in search rules
 
 pub slice_bounds-look_in-end : goal.slice_bounds-look_in-end
-slice_bounds-look_in-end c = let f = sound-cache (goal.at.slice_bounds-look_in-end c).Then-sound in search rules
+slice_bounds-look_in-end c = let f = sound_cache (goal.at.slice_bounds-look_in-end c).Then-sound in search rules

@@ -9,20 +9,20 @@ use Rattle.cache.proofs.records.all_distinct.Goals as goal
 use Rattle.cache.proofs.records.all_distinct.Goals.{After-measure-length, After-measure-second_length, Else-second_length-eq0, Else-length-eq0}
 
 -- past `measure`, and past its test: of the first record, then of the second
-measured-at : (c : After-measure-length) →
+measured_at : (c : After-measure-length) →
     let a = c.args in
     MeasuredAt a.layout a.bytes.now c.loop-at.at c.measure-length.result
-measured-at c = record { place = c.loop-at.invariant.0; read = c.measure-length.ensures }
+measured_at c = record { place = c.loop-at.invariant.0; read = c.measure-length.ensures }
 
-whole-at : (c : Else-length-eq0) →
+whole_at : (c : Else-length-eq0) →
     let a = c.args in
     WholeAt a.layout a.bytes.now c.loop-at.at c.measure-length.result
-whole-at c = whole (record { place = c.loop-at.invariant.0; read = c.measure-length.ensures }) c.if-length-eq0.false
+whole_at c = whole (record { place = c.loop-at.invariant.0; read = c.measure-length.ensures }) c.if-length-eq0.false
 
-measured-second : (c : After-measure-second_length) →
+measured_second : (c : After-measure-second_length) →
     let a = c.args in
     MeasuredAt a.layout a.bytes.now (c.loop-at.at + c.measure-length.result) c.measure-second_length.result
-measured-second c =
+measured_second c =
     let a = c.args in
     let first : WholeAt a.layout a.bytes.now c.loop-at.at c.measure-length.result =
     whole (record { place = c.loop-at.invariant.0; read = c.measure-length.ensures }) c.if-length-eq0.false in
@@ -42,12 +42,12 @@ two_at c =
 
 pub returns-then-length-eq0 : goal.returns-then-length-eq0
 returns-then-length-eq0 c =
-    distinct_none _ (none_here (measured-at (goal.at.returns-then-length-eq0 c).After-measure-length) c.if-length-eq0.true) ∙ c.loop-at.invariant.1
+    distinct_none _ (none_here (measured_at (goal.at.returns-then-length-eq0 c).After-measure-length) c.if-length-eq0.true) ∙ c.loop-at.invariant.1
 
 pub returns-then-second_length-eq0 : goal.returns-then-second_length-eq0
 returns-then-second_length-eq0 c =
-    distinct_last (whole-at (goal.at.returns-then-second_length-eq0 c).Else-length-eq0)
-    (measured-second (goal.at.returns-then-second_length-eq0 c).After-measure-second_length) c.if-second_length-eq0.true ∙ c.loop-at.invariant.1
+    distinct_last (whole_at (goal.at.returns-then-second_length-eq0 c).Else-length-eq0)
+    (measured_second (goal.at.returns-then-second_length-eq0 c).After-measure-second_length) c.if-second_length-eq0.true ∙ c.loop-at.invariant.1
 
 pub loop-at-preserved : goal.loop-at-preserved
 loop-at-preserved c =
@@ -67,19 +67,19 @@ pub loop-at-init : goal.loop-at-init
 loop-at-init c = (omega arith, refl)
 
 pub overflow_add-own : goal.overflow_add-own
-overflow_add-own c = omega (arith, whole-at (goal.at.overflow_add-own c).Else-length-eq0)
+overflow_add-own c = omega (arith, whole_at (goal.at.overflow_add-own c).Else-length-eq0)
 
 pub overflow_add-second : goal.overflow_add-second
-overflow_add-second c = omega (arith, whole-at (goal.at.overflow_add-second c).Else-length-eq0)
+overflow_add-second c = omega (arith, whole_at (goal.at.overflow_add-second c).Else-length-eq0)
 
 pub slice_bounds-measure-count-in-loop-at : goal.slice_bounds-measure-count-in-loop-at
-slice_bounds-measure-count-in-loop-at c = (whole-at (goal.at.slice_bounds-measure-count-in-loop-at c).Else-length-eq0).within
+slice_bounds-measure-count-in-loop-at c = (whole_at (goal.at.slice_bounds-measure-count-in-loop-at c).Else-length-eq0).within
 
 pub slice_bounds-measure-start-in-loop-at : goal.slice_bounds-measure-start-in-loop-at
-slice_bounds-measure-start-in-loop-at c = let w = whole-at (goal.at.slice_bounds-measure-start-in-loop-at c).Else-length-eq0 in search rules
+slice_bounds-measure-start-in-loop-at c = let w = whole_at (goal.at.slice_bounds-measure-start-in-loop-at c).Else-length-eq0 in search rules
 
 pub slice_bounds-measure-end-in-loop-at : goal.slice_bounds-measure-end-in-loop-at
-slice_bounds-measure-end-in-loop-at c = let w = whole-at (goal.at.slice_bounds-measure-end-in-loop-at c).Else-length-eq0 in search rules
+slice_bounds-measure-end-in-loop-at c = let w = whole_at (goal.at.slice_bounds-measure-end-in-loop-at c).Else-length-eq0 in search rules
 
 pub overflow_add-second_own : goal.overflow_add-second_own
 overflow_add-second_own c = omega (arith, two_at (goal.at.overflow_add-second_own c).Else-second_length-eq0)

@@ -7,33 +7,31 @@ use Rattle.cache.proofs.records.look_in.Goals as goal
 use Rattle.cache.proofs.records.look_in.Goals.{After-measure-length, Else-length-eq0}
 
 -- past `measure`, and past its test
-measured-at : (c : After-measure-length) →
+measured_at : (c : After-measure-length) →
     let a = c.args in
     MeasuredAt a.layout a.bytes.now c.loop-at.at c.measure-length.result
-measured-at c = record { place = c.loop-at.invariant.0; read = c.measure-length.ensures }
+measured_at c = record { place = c.loop-at.invariant.0; read = c.measure-length.ensures }
 
-whole-at : (c : Else-length-eq0) →
+whole_at : (c : Else-length-eq0) →
     let a = c.args in
     WholeAt a.layout a.bytes.now c.loop-at.at c.measure-length.result
-whole-at c = whole ((let it : let a = c.args in
-    MeasuredAt a.layout a.bytes.now c.loop-at.at
-    c.measure-length.result = record { place = c.loop-at.invariant.0; read = c.measure-length.ensures } in it)) c.if-length-eq0.false
+whole_at c = whole (record { place = c.loop-at.invariant.0; read = c.measure-length.ensures }) c.if-length-eq0.false
 
 pub returns-then-length-eq0 : goal.returns-then-length-eq0
 returns-then-length-eq0 c =
-    look_none _ _ (none_here (measured-at (goal.at.returns-then-length-eq0 c).After-measure-length) c.if-length-eq0.true) ∙ c.loop-at.invariant.1
+    look_none _ _ (none_here (measured_at (goal.at.returns-then-length-eq0 c).After-measure-length) c.if-length-eq0.true) ∙ c.loop-at.invariant.1
 
 pub filed-requires : goal.filed-requires
-filed-requires c = record { laid = c.requires; head_in_bounds = long (whole-at (goal.at.filed-requires c).Else-length-eq0) }
+filed-requires c = record { laid = c.requires; head_in_bounds = long (whole_at (goal.at.filed-requires c).Else-length-eq0) }
 
 pub returns-then-same : goal.returns-then-same
 returns-then-same c =
-    c.filed.ensures ∙ look_found (whole-at (goal.at.returns-then-same c).Else-length-eq0) _ c.same.ensures c.if-same.true
+    c.filed.ensures ∙ look_found (whole_at (goal.at.returns-then-same c).Else-length-eq0) _ c.same.ensures c.if-same.true
     ∙ c.loop-at.invariant.1
 
 pub loop-at-preserved : goal.loop-at-preserved
 loop-at-preserved c =
-    let w = whole-at (goal.at.loop-at-preserved c).Else-length-eq0 in
+    let w = whole_at (goal.at.loop-at-preserved c).Else-length-eq0 in
     (w.within, look_next w _ c.same.ensures c.if-same.false ∙ c.loop-at.invariant.1)
 
 pub returns : goal.returns
@@ -45,25 +43,25 @@ pub loop-at-init : goal.loop-at-init
 loop-at-init c = (omega arith, refl)
 
 pub overflow_add-own : goal.overflow_add-own
-overflow_add-own c = omega (arith, whole-at (goal.at.overflow_add-own c).Else-length-eq0)
+overflow_add-own c = omega (arith, whole_at (goal.at.overflow_add-own c).Else-length-eq0)
 
 pub overflow_add-next : goal.overflow_add-next
-overflow_add-next c = omega (arith, whole-at (goal.at.overflow_add-next c).Else-length-eq0)
+overflow_add-next c = omega (arith, whole_at (goal.at.overflow_add-next c).Else-length-eq0)
 
 pub slice_bounds-same-count : goal.slice_bounds-same-count
-slice_bounds-same-count c = omega (arith, whole-at (goal.at.slice_bounds-same-count c).Else-length-eq0)
+slice_bounds-same-count c = omega (arith, whole_at (goal.at.slice_bounds-same-count c).Else-length-eq0)
 
 pub slice_bounds-same-start : goal.slice_bounds-same-start
-slice_bounds-same-start c = let w = whole-at (goal.at.slice_bounds-same-start c).Else-length-eq0 in search rules
+slice_bounds-same-start c = let w = whole_at (goal.at.slice_bounds-same-start c).Else-length-eq0 in search rules
 
 pub slice_bounds-same-end : goal.slice_bounds-same-end
-slice_bounds-same-end c = let w = whole-at (goal.at.slice_bounds-same-end c).Else-length-eq0 in search rules
+slice_bounds-same-end c = let w = whole_at (goal.at.slice_bounds-same-end c).Else-length-eq0 in search rules
 
 pub slice_bounds-filed-start : goal.slice_bounds-filed-start
-slice_bounds-filed-start c = let w = whole-at (goal.at.slice_bounds-filed-start c).Else-length-eq0 in search rules
+slice_bounds-filed-start c = let w = whole_at (goal.at.slice_bounds-filed-start c).Else-length-eq0 in search rules
 
 pub slice_bounds-filed-end : goal.slice_bounds-filed-end
-slice_bounds-filed-end c = let w = whole-at (goal.at.slice_bounds-filed-end c).Else-length-eq0 in search rules
+slice_bounds-filed-end c = let w = whole_at (goal.at.slice_bounds-filed-end c).Else-length-eq0 in search rules
 
 pub loop-at-smaller : goal.loop-at-smaller
-loop-at-smaller c = omega (arith, whole-at (goal.at.loop-at-smaller c).Else-length-eq0)
+loop-at-smaller c = omega (arith, whole_at (goal.at.loop-at-smaller c).Else-length-eq0)

@@ -15,8 +15,8 @@ use Rattle.run_writer.proofs.branch.Walking.{along, goes_on, asks_edge}
 use Rattle.run_writer.proofs.branch.write_back.Goals as goal
 use Rattle.run_writer.proofs.branch.write_back.Goals.{After-back_along-back, In-loop-left}
 
-two-set : (l : List ℤ) (i j : ℕ) (x y : ℤ) → length (set (set l i x) j y) ≡ length l
-two-set l i j x y = length-set (set l i x) j y ∙ length-set l i x
+two_set : (l : List ℤ) (i j : ℕ) (x y : ℤ) → length (set (set l i x) j y) ≡ length l
+two_set l i j x y = length-set (set l i x) j y ∙ length-set l i x
 
 pub loop-left-init : goal.loop-left-init
 loop-left-init c =
@@ -72,7 +72,7 @@ loop-left-preserved c =
     let on = goes (goal.at.loop-left-preserved c).In-loop-left in
     let p = c.origin_before-from.ensures in (
       omega (arith, inv.0),
-      ap length c.put_two.ensures ∙ two-set c.loop-left.run _ _ _ _ ∙ inv.1,
+      ap length c.put_two.ensures ∙ two_set c.loop-left.run _ _ _ _ ∙ inv.1,
       next ended inv.2 on p,
       omega (arith, inv.3, c.loop-left-test.true, fewer ended inv.2 on p),
       (small (goal.at.loop-left-preserved c).After-back_along-back).2,

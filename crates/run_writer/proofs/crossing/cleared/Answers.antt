@@ -15,19 +15,19 @@ use Rattle.run_writer.proofs.crossing.cleared.Goals as goal
 use Rattle.run_writer.proofs.crossing.cleared.Goals.{After-home, After-home-in-loop-k}
 
 -- one place more
-place-more : (R : ℕ → Bool) (old : List Pair) (k : ℕ) {zone : List Pair} {a b : ℕ} → zone ≡ reset_places R old k old → a ≡ home R (k / 9)
+place_more : (R : ℕ → Bool) (old : List Pair) (k : ℕ) {zone : List Pair} {a b : ℕ} → zone ≡ reset_places R old k old → a ≡ home R (k / 9)
     → b ≡ home R (k % 9) → set zone k (get_or old (a * 9 + b) zero_pair) ≡ reset_places R old (k + 1) old
 unfolding reset_places pair_at
-place-more R old k e f g = rw (add-one k, e, f, g)
+place_more R old k e f g = rw (add-one k, e, f, g)
 
-all-places : (R : ℕ → Bool) (w : Work) (size : ℕ) {k : ℕ} {zone : List Pair} → k ≡ size * 9 → zone ≡ reset_places R w.zone k w.zone
+all_places : (R : ℕ → Bool) (w : Work) (size : ℕ) {k : ℕ} {zone : List Pair} → k ≡ size * 9 → zone ≡ reset_places R w.zone k w.zone
     → record { zone = zone; fraction = w.fraction } ≡ reset_of size R w
 unfolding reset_of
-all-places R w size e f = let g = f ∙ ap (λ (k : ℕ). reset_places R w.zone k w.zone) e in λ i. record { zone = g i; fraction = w.fraction }
+all_places R w size e f = let g = f ∙ ap (λ (k : ℕ). reset_places R w.zone k w.zone) e in λ i. record { zone = g i; fraction = w.fraction }
 
 -- ---- in a turn, with one home, and with both
-row-there : (c : After-home) → c.home.result < 9
-row-there c = rw c.home.ensures (home_below _ 9 _ (omega arith))
+row_there : (c : After-home) → c.home.result < 9
+row_there c = rw c.home.ensures (home_below _ 9 _ (omega arith))
 
 there : (c : After-home-in-loop-k) → (c.home.result < 9) × (c.home-in-loop-k.result < 9)
 there c = (
@@ -43,16 +43,16 @@ pub loop-k-preserved : goal.loop-k-preserved
 loop-k-preserved c = (
   refl,
   omega (arith, c.loop-k-test.true, c.loop-k.invariant.0),
-  place-more _ _ _ c.loop-k.invariant.2 c.home.ensures c.home-in-loop-k.ensures,
+  place_more _ _ _ c.loop-k.invariant.2 c.home.ensures c.home-in-loop-k.ensures,
 )
 
 pub returns : goal.returns
 returns c =
-    all-places (set_of c.args.marked) c.args.w c.args.size
+    all_places (set_of c.args.marked) c.args.w c.args.size
     (omega (arith, c.loop-k-test.false, c.loop-k.invariant.1)) c.loop-k.invariant.2
 
 pub overflow_mul-zone : goal.overflow_mul-zone
-overflow_mul-zone c = omega (arith, row-there (goal.at.overflow_mul-zone c).After-home)
+overflow_mul-zone c = omega (arith, row_there (goal.at.overflow_mul-zone c).After-home)
 
 pub overflow_add-zone : goal.overflow_add-zone
 overflow_add-zone c = omega (arith, there (goal.at.overflow_add-zone c).After-home-in-loop-k)
