@@ -1,6 +1,6 @@
 -- `follow` meets its contract: the guard is met on a taken zone, which is then empty or arrives.
 -- Assumes nothing.
-use Prim.Native.Nat.{◌+◌, ◌*◌, ◌≤◌}
+use Prim.Native.Nat.{ℕ, ◌+◌, ◌*◌, ◌≤◌}
 use mathlib.Core.Path.{◌≡◌, sym, ap}
 use lib.ListN.{length}
 use native.Mathlib.Omega.{arith}
@@ -49,9 +49,9 @@ narrow-met-requires c =
 module _ (c : After-narrow-met) where
   met : c.narrow-met.result ≡ meet_of (clocks c.args.automaton.now) (guard_of c.args.automaton.now c.args.i) c.args.w
   unfolding guard_of
-  met = meets _ _ (ap (λ x. x + 3)
-      ((let it : c.edge_at-at.result ≡ edge_at c.args.automaton.now c.args.i = edge≡ _ c.counts_of-counts.ensures _ c.edge_at-at.ensures in it)))
-      ((let it : c.counts_of-counts.result.clocks ≡ clocks c.args.automaton.now = clocks≡ _ c.counts_of-counts.ensures in it)) c.narrow-met.ensures
+  met =
+      meets _ _ (ap (λ (x : ℕ). x + 3) (edge≡ _ c.counts_of-counts.ensures _ c.edge_at-at.ensures)) (clocks≡ _ c.counts_of-counts.ensures)
+      c.narrow-met.ensures
 
 pub emptied-requires : goal.emptied-requires
 emptied-requires c = (

@@ -43,7 +43,8 @@ find-j-requires c = asks_find (entered (goal.at.find-j-requires c).After-counts_
 module _ (c : Then-j-count) where
   slot_inside : c.find-j.result * c.slot_length-stride.result + slot_length (c.counts_of-size.result.clocks + 1)
       ≤ length c.args.store.now
-  slot_inside = slot_within ((let it : Entered c.args.automaton.now c.args.l c.args.origin c.args.w c.args.capacity c.args.turn c.args.store.now
+  slot_inside =
+      let here : Entered c.args.automaton.now c.args.l c.args.origin c.args.w c.args.capacity c.args.turn c.args.store.now
       (c.counts_of-size.result.clocks + 1) = record {
         accepted = c.requires.accepted.0;
         location = c.requires.accepted.1;
@@ -52,7 +53,8 @@ module _ (c : Then-j-count) where
         progress = c.requires.going.0;
         few = c.requires.going.1;
         size≡ = size≡ _ c.counts_of-size.ensures;
-      } in it)) c.slot_length-stride.ensures c.if-j-count.true
+      } in
+      slot_within here c.slot_length-stride.ensures c.if-j-count.true
 
   place≡ : c.find-j.result * c.slot_length-stride.result
       ≡ c.find-j.result * slot_length (c.counts_of-size.result.clocks + 1)
@@ -84,9 +86,10 @@ returns-then-largest_count-gt-COUNTS c =
     c.largest_count.ensures c.if-largest_count-gt-COUNTS.true)
 
 module _ (c : Then-count-capacity) where
-  next-inside : c.args.turn.count * c.slot_length-stride.result + slot_length (c.counts_of-size.result.clocks + 1)
+  next_inside : c.args.turn.count * c.slot_length-stride.result + slot_length (c.counts_of-size.result.clocks + 1)
       ≤ length c.args.store.now
-  next-inside = next_within ((let it : Entered c.args.automaton.now c.args.l c.args.origin c.args.w c.args.capacity c.args.turn c.args.store.now
+  next_inside =
+      let here : Entered c.args.automaton.now c.args.l c.args.origin c.args.w c.args.capacity c.args.turn c.args.store.now
       (c.counts_of-size.result.clocks + 1) = record {
         accepted = c.requires.accepted.0;
         location = c.requires.accepted.1;
@@ -95,12 +98,13 @@ module _ (c : Then-count-capacity) where
         progress = c.requires.going.0;
         few = c.requires.going.1;
         size≡ = size≡ _ c.counts_of-size.ensures;
-      } in it)) c.slot_length-stride.ensures c.if-count-capacity.true
+      } in
+      next_within here c.slot_length-stride.ensures c.if-count-capacity.true
 
 pub keep-requires : goal.keep-requires
 keep-requires c =
     let e = c.slot_length-stride.ensures in (
-      omega (arith, e, next-inside (goal.at.keep-requires c).Then-count-capacity),
+      omega (arith, e, next_inside (goal.at.keep-requires c).Then-count-capacity),
       omega (arith, e, (asks_largest (entered (goal.at.keep-requires c).After-counts_of-size) c.encode-numbers.ensures).long),
     )
 

@@ -18,8 +18,8 @@ use borrow.Author.Rules.{rules}
 use Rattle.search.proofs.exploration.take.Goals as goal
 use Rattle.search.proofs.exploration.take.Goals.{After-counts_of-size, After-expand-t, At-loop-next, In-loop-next}
 
-few-of : (c : After-counts_of-size) → c.counts_of-size.result.clocks ≤ 8
-few-of c = few_clocks _ c.counts_of-size.ensures c.requires.0
+few_of : (c : After-counts_of-size) → c.counts_of-size.result.clocks ≤ 8
+few_of c = few_clocks _ c.counts_of-size.ensures c.requires.0
 
 pub loop-next-init : goal.loop-next-init
 loop-next-init c =
@@ -28,9 +28,6 @@ loop-next-init c =
 
 -- ---- at the head of the loop
 module _ (c : At-loop-next) where
-  abbrev automaton : List ℕ
-  automaton = c.args.automaton.now
-
   on : Onward c.args.automaton.now c.args.capacity c.requires.1.base c.requires.1.state c.loop-next.next c.loop-next.store c.loop-next.t
   on = c.loop-next.invariant.2 c.requires.1.base c.requires.1.state c.requires.1.live
 
@@ -50,13 +47,10 @@ module _ (c : In-loop-next) where
 
   inside : place + slot_length (suc (clocks c.args.automaton.now)) ≤ length c.loop-next.store
   inside = slot_inside c.requires.0
-      ((let it : Onward c.args.automaton.now c.args.capacity c.requires.1.base c.requires.1.state c.loop-next.next c.loop-next.store
-      c.loop-next.t = c.loop-next.invariant.2 c.requires.1.base c.requires.1.state c.requires.1.live in it)) c.loop-next-test.true place≡
-      c.requires.1.long
+      (c.loop-next.invariant.2 c.requires.1.base c.requires.1.state c.requires.1.live) c.loop-next-test.true place≡ c.requires.1.long
 
   below : c.loop-next.next < c.args.capacity
-  below = few c.requires.0 ((let it : Onward c.args.automaton.now c.args.capacity c.requires.1.base c.requires.1.state c.loop-next.next
-      c.loop-next.store c.loop-next.t = c.loop-next.invariant.2 c.requires.1.base c.requires.1.state c.requires.1.live in it)) c.loop-next-test.true
+  below = few c.requires.0 (c.loop-next.invariant.2 c.requires.1.base c.requires.1.state c.requires.1.live) c.loop-next-test.true
 
 pub slice_copy_out-l : goal.slice_copy_out-l
 slice_copy_out-l c = omega (arith, inside (goal.at.slice_copy_out-l c).In-loop-next)
@@ -134,10 +128,10 @@ pub counts_of-size-requires : goal.counts_of-size-requires
 counts_of-size-requires c = c.requires.0
 
 pub overflow_add-size : goal.overflow_add-size
-overflow_add-size c = omega (arith, few-of (goal.at.overflow_add-size c).After-counts_of-size)
+overflow_add-size c = omega (arith, few_of (goal.at.overflow_add-size c).After-counts_of-size)
 
 pub slot_length-stride-requires : goal.slot_length-stride-requires
-slot_length-stride-requires c = omega (arith, few-of (goal.at.slot_length-stride-requires c).After-counts_of-size)
+slot_length-stride-requires c = omega (arith, few_of (goal.at.slot_length-stride-requires c).After-counts_of-size)
 
 pub overflow_cast-l : goal.overflow_cast-l
 overflow_cast-l c =
