@@ -2,6 +2,7 @@
 -- in which each has one order of edges.
 pub mod Automata
 pub mod Refusals
+pub mod Numbers
 pub mod Accepted
 pub mod Semantics
 pub mod Opened

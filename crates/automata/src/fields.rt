@@ -3,19 +3,12 @@ ghost use Rattle.std.specs.Prelude.{◌≡◌, ◌+◌, ◌*◌, ◌≤◌, ◌<
 ghost use Rattle.automata.specs.Accepted.{Complete};
 ghost use Rattle.automata.specs.Automata.{clocks, locations, edges, start, target, invariant_in, edge_in, invariant_at, edge_at, from, to};
 ghost use Rattle.automata.specs.Automata.{reset_byte, reset_set, lo_at, hi_at};
-ghost use Rattle.automata.specs.Opened.{counts_of, edge_of, limits_of};
+ghost use Rattle.automata.specs.Opened.{edge_of, limits_of, upper_of};
 
-use encoding::{be16, be32, wide};
+use encoding::{be16, be32};
 
 // The hi of a guard without an upper limit.
 pub const NO_UPPER: u32 = 4294967295;
-
-#[derive(Clone, Copy)]
-pub struct Counts {
-    pub clocks: usize,
-    pub locations: usize,
-    pub edges: usize,
-}
 
 // The ends of an edge and, for each clock by its number, whether it is reset.
 #[derive(Clone, Copy)]
@@ -25,7 +18,7 @@ pub struct Edge {
     pub resets: [bool; 9],
 }
 
-// The limits of one clock.
+// The limits of one clock, as they stand.
 #[derive(Clone, Copy)]
 pub struct Limits {
     pub lo: u32,
@@ -37,28 +30,28 @@ pub(crate) fn clocks(automaton: &[u8]) -> usize
     requires { 11 ≤ length automaton.now }
     ensures { result ≡ clocks automaton.now }
 {
-    wide(automaton[5]) as usize
+    automaton[5] as usize
 }
 
 pub(crate) fn locations(automaton: &[u8]) -> usize
     requires { 11 ≤ length automaton.now }
     ensures { result ≡ locations automaton.now }
 {
-    wide(automaton[6]) as usize
+    automaton[6] as usize
 }
 
-pub fn start(automaton: &[u8]) -> usize
+pub(crate) fn start(automaton: &[u8]) -> usize
     requires { 11 ≤ length automaton.now }
     ensures { result ≡ start automaton.now }
 {
-    wide(automaton[7]) as usize
+    automaton[7] as usize
 }
 
-pub fn target(automaton: &[u8]) -> usize
+pub(crate) fn target(automaton: &[u8]) -> usize
     requires { 11 ≤ length automaton.now }
     ensures { result ≡ target automaton.now }
 {
-    wide(automaton[8]) as usize
+    automaton[8] as usize
 }
 
 pub(crate) fn edges(automaton: &[u8]) -> usize
@@ -69,51 +62,35 @@ pub(crate) fn edges(automaton: &[u8]) -> usize
 }
 
 // ---- where the parts stand
-impl Counts {
-    // The counts of an automaton, which need not be in range.
-    pub(crate) fn read(automaton: &[u8]) -> Counts
-        requires { 11 ≤ length automaton.now }
-        ensures { result ≡ counts_of automaton.now }
-    {
-        Counts {
-            clocks: clocks(automaton),
-            locations: locations(automaton),
-            edges: edges(automaton),
-        }
-    }
-
-    // The place of the limits of location l.
-    pub fn invariant_at(self, l: usize) -> usize
-        requires { (self.clocks < 256) × (l < 256) }
-        ensures { result ≡ invariant_in self.clocks l }
-    {
-        11 + 8 * self.clocks * l
-    }
-
-    // The place of edge i; of the first that is not there, the length by the formula.
-    pub fn edge_at(self, i: usize) -> usize
-        requires { (self.clocks < 256) × (self.locations < 256) × (i < 65536) }
-        ensures { result ≡ edge_in self.clocks self.locations i }
-    {
-        let n = self.clocks;
-        11 + 8 * n * self.locations + i * (3 + 8 * n)
-    }
+// The place of the limits of location l, with n clocks.
+pub(crate) fn invariant_in(n: usize, l: usize) -> usize
+    requires { (n < 256) × (l < 256) }
+    ensures { result ≡ invariant_in n l }
+{
+    11 + 8 * n * l
 }
 
-// The place of the limits of location l.
+// The place of edge i, with n clocks and m locations.
+pub(crate) fn edge_in(n: usize, m: usize, i: usize) -> usize
+    requires { (n < 256) × (m < 256) × (i < 65536) }
+    ensures { result ≡ edge_in n m i }
+{
+    11 + 8 * n * m + i * (3 + 8 * n)
+}
+
+// The same of an automaton, whose counts need not be in range.
 pub(crate) fn invariant_at(automaton: &[u8], l: usize) -> usize
     requires { (11 ≤ length automaton.now) × (l < 256) }
     ensures { result ≡ invariant_at automaton.now l }
 {
-    Counts::read(automaton).invariant_at(l)
+    invariant_in(clocks(automaton), l)
 }
 
-// The place of edge i.
 pub(crate) fn edge_at(automaton: &[u8], i: usize) -> usize
     requires { (11 ≤ length automaton.now) × (i < 65536) }
     ensures { result ≡ edge_at automaton.now i }
 {
-    Counts::read(automaton).edge_at(i)
+    edge_in(clocks(automaton), locations(automaton), i)
 }
 
 pub(crate) fn edge_from(automaton: &[u8], i: usize) -> usize
@@ -121,8 +98,7 @@ pub(crate) fn edge_from(automaton: &[u8], i: usize) -> usize
     requires i_bound { i < edges automaton.now }
     ensures { result ≡ from automaton.now i }
 {
-    let at = edge_at(automaton, i);
-    wide(automaton[at]) as usize
+    automaton[edge_at(automaton, i)] as usize
 }
 
 pub(crate) fn edge_to(automaton: &[u8], i: usize) -> usize
@@ -130,8 +106,7 @@ pub(crate) fn edge_to(automaton: &[u8], i: usize) -> usize
     requires i_bound { i < edges automaton.now }
     ensures { result ≡ to automaton.now i }
 {
-    let at = edge_at(automaton, i);
-    wide(automaton[at + 1]) as usize
+    automaton[edge_at(automaton, i) + 1] as usize
 }
 
 pub(crate) fn reset_byte(automaton: &[u8], i: usize) -> u8
@@ -139,8 +114,7 @@ pub(crate) fn reset_byte(automaton: &[u8], i: usize) -> u8
     requires i_bound { i < edges automaton.now }
     ensures { result ≡ reset_byte automaton.now i }
 {
-    let at = edge_at(automaton, i);
-    automaton[at + 2]
+    automaton[edge_at(automaton, i) + 2]
 }
 
 // For each clock by its number, whether the byte resets it. Clock 0 is none.
@@ -209,6 +183,17 @@ impl Limits {
         Limits {
             lo: lo_at(automaton, at, x),
             hi: hi_at(automaton, at, x),
+        }
+    }
+
+    // The hi, where there is one.
+    pub fn upper(self) -> Option<u32>
+        ensures { result ≡ upper_of self.hi }
+    {
+        if self.hi == NO_UPPER {
+            None
+        } else {
+            Some(self.hi)
         }
     }
 }

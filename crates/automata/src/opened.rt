@@ -1,79 +1,83 @@
 // Document 01's opened card: an automaton with its counts and the lent bytes that it was read from. Limits and edges are
 // fetched from the bytes, and not copied out.
-ghost use Rattle.std.specs.Prelude.{◌≡◌, ◌+◌, ◌*◌, ◌≤◌, ◌<◌, length};
+ghost use Rattle.std.specs.Prelude.{◌≡◌, ◌+◌, ◌*◌, ◌≤◌, ◌<◌, length, IfOk};
 ghost use Rattle.automata.specs.Accepted.{Accepted};
-ghost use Rattle.automata.specs.Automata.{edges};
-ghost use Rattle.automata.specs.Opened.{Opened, opened_of, counts_of, edge_of, limits_of};
+ghost use Rattle.automata.specs.Automata.{start, target, invariant_at, edge_at};
+ghost use Rattle.automata.specs.Numbers.{number_in};
+ghost use Rattle.automata.specs.Opened.{Counted, edge_of, limits_of};
+ghost use Rattle.automata.specs.Refusals.{refusal_of};
 
-use crate::fields::{Counts, Edge, Limits, clocks, edges, locations};
+use crate::fields;
+use crate::fields::{Edge, Limits};
+use crate::refusals::{Refusal, read};
 
+// An automaton that is not turned down, with the counts that it has.
 #[derive(Clone, Copy)]
-pub(crate) struct Automaton<'a> {
+pub struct Automaton<'a> {
     pub bytes: &'a [u8],
-    pub n: usize,
-    pub m: usize,
+    pub clocks: usize,
+    pub locations: usize,
     pub edges: usize,
+    pub ghost accepted: { Accepted bytes.now },
+    pub ghost counted: { Counted bytes.now clocks locations edges },
 }
 
-// The automaton of bytes that are not turned down.
-pub(crate) fn open<'a>(bytes: &'a [u8]) -> Automaton<'a>
-    requires { Accepted bytes.now }
-    ensures { result ≡ opened_of bytes.entry }
-{
-    Automaton {
-        bytes,
-        n: clocks(bytes),
-        m: locations(bytes),
-        edges: edges(bytes),
+impl<'a> Automaton<'a> {
+    // The automaton of the bytes, or why they are turned down.
+    pub fn open(bytes: &'a [u8]) -> Result<Automaton<'a>, Refusal>
+        ensures refusal { number_in result ≡ refusal_of bytes.now }
+        ensures opened { IfOk result (λ a. a.bytes ≡ bytes.entry) }
+    {
+        read(bytes)?;
+        Ok(Automaton {
+            bytes,
+            clocks: fields::clocks(bytes),
+            locations: fields::locations(bytes),
+            edges: fields::edges(bytes),
+        })
     }
-}
 
-// The counts of an opened automaton.
-pub(crate) fn counts<'a>(a: Automaton<'a>) -> Counts
-    requires { Opened a }
-    ensures { result ≡ counts_of a.entry.bytes.now }
-{
-    Counts {
-        clocks: a.n,
-        locations: a.m,
-        edges: a.edges,
+    pub fn start(&self) -> usize
+        ensures { result ≡ start self.now.bytes.now }
+    {
+        fields::start(self.bytes)
     }
-}
 
-// Its edge i.
-pub(crate) fn edge<'a>(a: Automaton<'a>, i: usize) -> Edge
-    requires { Opened a × (i < a.edges) }
-    ensures { result ≡ edge_of a.entry.bytes.now i }
-{
-    Edge::read(a.bytes, i)
-}
+    pub fn target(&self) -> usize
+        ensures { result ≡ target self.now.bytes.now }
+    {
+        fields::target(self.bytes)
+    }
 
-// The limits of its clock x, counted from 1, among those at `at`.
-pub(crate) fn limits<'a>(a: Automaton<'a>, at: usize, x: usize) -> Limits
-    requires { (0 < x) × (at + 8 * x ≤ length a.bytes.now) }
-    ensures { result ≡ limits_of a.entry.bytes.now at x }
-{
-    Limits::read(a.bytes, at, x)
-}
+    // The place of the limits of location l.
+    pub fn invariant_at(&self, l: usize) -> usize
+        requires { l < 256 }
+        ensures { result ≡ invariant_at self.now.bytes.now l }
+    {
+        fields::invariant_in(self.clocks, l)
+    }
 
-// ---- the same of plain bytes
-pub fn counts_of(bytes: &[u8]) -> Counts
-    requires { Accepted bytes.now }
-    ensures { result ≡ counts_of bytes.now }
-{
-    counts(open(bytes))
-}
+    // The place of edge i; of the first that is not there, the length.
+    pub fn edge_at(&self, i: usize) -> usize
+        requires { i < 65536 }
+        ensures { result ≡ edge_at self.now.bytes.now i }
+    {
+        fields::edge_in(self.clocks, self.locations, i)
+    }
 
-pub fn edge_of(bytes: &[u8], i: usize) -> Edge
-    requires { Accepted bytes.now × (i < edges bytes.now) }
-    ensures { result ≡ edge_of bytes.now i }
-{
-    edge(open(bytes), i)
-}
+    // Its edge i.
+    pub fn edge(&self, i: usize) -> Edge
+        requires { i < self.now.edges }
+        ensures { result ≡ edge_of self.now.bytes.now i }
+    {
+        Edge::read(self.bytes, i)
+    }
 
-pub fn limits_of(bytes: &[u8], at: usize, x: usize) -> Limits
-    requires { Accepted bytes.now × (0 < x) × (at + 8 * x ≤ length bytes.now) }
-    ensures { result ≡ limits_of bytes.now at x }
-{
-    limits(open(bytes), at, x)
+    // The limits of its clock x, counted from 1, among those at `at`.
+    pub fn limits(&self, at: usize, x: usize) -> Limits
+        requires { (0 < x) × (at + 8 * x ≤ length self.now.bytes.now) }
+        ensures { result ≡ limits_of self.now.bytes.now at x }
+    {
+        Limits::read(self.bytes, at, x)
+    }
 }

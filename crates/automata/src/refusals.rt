@@ -1,7 +1,8 @@
-// Which number of document 01's "Turned down" applies to an automaton at reading.
+// Which refusal of document 01's "Turned down" applies to an automaton at reading.
 ghost use Rattle.std.specs.Prelude.{◌≡◌, ◌+◌, ◌*◌, ◌^◌, ◌≤◌, length};
 ghost use Rattle.automata.specs.Accepted.{Complete};
 ghost use Rattle.automata.specs.Automata.{clocks};
+ghost use Rattle.automata.specs.Numbers.{number, number_in};
 ghost use Rattle.automata.specs.Refusals.{counts_out_of_range, misplaced, no_such_location, no_such_clock, out_of_range, out_of_range_at};
 ghost use Rattle.automata.specs.Refusals.{invariant_out_of_range, guard_out_of_range, refusal_of};
 
@@ -9,12 +10,53 @@ use crate::fields::{
     NO_UPPER, clocks, edge_at, edge_from, edge_to, edges, hi_at, invariant_at, lo_at, locations,
     reset_byte, start, target,
 };
-use encoding::{be32, wide};
+use encoding::be32;
 
 const VERSION: u8 = 1;
 
 // The largest lo and hi.
 const SCALE: u32 = 1000000;
+
+// The table's refusals, each with its number and the trade's word for it.
+#[derive(Clone, Copy, Debug, PartialEq, Eq)]
+pub enum Refusal {
+    // stub
+    TooShort = 1,
+    // miscounted
+    OtherLength = 2,
+    // foreign
+    OtherVersion = 3,
+    // oversize
+    CountsOutOfRange = 4,
+    // ragged
+    UnevenLength = 5,
+    // no such place
+    NoSuchLocation = 6,
+    // no such clock
+    NoSuchClock = 7,
+    // off scale
+    LimitOutOfRange = 8,
+    // piled up
+    ErrorCountTooLarge = 9,
+    // store full
+    StoreFull = 10,
+    // bad shelf
+    UnsoundCache = 11,
+    // shelf full
+    CacheFull = 12,
+    // a buffer too short for the ordered card
+    FormTooLong = 13,
+    // a run buffer too short
+    RunTooLong = 14,
+}
+
+impl Refusal {
+    pub fn number(self) -> u32
+        ensures { result ≡ number self }
+    {
+        self as u32
+    }
+}
 
 fn counts_out_of_range(automaton: &[u8]) -> bool
     requires { 11 ≤ length automaton.now }
@@ -22,29 +64,14 @@ fn counts_out_of_range(automaton: &[u8]) -> bool
 {
     let n = clocks(automaton);
     let m = locations(automaton);
-    if n == 0 {
-        return true;
-    }
-    if 8 < n {
-        return true;
-    }
-    if m == 0 {
-        return true;
-    }
-    if 64 < m {
-        return true;
-    }
-    256 < edges(automaton)
+    n == 0 || 8 < n || m == 0 || 64 < m || 256 < edges(automaton)
 }
 
 // Whether one of two places is none of the m locations.
 fn misplaced(m: usize, a: usize, b: usize) -> bool
     ensures { result ≡ misplaced m a b }
 {
-    if m <= a {
-        return true;
-    }
-    m <= b
+    m <= a || m <= b
 }
 
 fn no_such_location(automaton: &[u8]) -> bool
@@ -55,9 +82,7 @@ fn no_such_location(automaton: &[u8]) -> bool
     if misplaced(m, start(automaton), target(automaton)) {
         return true;
     }
-    let mut i = edges(automaton);
-    while 0 < i {
-        i -= 1;
+    for i in 0..edges(automaton) {
         if misplaced(m, edge_from(automaton, i), edge_to(automaton, i)) {
             return true;
         }
@@ -78,10 +103,8 @@ fn no_such_clock(automaton: &[u8]) -> bool
     ensures { result ≡ no_such_clock automaton.now }
 {
     let bound = reset_bound(clocks(automaton));
-    let mut i = edges(automaton);
-    while 0 < i {
-        i -= 1;
-        if bound <= wide(reset_byte(automaton, i)) {
+    for i in 0..edges(automaton) {
+        if bound <= u32::from(reset_byte(automaton, i)) {
             return true;
         }
     }
@@ -92,16 +115,7 @@ fn no_such_clock(automaton: &[u8]) -> bool
 fn out_of_range(may_lack: bool, lo: u32, hi: u32) -> bool
     ensures { result ≡ out_of_range may_lack lo hi }
 {
-    if SCALE < lo {
-        return true;
-    }
-    if hi <= SCALE {
-        return false;
-    }
-    if may_lack {
-        return hi != NO_UPPER;
-    }
-    true
+    SCALE < lo || SCALE < hi && !(may_lack && hi == NO_UPPER)
 }
 
 // Whether one of the limits at `at` is out of range.
@@ -110,12 +124,14 @@ fn out_of_range_at(automaton: &[u8], may_lack: bool, at: usize) -> bool
     requires automaton_in_bounds { at + 8 * clocks automaton.now ≤ length automaton.now }
     ensures { result ≡ out_of_range_at automaton.now may_lack at }
 {
-    let mut x = clocks(automaton);
-    while 0 < x {
-        if out_of_range(may_lack, lo_at(automaton, at, x), hi_at(automaton, at, x)) {
+    for x in 0..clocks(automaton) {
+        if out_of_range(
+            may_lack,
+            lo_at(automaton, at, x + 1),
+            hi_at(automaton, at, x + 1),
+        ) {
             return true;
         }
-        x -= 1;
     }
     false
 }
@@ -124,9 +140,7 @@ fn invariant_out_of_range(automaton: &[u8]) -> bool
     requires { Complete automaton.now }
     ensures { result ≡ invariant_out_of_range automaton.now }
 {
-    let mut l = locations(automaton);
-    while 0 < l {
-        l -= 1;
+    for l in 0..locations(automaton) {
         if out_of_range_at(automaton, false, invariant_at(automaton, l)) {
             return true;
         }
@@ -138,9 +152,7 @@ fn guard_out_of_range(automaton: &[u8]) -> bool
     requires { Complete automaton.now }
     ensures { result ≡ guard_out_of_range automaton.now }
 {
-    let mut i = edges(automaton);
-    while 0 < i {
-        i -= 1;
+    for i in 0..edges(automaton) {
         if out_of_range_at(automaton, true, edge_at(automaton, i) + 3) {
             return true;
         }
@@ -148,37 +160,37 @@ fn guard_out_of_range(automaton: &[u8]) -> bool
     false
 }
 
-// The smallest number of document 01's "Turned down" that applies to an automaton, and 0 where none does.
-pub(crate) fn refusal(automaton: &[u8]) -> u32
-    ensures { result ≡ refusal_of automaton.now }
+// The refusal with the smallest number that applies.
+pub(crate) fn read(automaton: &[u8]) -> Result<(), Refusal>
+    ensures { number_in result ≡ refusal_of automaton.now }
 {
     let length = automaton.len();
     if length < 11 {
-        return 1;
+        return Err(Refusal::TooShort);
     }
     if be32(automaton, 0) as usize != length {
-        return 2;
+        return Err(Refusal::OtherLength);
     }
     if automaton[4] != VERSION {
-        return 3;
+        return Err(Refusal::OtherVersion);
     }
     if counts_out_of_range(automaton) {
-        return 4;
+        return Err(Refusal::CountsOutOfRange);
     }
     if length != edge_at(automaton, edges(automaton)) {
-        return 5;
+        return Err(Refusal::UnevenLength);
     }
     if no_such_location(automaton) {
-        return 6;
+        return Err(Refusal::NoSuchLocation);
     }
     if no_such_clock(automaton) {
-        return 7;
+        return Err(Refusal::NoSuchClock);
     }
     if invariant_out_of_range(automaton) {
-        return 8;
+        return Err(Refusal::LimitOutOfRange);
     }
     if guard_out_of_range(automaton) {
-        return 8;
+        return Err(Refusal::LimitOutOfRange);
     }
-    0
+    Ok(())
 }

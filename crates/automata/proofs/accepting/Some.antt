@@ -1,6 +1,6 @@
--- The search through the numbers below k, as a loop that counts down runs it.
+-- Whether a number below k passes a test, as a loop that counts up finds it.
 -- Assumes nothing.
-use Prim.Native.Nat.{ℕ, zero, suc, ◌-◌, ◌<◌, ◌≤◌}
+use Prim.Native.Nat.{ℕ, zero, suc, ◌+◌, ◌<◌, ◌≤◌}
 use mathlib.Core.Path.{◌≡◌, refl, sym, ap, ◌∙◌}
 use mathlib.Core.Bool.{Bool, true, false, cond}
 use native.Mathlib.Decide.{ℕ_discrete}
@@ -8,32 +8,6 @@ use native.Mathlib.Nat.{not-suc-le-zero}
 use native.Mathlib.Omega.{arith}
 use Rattle.runs.proofs.Contradictions.{true_false}
 use Rattle.automata.specs.Refusals.{some}
-
--- ---- at i on the way down from n: of the numbers below n, those below i are left to ask
-pub record Down (n : ℕ) (whole : Bool) (f : ℕ → Bool) (i : ℕ) : Type 0 where
-  pub most : i ≤ n
-  pub rest : whole ≡ some i f
-
-module _ {n : ℕ} {whole : Bool} {f : ℕ → Bool} where
-  pub begins : whole ≡ some n f → Down n whole f n
-  begins e = record { most = omega arith; rest = e }
-
-  pub found : {i : ℕ} → Down n whole f i → 0 < i → f (i - 1) ≡ true → true ≡ whole
-  unfolding some
-  found {i = zero} d h e = absurd (not-suc-le-zero h)
-  found {i = suc k} d h e = let g : suc k - 1 ≡ k = omega arith in sym (d.rest ∙ rw (rw g at e))
-
-  pub passed : {i : ℕ} → Down n whole f i → 0 < i → f (i - 1) ≡ false → Down n whole f (i - 1)
-  unfolding some
-  passed {i = zero} d h e = absurd (not-suc-le-zero h)
-  passed {i = suc k} d h e =
-      let g : suc k - 1 ≡ k = omega arith in
-      record { most = omega (arith, d.most); rest = d.rest ∙ rw (rw g at e) (ap (λ (m : ℕ). some m f) (sym g)) }
-
-  pub ends : {i : ℕ} → Down n whole f i → i ≤ 0 → false ≡ whole
-  unfolding some
-  ends {i = zero} d h = sym d.rest
-  ends {i = suc k} d h = absurd (not-suc-le-zero h)
 
 -- where none passes, each fails
 pub fails : (f : ℕ → Bool) (k : ℕ) → some k f ≡ false → (i : ℕ) → i < k → f i ≡ false
@@ -51,3 +25,25 @@ pub none : (f : ℕ → Bool) (k : ℕ) → ((i : ℕ) → i < k → f i ≡ fal
 unfolding some
 none f zero h = refl
 none f (suc k) h = rw (h k (omega arith)) (none f k (λ i g. h i (omega arith)))
+
+-- one that passes is enough
+pub found : (f : ℕ → Bool) {k : ℕ} (i : ℕ) → i < k → f i ≡ true → some k f ≡ true
+found f {k = k} i h e = go (some k f) refl
+  where
+    go : (t : Bool) → some k f ≡ t → some k f ≡ true
+    go true g = g
+    go false g = true_false (sym e ∙ fails f k g i h)
+
+-- ---- a loop at i, before which none has passed
+pub passed : (f : ℕ → Bool) {i : ℕ} → some i f ≡ false → f i ≡ false → some (i + 1) f ≡ false
+unfolding some
+passed f {i = i} h e = let g : i + 1 ≡ suc i = omega arith in rw g (rw e h)
+
+-- at its start
+pub begins : (f : ℕ → Bool) → some 0 f ≡ false
+unfolding some
+begins f = refl
+
+-- and at its end
+pub ends : (f : ℕ → Bool) {k i : ℕ} → some i f ≡ false → k ≤ i → i ≤ k → false ≡ some k f
+ends f {k = k} {i = i} h a b = let g : k ≡ i = omega arith in rw g (sym h)

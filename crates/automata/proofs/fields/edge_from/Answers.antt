@@ -3,5 +3,5 @@ use native.Mathlib.Omega.{arith}
 use Rattle.automata.proofs.fields.Places.{edge-within}
 use Rattle.automata.proofs.fields.edge_from.Goals as goal
 
-pub bounds-automaton-at : goal.bounds-automaton-at
-bounds-automaton-at c = omega (arith, edge-within _ c.requires.complete _ c.requires.i_bound)
+pub bounds-automaton-edge_at : goal.bounds-automaton-edge_at
+bounds-automaton-edge_at c = omega (arith, edge-within _ c.requires.complete _ c.requires.i_bound)

@@ -6,5 +6,5 @@ use Rattle.automata.proofs.fields.reset_byte.Goals as goal
 pub overflow_add-result : goal.overflow_add-result
 overflow_add-result c = omega (arith, edge-within _ c.requires.complete _ c.requires.i_bound)
 
-pub bounds-automaton-at : goal.bounds-automaton-at
-bounds-automaton-at c = omega (arith, edge-within _ c.requires.complete _ c.requires.i_bound)
+pub bounds-automaton-edge_at : goal.bounds-automaton-edge_at
+bounds-automaton-edge_at c = omega (arith, edge-within _ c.requires.complete _ c.requires.i_bound)

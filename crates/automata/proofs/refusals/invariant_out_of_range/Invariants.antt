@@ -1,13 +1,9 @@
--- From the last location down: those below l are left to ask.
+-- The limits of the locations before l are on the scale.
+use mathlib.Core.Path.{◌≡◌}
 use mathlib.Core.Bool.{false}
-use Rattle.automata.specs.Automata.{locations, invariant_at}
-use Rattle.automata.specs.Refusals.{out_of_range_at, invariant_out_of_range}
-use Rattle.automata.proofs.accepting.Some.{Down}
+use Rattle.automata.specs.Automata.{invariant_at}
+use Rattle.automata.specs.Refusals.{some, out_of_range_at}
 use Rattle.automata.proofs.refusals.invariant_out_of_range.Given as goal
 
 abbrev pub invariant-loop-l : goal.invariant-loop-l
-invariant-loop-l l =
-    Down (locations l.automaton) (invariant_out_of_range l.automaton) (λ l'. out_of_range_at l.automaton false (invariant_at l.automaton l')) l.l
-
-abbrev pub decreases-loop-l : goal.decreases-loop-l
-decreases-loop-l l = l.l
+invariant-loop-l l = some l.l (λ k. out_of_range_at l.automaton false (invariant_at l.automaton k)) ≡ false

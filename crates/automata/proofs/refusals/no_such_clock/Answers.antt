@@ -1,22 +1,24 @@
--- Whether a reset byte names a clock that is not there, from the last edge down.
-use Prim.Native.Nat.{◌^◌, ◌-◌}
+-- Whether a reset byte names a clock that is not there, from the first edge on.
+use Prim.Native.Nat.{ℕ, ◌^◌}
 use native.Mathlib.Omega.{arith}
 use borrow.Author.Tests.{le-leb, lt-leb}
+use mathlib.Core.Path.{sym, ap}
 use Rattle.automata.specs.Automata.{clocks, reset_byte}
-use Rattle.automata.proofs.accepting.Some.{found, passed, ends}
+use Rattle.automata.proofs.accepting.Some.{begins, found, passed, ends}
 use Rattle.automata.proofs.refusals.no_such_clock.Goals as goal
 
-pub returns-then-bound-wide : goal.returns-then-bound-wide
-returns-then-bound-wide c =
+pub loop-i-init : goal.loop-i-init
+loop-i-init c = begins _
+
+pub returns-then-bound-from : goal.returns-then-bound-from
+returns-then-bound-from c =
     let s = c.args.automaton.now in
-    let l = c.loop-i in
-    found l.invariant.0 (omega arith) (le-leb (2 ^ clocks s) (reset_byte s (l.i - 1)) (omega arith))
+    sym (found _ c.loop-i.i (omega arith) (le-leb (2 ^ clocks s) (reset_byte s c.loop-i.i) (omega (arith, ap (λ (n : ℕ). 2 ^ n) c.clocks.ensures))))
 
 pub loop-i-preserved : goal.loop-i-preserved
 loop-i-preserved c =
     let s = c.args.automaton.now in
-    let l = c.loop-i in
-    (passed l.invariant.0 (omega arith) (lt-leb (2 ^ clocks s) (reset_byte s (l.i - 1)) (omega arith)), l.invariant.1)
+    passed _ c.loop-i.invariant (lt-leb (2 ^ clocks s) (reset_byte s c.loop-i.i) (omega (arith, ap (λ (n : ℕ). 2 ^ n) c.clocks.ensures)))
 
 pub returns : goal.returns
-returns c = ends c.loop-i.invariant.0 c.loop-i-test.false
+returns c = ends _ c.loop-i.invariant (omega arith) (omega arith)

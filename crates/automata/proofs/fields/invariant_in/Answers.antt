@@ -1,7 +1,7 @@
 -- Where the limits of a location stand, by their formula.
 use borrow.Author.Rules.{rules}
 use Rattle.automata.specs.Automata.{invariant_in}
-use Rattle.automata.proofs.fields.Counts.invariant_at.Goals as goal
+use Rattle.automata.proofs.fields.invariant_in.Goals as goal
 
 pub returns : goal.returns
 unfolding invariant_in
