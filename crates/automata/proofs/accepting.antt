@@ -2,3 +2,4 @@
 pub mod Some
 pub mod Refusing
 pub mod Accepting
+pub mod Numbering

@@ -3,7 +3,6 @@ ghost use Rattle.std.specs.Prelude.{◌≡◌, List, ℕ, suc, ◌*◌, ◌≤�
 ghost use Rattle.zones.specs.Ranges.{Fits32, Sized, counts, last_counts};
 ghost use Rattle.zones.specs.Settled.{Settled};
 ghost use Rattle.zones.specs.Zones.{set_of};
-ghost use Rattle.automata.specs.Accepted.{Accepted};
 ghost use Rattle.automata.specs.Automata.{clocks, edges, locations, target, to};
 ghost use Rattle.search.specs.Exploring.{FirstHit, Shown, SoundResult, SoundZone, Offers, Led, node_at, arrival_of, successor_of};
 ghost use Rattle.search.specs.Exploring.{Continues, Going};
@@ -19,8 +18,8 @@ ghost use Rattle.slots.specs.Containing.{ComparableSlots, inside_slots, equal_sl
 
 use crate::outcome::{Dropped, Outcome, Turn};
 use crate::successor::{enter, narrow};
-use automata::fields::{Edge, start, target};
-use automata::opened::{counts_of, edge_of};
+use automata::fields::Edge;
+use automata::opened::Automaton;
 use slots::containment::{inside_of, is_within, largest_count};
 use slots::slot::{Origin, decode, encode, keep, slot_length};
 use zones::fraction::Fraction;
@@ -67,7 +66,7 @@ fn drop_inside(turn: Turn, exact: Fraction, new: &[i32], old: &[i32], pairs: usi
 
 // A zone that has entered l, not the target: it is dropped inside a kept one, refused, or kept.
 fn judge(
-    automaton: &[u8],
+    automaton: &Automaton,
     store: &mut [i32],
     turn: Turn,
     capacity: usize,
@@ -75,14 +74,14 @@ fn judge(
     origin: Origin,
     w: Work,
 ) -> Turn
-    requires accepted { Accepted automaton.now × (l < locations automaton.now) × (l ≡ target automaton.now → ⊥) }
-    requires going { Going automaton.now capacity store.old turn × Few most_offers turn.dropped }
-    requires sized { Sized last_counts (suc (clocks automaton.now)) w × Framed (suc (clocks automaton.now)) w.zone }
-    ensures { (p : Led origin) → Continues automaton.now capacity store.old turn
-        (λ q. judge (system_of automaton.now) (zones_of automaton.now) capacity q
+    requires accepted { (l < locations automaton.now.bytes.now) × (l ≡ target automaton.now.bytes.now → ⊥) }
+    requires going { Going automaton.now.bytes.now capacity store.old turn × Few most_offers turn.dropped }
+    requires sized { Sized last_counts (suc (clocks automaton.now.bytes.now)) w × Framed (suc (clocks automaton.now.bytes.now)) w.zone }
+    ensures { (p : Led origin) → Continues automaton.now.bytes.now capacity store.old turn
+        (λ q. judge (system_of automaton.now.bytes.now) (zones_of automaton.now.bytes.now) capacity q
         (node_at l p.came p.path w.zone) (fractions_of w.fraction turn.safe)) store.new result }
 {
-    let size = counts_of(automaton).clocks + 1;
+    let size = automaton.clocks + 1;
     let count = turn.count;
     let z = w.zone;
     let exact = w.fraction;
@@ -113,7 +112,7 @@ fn judge(
 
 // What has entered l is judged.
 fn offer(
-    automaton: &[u8],
+    automaton: &Automaton,
     store: &mut [i32],
     turn: Turn,
     capacity: usize,
@@ -121,9 +120,9 @@ fn offer(
     origin: Origin,
     r: Reduced,
 ) -> Turn
-    requires accepted { Accepted automaton.now × (l < locations automaton.now) }
-    requires going { Going automaton.now capacity store.old turn × SoundResult automaton.now r × Few most_offers turn.dropped }
-    ensures { Offers automaton.now capacity store.old turn l origin r store.new result }
+    requires accepted { (l < locations automaton.now.bytes.now) }
+    requires going { Going automaton.now.bytes.now capacity store.old turn × SoundResult automaton.now.bytes.now r × Few most_offers turn.dropped }
+    ensures { Offers automaton.now.bytes.now capacity store.old turn l origin r store.new result }
 {
     let work = r.work;
     let exact = work.fraction;
@@ -131,7 +130,7 @@ fn offer(
         let safe = r.safe;
         return turn.emptied(exact, safe);
     }
-    if l == target(automaton) {
+    if l == automaton.target() {
         let safe = turn.safe;
         let dropped = turn.dropped;
         return Turn {
@@ -148,7 +147,7 @@ fn offer(
 // A settled zone enters l after a reset, and is judged. The start and the edges share this function, so that the compiler keeps it
 // out of the loop over the edges and gives its steps one square.
 fn arrive(
-    automaton: &[u8],
+    automaton: &Automaton,
     store: &mut [i32],
     turn: Turn,
     capacity: usize,
@@ -157,11 +156,11 @@ fn arrive(
     w: Work,
     resets: [bool; 9],
 ) -> Turn
-    requires accepted { Accepted automaton.now × (l < locations automaton.now) × Going automaton.now capacity store.old turn }
-    requires sized { Sized (10 * counts) (suc (clocks automaton.now)) w × Settled (suc (clocks automaton.now)) w }
-    requires sound_result { SoundResult automaton.now (arrival_of automaton.now l (set_of resets) w) × Few most_offers turn.dropped }
-    ensures { Offers automaton.now capacity store.old turn l origin
-        (arrival_of automaton.now l (set_of resets) w) store.new result }
+    requires accepted { (l < locations automaton.now.bytes.now) × Going automaton.now.bytes.now capacity store.old turn }
+    requires sized { Sized (10 * counts) (suc (clocks automaton.now.bytes.now)) w × Settled (suc (clocks automaton.now.bytes.now)) w }
+    requires sound_result { SoundResult automaton.now.bytes.now (arrival_of automaton.now.bytes.now l (set_of resets) w) × Few most_offers turn.dropped }
+    ensures { Offers automaton.now.bytes.now capacity store.old turn l origin
+        (arrival_of automaton.now.bytes.now l (set_of resets) w) store.new result }
 {
     let entered = enter(automaton, l, w, resets);
     offer(automaton, store, turn, capacity, l, origin, entered)
@@ -169,7 +168,7 @@ fn arrive(
 
 // The successor of a taken zone along edge i, which was fetched, is judged.
 fn follow(
-    automaton: &[u8],
+    automaton: &Automaton,
     store: &mut [i32],
     turn: Turn,
     capacity: usize,
@@ -178,14 +177,13 @@ fn follow(
     edge: Edge,
     w: Work,
 ) -> Turn
-    requires accepted { Accepted automaton.now × (i < edges automaton.now) × (edge ≡ edge_of automaton.now i) × Few most_offers turn.dropped }
-    requires going { Going automaton.now capacity store.old turn × SoundZone automaton.now w.zone × Fits32 w.fraction }
-    ensures { Offers automaton.now capacity store.old turn (to automaton.now i) origin
-        (successor_of automaton.now i w) store.new result }
+    requires accepted { (i < edges automaton.now.bytes.now) × (edge ≡ edge_of automaton.now.bytes.now i) × Few most_offers turn.dropped }
+    requires going { Going automaton.now.bytes.now capacity store.old turn × SoundZone automaton.now.bytes.now w.zone × Fits32 w.fraction }
+    ensures { Offers automaton.now.bytes.now capacity store.old turn (to automaton.now.bytes.now i) origin
+        (successor_of automaton.now.bytes.now i w) store.new result }
 {
-    let counts = counts_of(automaton);
-    let at = counts.edge_at(i) + 3;
-    let met = narrow(automaton, at, counts.clocks, w, false);
+    let at = automaton.edge_at(i) + 3;
+    let met = narrow(automaton, at, automaton.clocks, w, false);
     if met.empty {
         let work = met.work;
         let exact = work.fraction;
@@ -200,7 +198,7 @@ fn follow(
 
 // The edges of the kept zone of slot `parent`, in order, until the search stops.
 fn expand(
-    automaton: &[u8],
+    automaton: &Automaton,
     store: &mut [i32],
     turn: Turn,
     capacity: usize,
@@ -208,11 +206,11 @@ fn expand(
     l: usize,
     z: [Pair; 81],
 ) -> Turn
-    requires accepted { Accepted automaton.now × Going automaton.now capacity store.old turn × SoundZone automaton.now z }
+    requires accepted { Going automaton.now.bytes.now capacity store.old turn × SoundZone automaton.now.bytes.now z }
     requires parent_kept { (parent < most_slots) × Few (suc (parent * 256)) turn.dropped }
-    ensures { (c : Came) (p : List ℕ) → Continues automaton.now capacity store.old turn
-        (expand (system_of automaton.now) (zones_of automaton.now) capacity parent (node_at l c p z)
-        (edges automaton.now) 0) store.new result }
+    ensures { (c : Came) (p : List ℕ) → Continues automaton.now.bytes.now capacity store.old turn
+        (expand (system_of automaton.now.bytes.now) (zones_of automaton.now.bytes.now) capacity parent (node_at l c p z)
+        (edges automaton.now.bytes.now) 0) store.new result }
 {
     let mut t = turn;
     let first = t.exact;
@@ -220,10 +218,10 @@ fn expand(
         zone: z,
         fraction: first,
     };
-    let last = counts_of(automaton).edges;
+    let last = automaton.edges;
     let mut i = 0;
     while i < last {
-        let edge = edge_of(automaton, i);
+        let edge = automaton.edge(i);
         if edge.from == l {
             let exact = t.exact;
             w.fraction = exact;
@@ -239,12 +237,12 @@ fn expand(
 }
 
 // The kept zones, oldest first, each once, until nothing is left to take.
-fn take(automaton: &[u8], store: &mut [i32], turn: Turn, capacity: usize) -> Turn
-    requires { Accepted automaton.now × Going automaton.now capacity store.old turn × Few 1 turn.dropped }
-    ensures { Continues automaton.now capacity store.old turn
-        (take_from (system_of automaton.now) (zones_of automaton.now) capacity capacity 0) store.new result }
+fn take(automaton: &Automaton, store: &mut [i32], turn: Turn, capacity: usize) -> Turn
+    requires { Going automaton.now.bytes.now capacity store.old turn × Few 1 turn.dropped }
+    ensures { Continues automaton.now.bytes.now capacity store.old turn
+        (take_from (system_of automaton.now.bytes.now) (zones_of automaton.now.bytes.now) capacity capacity 0) store.new result }
 {
-    let size = counts_of(automaton).clocks + 1;
+    let size = automaton.clocks + 1;
     let stride = slot_length(size);
     let mut t = turn;
     let mut next = 0;
@@ -271,13 +269,12 @@ fn capacity_of(numbers: usize, size: usize) -> usize
 }
 
 // The whole search of an accepted automaton.
-pub fn explore(automaton: &[u8], store: &mut [i32]) -> Turn
-    requires { Accepted automaton.now }
-    ensures { Shown (suc (clocks automaton.now)) store.old
-        (state_of automaton.now (length store.old)) store.new result }
+pub fn explore(automaton: &Automaton, store: &mut [i32]) -> Turn
+    ensures { Shown (suc (clocks automaton.now.bytes.now)) store.old
+        (state_of automaton.now.bytes.now (length store.old)) store.new result }
 {
-    let capacity = capacity_of(store.len(), counts_of(automaton).clocks + 1);
-    let l = start(automaton);
+    let capacity = capacity_of(store.len(), automaton.clocks + 1);
+    let l = automaton.start();
     let first = Turn {
         count: 0,
         exact: Fraction { n: 1, d: 0 },

@@ -15,7 +15,7 @@ ghost use Rattle.search.specs.Store.{most_slots};
 ghost use Rattle.search.specs.Verdicts.{holding_of};
 ghost use Rattle.search.specs.Answers.{figures_of, findings_of, search_findings, search_store};
 
-use automata::refusal;
+use automata::opened::Automaton;
 use exploration::explore;
 use outcome::{Dropped, Outcome, Turn};
 use verdict::{Figures, Findings, Holding, Verdict, limit};
@@ -68,9 +68,8 @@ pub fn search(automaton: &[u8], store: &mut [i32]) -> Findings
     ensures store_after { store.new ≡ search_store automaton.now store.old }
     ensures promised { Promised automaton.now (length store.old) result }
 {
-    let number = refusal(automaton);
-    if number != 0 {
-        return Findings::Refused(number);
+    match Automaton::open(automaton) {
+        Ok(automaton) => findings(explore(&automaton, store)),
+        Err(k) => Findings::Refused(k.number()),
     }
-    findings(explore(automaton, store))
 }

@@ -5,13 +5,12 @@ ghost use Rattle.runs.specs.Limits.{scale};
 ghost use Rattle.zones.specs.Settled.{Settled};
 ghost use Rattle.zones.specs.Successors.{meet_of};
 ghost use Rattle.zones.specs.Zones.{raise_limits, set_of};
-ghost use Rattle.automata.specs.Accepted.{Accepted};
 ghost use Rattle.automata.specs.Automata.{clocks, locations, limits_at};
 ghost use Rattle.search.specs.Exploring.{arrival_of};
 ghost use Rattle.search.specs.Meeting.{MetBy};
 
 use automata::fields::NO_UPPER;
-use automata::opened::{counts_of, limits_of};
+use automata::opened::Automaton;
 use zones::pair::Pair;
 use zones::reduction::Reduced;
 use zones::zone::{Bounds, Work};
@@ -24,17 +23,16 @@ struct Met {
 }
 
 // The limits at `at` of c clocks are met, clock by clock. A settled zone stays settled where they lower no entry.
-fn meet(automaton: &[u8], at: usize, c: usize, w: Work, settled: bool) -> Met
-    requires accepted { Accepted automaton.now }
-    requires few_clocks { (c ≤ 8) × (at + 8 * c ≤ length automaton.now) }
-    requires on_scale { OnScale scale c (limits_at automaton.now at) × Sized step_counts (suc c) w }
-    ensures { MetBy (limits_at automaton.now at) c w «settled» result }
+fn meet(automaton: &Automaton, at: usize, c: usize, w: Work, settled: bool) -> Met
+    requires few_clocks { (c ≤ 8) × (at + 8 * c ≤ length automaton.now.bytes.now) }
+    requires on_scale { OnScale scale c (limits_at automaton.now.bytes.now at) × Sized step_counts (suc c) w }
+    ensures { MetBy (limits_at automaton.now.bytes.now at) c w «settled» result }
 {
     let mut work = w;
     let mut same = settled;
     let mut x = 1;
     while x <= c {
-        let limits = limits_of(automaton, at, x);
+        let limits = automaton.limits(at, x);
         let hi = limits.hi;
         let there = Bounds {
             upper: work.zone[x * 9],
@@ -60,12 +58,11 @@ fn meet(automaton: &[u8], at: usize, c: usize, w: Work, settled: bool) -> Met
 }
 
 // The limits at `at` are met, and the zone is reduced. A settled zone is its own reduction: every middle index is left out.
-pub fn narrow(automaton: &[u8], at: usize, c: usize, w: Work, settled: bool) -> Reduced
-    requires accepted { Accepted automaton.now }
-    requires few_clocks { (c ≤ 8) × (at + 8 * c ≤ length automaton.now) }
-    requires on_scale { OnScale scale c (limits_at automaton.now at) × Sized step_counts (suc c) w }
+pub fn narrow(automaton: &Automaton, at: usize, c: usize, w: Work, settled: bool) -> Reduced
+    requires few_clocks { (c ≤ 8) × (at + 8 * c ≤ length automaton.now.bytes.now) }
+    requires on_scale { OnScale scale c (limits_at automaton.now.bytes.now at) × Sized step_counts (suc c) w }
     requires settled { «settled» ≡ true → Settled (suc c) w }
-    ensures { result ≡ meet_of c (limits_at automaton.now at) w }
+    ensures { result ≡ meet_of c (limits_at automaton.now.bytes.now at) w }
 {
     let met = meet(automaton, at, c, w, settled);
     let first = if met.settled { c + 1 } else { 0 };
@@ -73,30 +70,28 @@ pub fn narrow(automaton: &[u8], at: usize, c: usize, w: Work, settled: bool) -> 
 }
 
 // Each entry (clock, 0) is put to (hi, 1), hi among the limits at `at`.
-fn raise(automaton: &[u8], at: usize, c: usize, w: Work) -> Work
-    requires accepted { Accepted automaton.now }
-    requires few_clocks { (c ≤ 8) × (at + 8 * c ≤ length automaton.now) }
-    ensures { result ≡ raise_limits (limits_at automaton.now at) c w }
+fn raise(automaton: &Automaton, at: usize, c: usize, w: Work) -> Work
+    requires few_clocks { (c ≤ 8) × (at + 8 * c ≤ length automaton.now.bytes.now) }
+    ensures { result ≡ raise_limits (limits_at automaton.now.bytes.now at) c w }
 {
     let fraction = w.fraction;
     let mut z = w.zone;
     let mut x = 1;
     while x <= c {
-        z[x * 9] = Pair::at_most(limits_of(automaton, at, x).hi);
+        z[x * 9] = Pair::at_most(automaton.limits(at, x).hi);
         x += 1;
     }
     Work { zone: z, fraction }
 }
 
 // The zone, which is settled, enters location l after a reset.
-pub(crate) fn enter(automaton: &[u8], l: usize, w: Work, resets: [bool; 9]) -> Reduced
-    requires accepted { Accepted automaton.now × (l < locations automaton.now) }
-    requires sized { Sized (10 * counts) (suc (clocks automaton.now)) w × Settled (suc (clocks automaton.now)) w }
-    ensures { result ≡ arrival_of automaton.now l (set_of resets) w }
+pub(crate) fn enter(automaton: &Automaton, l: usize, w: Work, resets: [bool; 9]) -> Reduced
+    requires accepted { (l < locations automaton.now.bytes.now) }
+    requires sized { Sized (10 * counts) (suc (clocks automaton.now.bytes.now)) w × Settled (suc (clocks automaton.now.bytes.now)) w }
+    ensures { result ≡ arrival_of automaton.now.bytes.now l (set_of resets) w }
 {
-    let counts = counts_of(automaton);
-    let c = counts.clocks;
-    let at = counts.invariant_at(l);
+    let c = automaton.clocks;
+    let at = automaton.invariant_at(l);
     let cleared = w.reset(c + 1, resets);
     let met = narrow(automaton, at, c, cleared, true);
     if met.empty {

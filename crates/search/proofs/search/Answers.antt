@@ -1,35 +1,51 @@
 -- What is found and the store are the definition's, and it has what is promised.
 -- Assumes nothing.
-use mathlib.Core.Path.{◌≡◌, sym, ◌∙◌, subst}
+use Prim.Native.Nat.{ℕ, suc}
+use mathlib.Core.List.{List}
+use mathlib.Core.Path.{◌≡◌, sym, ap, ◌∙◌, subst}
+use denote.Ref.{Bor}
+use lib.ListN.{length}
+use Rattle.automata.specs.Automata.{clocks}
 use Rattle.automata.specs.Refusals.{refusal_of}
+use Rattle.search.specs.Answers.{state_of}
+use Rattle.search.specs.Exploring.{Shown}
 use Rattle.search.specs.Promised.{Promised}
-use Rattle.automata.proofs.accepting.Accepting.{accepted}
+use Rattle.automata.proofs.accepting.Numbering.{positive}
 use Rattle.search.proofs.answers.Answers.{refused_findings, refused_store, count_small, searched_findings, searched_store}
 use Rattle.search.proofs.answers.Given.{promised}
 use Rattle.search.proofs.search.Goals as goal
-use Rattle.search.proofs.search.Goals.{Else-number-ne0}
+use Rattle.search.proofs.search.Goals.{In-Ok, After-explore}
 
-pub returns-then-number-ne0 : goal.returns-then-number-ne0
-returns-then-number-ne0 c =
-    let found = refused_findings _ c.refusal-number.ensures c.if-number-ne0.true _ in
+pub returns-in-Err : goal.returns-in-Err
+returns-in-Err c =
+    let e = c.number.ensures ∙ c.in-Err.ensures.refusal in
+    let above : c.number.result ≡ 0 → ⊥ = λ z. positive c.in-Err.k (sym c.number.ensures ∙ z) in
+    let found = refused_findings _ e above _ in
     record {
       value = found;
-      store_after = refused_store _ c.refusal-number.ensures c.if-number-ne0.true _;
+      store_after = refused_store _ e above _;
       promised = subst (Promised _ _) (sym found) (promised _ _);
     }
 
-ok : (c : Else-number-ne0) → refusal_of c.args.automaton.now ≡ 0
-ok c = sym c.refusal-number.ensures ∙ c.if-number-ne0.false
+ok : (c : In-Ok) → refusal_of c.args.automaton.now ≡ 0
+ok c = sym c.in-Ok.ensures.refusal
 
-pub explore-requires : goal.explore-requires
-explore-requires c = accepted _ (ok (goal.at.explore-requires c).Else-number-ne0)
+-- the search is of the bytes that were opened
+shown : (c : After-explore) → let b = c.args.automaton.now in let s = c.args.store.now in
+    Shown (suc (clocks b)) s (state_of b (length s)) c.explore.new.store c.explore.result
+shown c =
+    subst (λ (b : List ℕ). Shown (suc (clocks b)) c.args.store.now (state_of b (length c.args.store.now)) c.explore.new.store c.explore.result)
+    (ap (λ (x : Bor (List ℕ)). x.now) c.in-Ok.ensures.opened) c.explore.ensures
 
 pub findings-requires : goal.findings-requires
-findings-requires c = count_small _ (ok (goal.at.findings-requires c).Else-number-ne0) _ _ _ c.explore.ensures
+findings-requires c = count_small _ (ok (goal.at.findings-requires c).In-Ok) _ _ _ (shown (goal.at.findings-requires c).After-explore)
 
-pub returns : goal.returns
-returns c =
-    let ok = ok (goal.at.returns c).Else-number-ne0 in
-    let shown = c.explore.ensures in
-    let found = searched_findings _ ok _ _ _ shown c.findings.ensures in
-    record { value = found; store_after = searched_store _ ok _ _ _ shown; promised = subst (Promised _ _) (sym found) (promised _ _) }
+pub returns-in-Ok : goal.returns-in-Ok
+returns-in-Ok c =
+    let here = goal.at.returns-in-Ok c in
+    let found = searched_findings _ (ok here.In-Ok) _ _ _ (shown here.After-explore) c.findings.ensures in
+    record {
+      value = found;
+      store_after = searched_store _ (ok here.In-Ok) _ _ _ (shown here.After-explore);
+      promised = subst (Promised _ _) (sym found) (promised _ _);
+    }

@@ -12,9 +12,9 @@ use Rattle.search.proofs.exploration.expand.Given as goal
 
 abbrev pub invariant-loop-i : goal.invariant-loop-i
 invariant-loop-i l =
-    (l.last ≡ edges l.automaton) × (l.i ≤ l.last) × (l.w.zone ≡ l.initial.w.zone) ×
-    ((x : Came) (p : List ℕ) (s₀ : List ℤ) (q₀ : ZoneState) → Live l.automaton l.capacity s₀ q₀ l.initial.store l.initial.t →
-    Between l.automaton l.capacity l.parent l.l l.initial.w.zone x p s₀ q₀ l.i l.store l.t)
+    (l.last ≡ edges l.automaton.bytes.now) × (l.i ≤ l.last) × (l.w.zone ≡ l.initial.w.zone) ×
+    ((x : Came) (p : List ℕ) (s₀ : List ℤ) (q₀ : ZoneState) → Live l.automaton.bytes.now l.capacity s₀ q₀ l.initial.store l.initial.t →
+    Between l.automaton.bytes.now l.capacity l.parent l.l l.initial.w.zone x p s₀ q₀ l.i l.store l.t)
 
 abbrev pub decreases-loop-i : goal.decreases-loop-i
 decreases-loop-i l = l.last - l.i

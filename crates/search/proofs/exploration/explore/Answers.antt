@@ -22,20 +22,20 @@ use Rattle.automata.proofs.fields.Resets.{none_reset}
 use Rattle.automata.proofs.fields.Counting.{size≡, few_clocks}
 use Rattle.search.proofs.exploration.Sounding.{start-sound}
 use Rattle.search.proofs.exploration.explore.Goals as goal
-use Rattle.search.proofs.exploration.explore.Goals.{After-arrive-t, After-counts_of, After-first}
+use Rattle.search.proofs.exploration.explore.Goals.{After-arrive-t, Start, After-first}
 
-few : (c : After-counts_of) → c.counts_of.result.clocks ≤ 8
-few c = few_clocks _ c.counts_of.ensures c.requires
+few : (c : Start) → c.args.automaton.now.clocks ≤ 8
+few c = few_clocks c.args.automaton.now.counted c.args.automaton.now.accepted
 
 -- ---- with the first zone
 module _ (c : After-first) where
   abbrev automaton : List ℕ
-  automaton = c.args.automaton.now
+  automaton = c.args.automaton.now.bytes.now
 
   capacity≡ : c.capacity_of-capacity.result ≡ capacity_of (suc (clocks automaton)) (length c.args.store.now)
   capacity≡ =
       c.capacity_of-capacity.ensures
-      ∙ ap (λ (n : ℕ). capacity_of n (length c.args.store.now)) (size≡ _ c.counts_of.ensures)
+      ∙ ap (λ (n : ℕ). capacity_of n (length c.args.store.now)) (size≡ c.args.automaton.now.counted)
 
   -- what arrives is the definition's first zone
   arrived : arrival_of automaton c.start-l.result (set_of (replicate 9 false)) c.first.result
@@ -46,9 +46,9 @@ module _ (c : After-first) where
 
 pub arrive-t-requires : goal.arrive-t-requires
 arrive-t-requires c =
-    let a = c.requires in
+    let a = c.args.automaton.now.accepted in
     record {
-      accepted = (a, rw c.start-l.ensures a.start<, blank_going a _ (capacity≡ (goal.at.arrive-t-requires c).After-first));
+      accepted = (rw c.start-l.ensures a.start<, blank_going a _ (capacity≡ (goal.at.arrive-t-requires c).After-first));
       sized = rw c.first.ensures (first_sized (10 * counts) _ (n≤ _ a), first_settled _ (n≤ _ a));
       sound_result = (
         subst (SoundResult _) (sym (arrived (goal.at.arrive-t-requires c).After-first)) (start-sound _ a),
@@ -59,12 +59,12 @@ arrive-t-requires c =
 -- ---- after the first offer
 module _ (c : After-arrive-t) where
   abbrev bytes : List ℕ
-  bytes = c.args.automaton.now
+  bytes = c.args.automaton.now.bytes.now
 
   room : c.capacity_of-capacity.result ≡ capacity_of (suc (clocks bytes)) (length c.args.store.now)
   room =
       c.capacity_of-capacity.ensures
-      ∙ ap (λ (n : ℕ). capacity_of n (length c.args.store.now)) (size≡ _ c.counts_of.ensures)
+      ∙ ap (λ (n : ℕ). capacity_of n (length c.args.store.now)) (size≡ c.args.automaton.now.counted)
 
   came : arrival_of bytes c.start-l.result (set_of (replicate 9 false)) c.first.result
       ≡ enter_of (clocks bytes) (invariant_of bytes (start bytes)) first_work
@@ -74,7 +74,7 @@ module _ (c : After-arrive-t) where
 
   offered : Begun bytes c.capacity_of-capacity.result c.args.store.now c.arrive-t.new.store c.arrive-t.result
   offered =
-      begun c.requires _ room refl c.none.ensures
+      begun c.args.automaton.now.accepted _ room refl c.none.ensures
       (gives_of _ _ _ _ _ _ c.start-l.ensures came c.arrive-t.ensures)
 
 pub returns-then-has_ended : goal.returns-then-has_ended
@@ -83,7 +83,6 @@ returns-then-has_ended c =
 
 pub take-requires : goal.take-requires
 take-requires c = (
-  c.requires,
   (offered (goal.at.take-requires c).After-arrive-t).goes_on (sym c.has_ended.ensures ∙ c.if-has_ended.false),
   (offered (goal.at.take-requires c).After-arrive-t).few,
 )
@@ -92,11 +91,8 @@ pub returns : goal.returns
 returns c =
     (offered (goal.at.returns c).After-arrive-t).rest (sym c.has_ended.ensures ∙ c.if-has_ended.false) c.take.ensures
 
-pub counts_of-requires : goal.counts_of-requires
-counts_of-requires c = c.requires
-
-pub overflow_add-counts_of : goal.overflow_add-counts_of
-overflow_add-counts_of c = omega (arith, few (goal.at.overflow_add-counts_of c).After-counts_of)
+pub overflow_add-automaton : goal.overflow_add-automaton
+overflow_add-automaton c = omega (arith, few (goal.at.overflow_add-automaton c).Start)
 
 pub capacity_of-capacity-requires : goal.capacity_of-capacity-requires
-capacity_of-capacity-requires c = omega (arith, few (goal.at.capacity_of-capacity-requires c).After-counts_of)
+capacity_of-capacity-requires c = omega (arith, few (goal.at.capacity_of-capacity-requires c).Start)

@@ -10,89 +10,81 @@ use Rattle.automata.specs.Automata.{clocks, edge_at, guard_of}
 use Rattle.search.proofs.exploration.Arriving.{gives_of, taken_sized, emptied_fits, follows_none, arrives, edge_to, follows}
 use Rattle.search.proofs.exploration.Arriving.{arrives_sound, arrives_at}
 use Rattle.search.proofs.exploration.Judging.{going_safe}
-use Rattle.automata.proofs.fields.Counting.{clocks≡, edge≡, asks_edge}
 use Rattle.automata.proofs.fields.Places.{edge-within}
 use Rattle.search.proofs.successor.Stepping.{meets, asks_limits, guard_scale}
 use Rattle.search.proofs.exploration.follow.Goals as goal
 use Rattle.search.proofs.exploration.follow.Goals.{After-edge_at-at, After-narrow-met}
 
-pub counts_of-counts-requires : goal.counts_of-counts-requires
-counts_of-counts-requires c = c.requires.accepted.0
-
-pub edge_at-at-requires : goal.edge_at-at-requires
-edge_at-at-requires c = asks_edge _ c.counts_of-counts.ensures c.requires.accepted.0 c.requires.accepted.1
-
 -- ---- with the place of the guard
 module _ (c : After-edge_at-at) where
-  place≡ : c.edge_at-at.result ≡ edge_at c.args.automaton.now c.args.i
-  place≡ = edge≡ _ c.counts_of-counts.ensures _ c.edge_at-at.ensures
+  place≡ : c.edge_at-at.result ≡ edge_at c.args.automaton.now.bytes.now c.args.i
+  place≡ = c.edge_at-at.ensures
 
-  size≡ : c.counts_of-counts.result.clocks ≡ clocks c.args.automaton.now
-  size≡ = clocks≡ _ c.counts_of-counts.ensures
+  size≡ : c.args.automaton.now.clocks ≡ clocks c.args.automaton.now.bytes.now
+  size≡ = c.args.automaton.now.counted.clocks≡
 
-  inside : edge_at c.args.automaton.now c.args.i + (3 + 8 * clocks c.args.automaton.now)
-      ≤ length c.args.automaton.now
-  inside = edge-within _ c.requires.accepted.0.complete _ c.requires.accepted.1
+  inside : edge_at c.args.automaton.now.bytes.now c.args.i + (3 + 8 * clocks c.args.automaton.now.bytes.now)
+      ≤ length c.args.automaton.now.bytes.now
+  inside = edge-within _ c.args.automaton.now.accepted.complete _ c.requires.accepted.0
 
 pub narrow-met-requires : goal.narrow-met-requires
 unfolding guard_of
 narrow-met-requires c =
-    let a = c.requires.accepted.0 in
-    let hi = c.requires.accepted.1 in
+    let a = c.args.automaton.now.accepted in
+    let hi = c.requires.accepted.0 in
     let q = asks_limits _ _ (ap (λ x. x + 3) (place≡ (goal.at.narrow-met-requires c).After-edge_at-at))
     (size≡ (goal.at.narrow-met-requires c).After-edge_at-at) a.complete.clocks≤
     (omega (arith, inside (goal.at.narrow-met-requires c).After-edge_at-at)) (guard_scale _ a _ hi)
     (omega arith) (taken_sized _ a _ hi _ c.requires.going.1 c.requires.going.2) in
-    record { accepted = a; few_clocks = q.0; on_scale = q.1; settled = λ e. true_false (sym e) }
+    record { few_clocks = q.0; on_scale = q.1; settled = λ e. true_false (sym e) }
 
 -- ---- the guard met
 module _ (c : After-narrow-met) where
-  met : c.narrow-met.result ≡ meet_of (clocks c.args.automaton.now) (guard_of c.args.automaton.now c.args.i) c.args.w
+  met : c.narrow-met.result ≡ meet_of (clocks c.args.automaton.now.bytes.now) (guard_of c.args.automaton.now.bytes.now c.args.i) c.args.w
   unfolding guard_of
   met =
-      meets _ _ (ap (λ (x : ℕ). x + 3) (edge≡ _ c.counts_of-counts.ensures _ c.edge_at-at.ensures)) (clocks≡ _ c.counts_of-counts.ensures)
+      meets _ _ (ap (λ (x : ℕ). x + 3) c.edge_at-at.ensures) c.args.automaton.now.counted.clocks≡
       c.narrow-met.ensures
 
 pub emptied-requires : goal.emptied-requires
 emptied-requires c = (
-  going_safe _ c.requires.accepted.0 c.requires.going.0,
-  emptied_fits _ c.requires.accepted.0 _ c.requires.accepted.1 _ c.requires.going.1 c.requires.going.2
+  going_safe _ c.args.automaton.now.accepted c.requires.going.0,
+  emptied_fits _ c.args.automaton.now.accepted _ c.requires.accepted.0 _ c.requires.going.1 c.requires.going.2
       (met (goal.at.emptied-requires c).After-narrow-met),
 )
 
 pub returns-then-met : goal.returns-then-met
 returns-then-met c =
-    follows_none _ c.requires.accepted.0 _ c.requires.accepted.1 _ c.requires.going.1 c.requires.going.2
+    follows_none _ c.args.automaton.now.accepted _ c.requires.accepted.0 _ c.requires.going.1 c.requires.going.2
     (met (goal.at.returns-then-met c).After-narrow-met) c.if-met.true _ _ _ _ c.emptied.ensures
 
 pub arrive-requires : goal.arrive-requires
 arrive-requires c =
-    let a = c.requires.accepted.0 in
-    let hi = c.requires.accepted.1 in
+    let a = c.args.automaton.now.accepted in
+    let hi = c.requires.accepted.0 in
     let live = c.if-met.false in
     record {
       accepted = (
-        a,
         arrives_at _ a _ hi _ c.requires.going.1 c.requires.going.2 (met (goal.at.arrive-requires c).After-narrow-met) live
-            c.requires.accepted.2,
+            c.requires.accepted.1,
         c.requires.going.0,
       );
       sized = arrives _ a _ hi _ c.requires.going.1 c.requires.going.2 (met (goal.at.arrive-requires c).After-narrow-met) live;
       sound_result = (
         arrives_sound _ a _ hi _ c.requires.going.1 c.requires.going.2 (met (goal.at.arrive-requires c).After-narrow-met) live
-            c.requires.accepted.2,
-        c.requires.accepted.3,
+            c.requires.accepted.1,
+        c.requires.accepted.2,
       );
     }
 
 pub returns : goal.returns
 returns c =
-    let a = c.requires.accepted.0 in
-    let hi = c.requires.accepted.1 in
+    let a = c.args.automaton.now.accepted in
+    let hi = c.requires.accepted.0 in
     let live = c.if-met.false in
     gives_of _ _ _ _ _ _ (edge_to _ a _ hi _ c.requires.going.1 c.requires.going.2 (met (goal.at.returns c).After-narrow-met) live
-    c.requires.accepted.2)
-    (follows _ a _ hi _ c.requires.going.1 c.requires.going.2 (met (goal.at.returns c).After-narrow-met) live c.requires.accepted.2) c.arrive.ensures
+    c.requires.accepted.1)
+    (follows _ a _ hi _ c.requires.going.1 c.requires.going.2 (met (goal.at.returns c).After-narrow-met) live c.requires.accepted.1) c.arrive.ensures
 
 pub overflow_add-at : goal.overflow_add-at
 overflow_add-at c =

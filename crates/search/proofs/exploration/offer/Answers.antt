@@ -6,7 +6,7 @@ use Rattle.search.proofs.exploration.offer.Goals as goal
 
 pub emptied-requires : goal.emptied-requires
 emptied-requires c =
-    (going_safe _ c.requires.accepted.0 c.requires.going.0, c.requires.going.1.safe)
+    (going_safe _ c.args.automaton.now.accepted c.requires.going.0, c.requires.going.1.safe)
 
 pub returns-then-r : goal.returns-then-r
 returns-then-r c = λ p. gives_empty _ _ _ _ _ c.args.r p c.if-r.true c.emptied.ensures
@@ -17,7 +17,7 @@ returns-then-l-target c = λ p. gives_target _ _ _ _ _ c.args.r p c.if-r.false (
 pub judge-requires : goal.judge-requires
 judge-requires c =
     record {
-      accepted = (c.requires.accepted.0, c.requires.accepted.1, λ e. c.if-l-target.false (e ∙ sym c.target.ensures));
+      accepted = (c.requires.accepted, λ e. c.if-l-target.false (e ∙ sym c.target.ensures));
       going = (c.requires.going.0, c.requires.going.2);
       sized = (c.requires.going.1.sized c.if-r.false, c.requires.going.1.framed c.if-r.false);
     }

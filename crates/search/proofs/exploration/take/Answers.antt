@@ -16,41 +16,41 @@ use Rattle.search.proofs.exploration.Taking.{read_location, reads_location, Onwa
 use Rattle.search.proofs.exploration.Taking.{asks_decode, onward_few, sound_zone, turned}
 use borrow.Author.Rules.{rules}
 use Rattle.search.proofs.exploration.take.Goals as goal
-use Rattle.search.proofs.exploration.take.Goals.{After-counts_of-size, After-expand-t, At-loop-next, In-loop-next}
+use Rattle.search.proofs.exploration.take.Goals.{Start, After-expand-t, At-loop-next, In-loop-next}
 
-few_of : (c : After-counts_of-size) → c.counts_of-size.result.clocks ≤ 8
-few_of c = few_clocks _ c.counts_of-size.ensures c.requires.0
+few_of : (c : Start) → c.args.automaton.now.clocks ≤ 8
+few_of c = few_clocks c.args.automaton.now.counted c.args.automaton.now.accepted
 
 pub loop-next-init : goal.loop-next-init
 loop-next-init c =
-    let size = size≡ _ c.counts_of-size.ensures in
+    let size = size≡ c.args.automaton.now.counted in
     (size, c.slot_length-stride.ensures ∙ ap slot_length size, λ s₀ q₀ h. begins _ _ h)
 
 -- ---- at the head of the loop
 module _ (c : At-loop-next) where
-  on : Onward c.args.automaton.now c.args.capacity c.requires.1.base c.requires.1.state c.loop-next.next c.loop-next.store c.loop-next.t
-  on = c.loop-next.invariant.2 c.requires.1.base c.requires.1.state c.requires.1.live
+  on : Onward c.args.automaton.now.bytes.now c.args.capacity c.requires.0.base c.requires.0.state c.loop-next.next c.loop-next.store c.loop-next.t
+  on = c.loop-next.invariant.2 c.requires.0.base c.requires.0.state c.requires.0.live
 
-  at_entry : length c.args.store.now ≡ length c.requires.1.base
-  at_entry = going_length _ c.requires.0 c.requires.1
+  at_entry : length c.args.store.now ≡ length c.requires.0.base
+  at_entry = going_length _ c.args.automaton.now.accepted c.requires.0
 
   now : length c.loop-next.store ≡ length c.args.store.now
-  now = live-length _ c.requires.0 c.requires.1.long on.live.shown on.live.sound ∙ sym at_entry
+  now = live-length _ c.args.automaton.now.accepted c.requires.0.long on.live.shown on.live.sound ∙ sym at_entry
 
 -- ---- in a turn
 module _ (c : In-loop-next) where
   abbrev place : ℕ
   place = c.loop-next.next * c.slot_length-stride.result
 
-  place≡ : place ≡ c.loop-next.next * slot_length (suc (clocks c.args.automaton.now))
+  place≡ : place ≡ c.loop-next.next * slot_length (suc (clocks c.args.automaton.now.bytes.now))
   place≡ = ap (λ (x : ℕ). c.loop-next.next * x) c.loop-next.invariant.1
 
-  inside : place + slot_length (suc (clocks c.args.automaton.now)) ≤ length c.loop-next.store
-  inside = slot_inside c.requires.0
-      (c.loop-next.invariant.2 c.requires.1.base c.requires.1.state c.requires.1.live) c.loop-next-test.true place≡ c.requires.1.long
+  inside : place + slot_length (suc (clocks c.args.automaton.now.bytes.now)) ≤ length c.loop-next.store
+  inside = slot_inside c.args.automaton.now.accepted
+      (c.loop-next.invariant.2 c.requires.0.base c.requires.0.state c.requires.0.live) c.loop-next-test.true place≡ c.requires.0.long
 
   below : c.loop-next.next < c.args.capacity
-  below = few c.requires.0 (c.loop-next.invariant.2 c.requires.1.base c.requires.1.state c.requires.1.live) c.loop-next-test.true
+  below = few c.args.automaton.now.accepted (c.loop-next.invariant.2 c.requires.0.base c.requires.0.state c.requires.0.live) c.loop-next-test.true
 
 pub slice_copy_out-l : goal.slice_copy_out-l
 slice_copy_out-l c = omega (arith, inside (goal.at.slice_copy_out-l c).In-loop-next)
@@ -60,8 +60,8 @@ slice_bounds-decode-start c = omega (arith, inside (goal.at.slice_bounds-decode-
 
 pub decode-z-requires : goal.decode-z-requires
 decode-z-requires c =
-    let q = asks_decode c.requires.0 (on (goal.at.decode-z-requires c).At-loop-next) c.loop-next-test.true
-    (place≡ (goal.at.decode-z-requires c).In-loop-next) c.requires.1.long in
+    let q = asks_decode c.args.automaton.now.accepted (on (goal.at.decode-z-requires c).At-loop-next) c.loop-next-test.true
+    (place≡ (goal.at.decode-z-requires c).In-loop-next) c.requires.0.long in
     rw c.loop-next.invariant.0 (record { size_bound = q.0; counts_natural = q.1 })
 
 pub expand-t-requires : goal.expand-t-requires
@@ -69,33 +69,32 @@ expand-t-requires c =
     let pre = c.requires in
     record {
       accepted = (
-        pre.0,
-        onward pre.0 (on (goal.at.expand-t-requires c).At-loop-next) c.loop-next-test.true pre.1.long pre.1.few,
-        sound_zone pre.0 (on (goal.at.expand-t-requires c).At-loop-next) c.loop-next-test.true (place≡ (goal.at.expand-t-requires c).In-loop-next)
+        onward c.args.automaton.now.accepted (on (goal.at.expand-t-requires c).At-loop-next) c.loop-next-test.true pre.0.long pre.0.few,
+        sound_zone c.args.automaton.now.accepted (on (goal.at.expand-t-requires c).At-loop-next) c.loop-next-test.true (place≡ (goal.at.expand-t-requires c).In-loop-next)
             (rw c.loop-next.invariant.0 at c.decode-z.ensures),
       );
       parent_kept = (
-        omega (arith, below (goal.at.expand-t-requires c).In-loop-next, pre.1.few),
-        onward_few pre.0 (on (goal.at.expand-t-requires c).At-loop-next) c.loop-next-test.true
-            (omega (arith, pre.1.live.shown.again, pre.1.live.shown.inside, pre.2.few)),
+        omega (arith, below (goal.at.expand-t-requires c).In-loop-next, pre.0.few),
+        onward_few c.args.automaton.now.accepted (on (goal.at.expand-t-requires c).At-loop-next) c.loop-next-test.true
+            (omega (arith, pre.0.live.shown.again, pre.0.live.shown.inside, pre.1.few)),
       );
     }
 
 -- ---- after the expansion
 module _ (c : After-expand-t) where
   expanded : (s₀ : List ℤ) (q₀ : ZoneState) →
-      Live c.args.automaton.now c.args.capacity s₀ q₀ c.args.store.now c.args.turn →
-      Turned c.args.automaton.now c.args.capacity s₀ q₀ c.loop-next.next c.expand-t.new.store c.expand-t.result
+      Live c.args.automaton.now.bytes.now c.args.capacity s₀ q₀ c.args.store.now c.args.turn →
+      Turned c.args.automaton.now.bytes.now c.args.capacity s₀ q₀ c.loop-next.next c.expand-t.new.store c.expand-t.result
   expanded s₀ q₀ h =
       let w = c.loop-next.invariant.2 s₀ q₀ h in
-      let there = location c.requires.0 w c.loop-next-test.true (ap (λ (x : ℕ). c.loop-next.next * x) c.loop-next.invariant.1) in
-      turned c.requires.0 w c.loop-next-test.true (ap (λ (x : ℕ). c.loop-next.next * x) c.loop-next.invariant.1)
+      let there = location c.args.automaton.now.accepted w c.loop-next-test.true (ap (λ (x : ℕ). c.loop-next.next * x) c.loop-next.invariant.1) in
+      turned c.args.automaton.now.accepted w c.loop-next-test.true (ap (λ (x : ℕ). c.loop-next.next * x) c.loop-next.invariant.1)
       (rw c.loop-next.invariant.0 at c.decode-z.ensures)
       (read_location (search rules) there) c.expand-t.ensures
 
 pub shape_of-store-then-has_ended : goal.shape_of-store-then-has_ended
 shape_of-store-then-has_ended c =
-    let going = c.requires.1 in
+    let going = c.requires.0 in
     (expanded (goal.at.shape_of-store-then-has_ended c).After-expand-t _ _ going.live).same_length going.long
     ∙ sym (at_entry (goal.at.shape_of-store-then-has_ended c).At-loop-next)
 
@@ -124,18 +123,15 @@ shape_of-store c = now (goal.at.shape_of-store c).At-loop-next
 pub returns : goal.returns
 returns c = record { shows = λ s₀ q₀ h. ends _ _ (c.loop-next.invariant.2 s₀ q₀ h) c.loop-next-test.false }
 
-pub counts_of-size-requires : goal.counts_of-size-requires
-counts_of-size-requires c = c.requires.0
-
 pub overflow_add-size : goal.overflow_add-size
-overflow_add-size c = omega (arith, few_of (goal.at.overflow_add-size c).After-counts_of-size)
+overflow_add-size c = omega (arith, few_of (goal.at.overflow_add-size c).Start)
 
 pub slot_length-stride-requires : goal.slot_length-stride-requires
-slot_length-stride-requires c = omega (arith, few_of (goal.at.slot_length-stride-requires c).After-counts_of-size)
+slot_length-stride-requires c = omega (arith, few_of (goal.at.slot_length-stride-requires c).Start)
 
 pub overflow_cast-l : goal.overflow_cast-l
 overflow_cast-l c =
-    reads_location (search rules) (location c.requires.0 (on (goal.at.overflow_cast-l c).At-loop-next) c.loop-next-test.true
+    reads_location (search rules) (location c.args.automaton.now.accepted (on (goal.at.overflow_cast-l c).At-loop-next) c.loop-next-test.true
     (place≡ (goal.at.overflow_cast-l c).In-loop-next))
 
 pub offset_bounds-store-at-in-loop-next : goal.offset_bounds-store-at-in-loop-next

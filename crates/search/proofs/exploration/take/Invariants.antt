@@ -12,9 +12,9 @@ use Rattle.search.proofs.exploration.take.Given as goal
 
 abbrev pub invariant-loop-next : goal.invariant-loop-next
 invariant-loop-next l =
-    (l.size ≡ suc (clocks l.automaton)) × (l.stride ≡ slot_length (suc (clocks l.automaton))) ×
-    ((s₀ : List ℤ) (q₀ : ZoneState) → Live l.automaton l.capacity s₀ q₀ l.initial.store l.initial.t
-    → Onward l.automaton l.capacity s₀ q₀ l.next l.store l.t)
+    (l.size ≡ suc (clocks l.automaton.bytes.now)) × (l.stride ≡ slot_length (suc (clocks l.automaton.bytes.now))) ×
+    ((s₀ : List ℤ) (q₀ : ZoneState) → Live l.automaton.bytes.now l.capacity s₀ q₀ l.initial.store l.initial.t
+    → Onward l.automaton.bytes.now l.capacity s₀ q₀ l.next l.store l.t)
 
 abbrev pub decreases-loop-next : goal.decreases-loop-next
 decreases-loop-next l = l.capacity - l.next

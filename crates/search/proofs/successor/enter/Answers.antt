@@ -10,29 +10,29 @@ use Rattle.zones.specs.Settled.{Settled}
 use Rattle.zones.specs.Successors.{enter_of}
 use Rattle.zones.specs.Zones.{set_of, reset_of}
 use Rattle.automata.specs.Automata.{clocks, invariant_at, limits_at, invariant_of}
-use Rattle.automata.proofs.fields.Counting.{clocks≡, invariant≡, few_clocks, asks_invariant}
+use Rattle.automata.proofs.fields.Counting.{few_clocks}
 use Rattle.automata.proofs.fields.Places.{invariant_within}
 use Rattle.search.proofs.successor.Stepping.{one_more, meets, raises, asks_limits, reset_is, reset_enters, raised_ready, raised_lifted}
 use Rattle.search.proofs.successor.Stepping.{entered_none, entered, invariant_scale}
 use Rattle.search.proofs.successor.enter.Goals as goal
-use Rattle.search.proofs.successor.enter.Goals.{After-counts_of-counts, After-reset-cleared}
+use Rattle.search.proofs.successor.enter.Goals.{Start, After-reset-cleared}
 
-few : (c : After-counts_of-counts) → c.counts_of-counts.result.clocks ≤ 8
-few c = few_clocks _ c.counts_of-counts.ensures c.requires.accepted.0
+few : (c : Start) → c.args.automaton.now.clocks ≤ 8
+few c = few_clocks c.args.automaton.now.counted c.args.automaton.now.accepted
 
 -- ---- with the clocks reset
 module _ (c : After-reset-cleared) where
-  size≡ : c.counts_of-counts.result.clocks ≡ clocks c.args.automaton.now
-  size≡ = clocks≡ _ c.counts_of-counts.ensures
+  size≡ : c.args.automaton.now.clocks ≡ clocks c.args.automaton.now.bytes.now
+  size≡ = c.args.automaton.now.counted.clocks≡
 
-  at≡ : c.invariant_at-at.result ≡ invariant_at c.args.automaton.now c.args.l
-  at≡ = invariant≡ _ c.counts_of-counts.ensures _ c.invariant_at-at.ensures
+  at≡ : c.invariant_at-at.result ≡ invariant_at c.args.automaton.now.bytes.now c.args.l
+  at≡ = c.invariant_at-at.ensures
 
-  n≤ : clocks c.args.automaton.now ≤ 8
-  n≤ = c.requires.accepted.0.complete.clocks≤
+  n≤ : clocks c.args.automaton.now.bytes.now ≤ 8
+  n≤ = c.args.automaton.now.accepted.complete.clocks≤
 
   abbrev size : ℕ
-  size = suc (clocks c.args.automaton.now)
+  size = suc (clocks c.args.automaton.now.bytes.now)
 
   cleared : c.reset-cleared.result ≡ reset_of size (set_of c.args.resets) c.args.w
   cleared = reset_is _ n≤ _ (one_more size≡) (10 * counts) (omega arith) (omega arith) _ c.reset-cleared.ensures
@@ -41,21 +41,20 @@ module _ (c : After-reset-cleared) where
   ready = reset_enters _ n≤ _ (one_more size≡) (10 * counts) (omega arith) (omega arith) _ c.reset-cleared.ensures c.requires.sized
 
   -- what the loops over the limits of the invariant ask
-  asks : let n = c.counts_of-counts.result.clocks in
+  asks : let n = c.args.automaton.now.clocks in
       let at = c.invariant_at-at.result in
-      let b = c.args.automaton.now in
+      let b = c.args.automaton.now.bytes.now in
       ((n ≤ 8) × (at + 8 * n ≤ length b)) × (OnScale scale n (limits_at b at) × Sized step_counts (suc n) c.reset-cleared.result)
   unfolding invariant_of
   asks =
-      let a = c.requires.accepted.0 in
-      let hl = c.requires.accepted.1 in
+      let a = c.args.automaton.now.accepted in
+      let hl = c.requires.accepted in
       asks_limits _ _ at≡ size≡ n≤ (invariant_within _ a.complete _ hl)
       (invariant_scale _ a _ hl) (omega arith) ready.0
 
 pub narrow-met-requires : goal.narrow-met-requires
 narrow-met-requires c =
     record {
-      accepted = c.requires.accepted.0;
       few_clocks = (asks (goal.at.narrow-met-requires c).After-reset-cleared).0;
       on_scale = (asks (goal.at.narrow-met-requires c).After-reset-cleared).1;
       settled = λ e. rw (size≡ (goal.at.narrow-met-requires c).After-reset-cleared) (ready (goal.at.narrow-met-requires c).After-reset-cleared).1;
@@ -71,13 +70,13 @@ returns-then-met c =
 
 pub raise-raised-requires : goal.raise-raised-requires
 raise-raised-requires c =
-    record { accepted = c.requires.accepted.0; few_clocks = (asks (goal.at.raise-raised-requires c).After-reset-cleared).0 }
+    record { few_clocks = (asks (goal.at.raise-raised-requires c).After-reset-cleared).0 }
 
 pub reduce_raised-requires : goal.reduce_raised-requires
 unfolding invariant_of
 reduce_raised-requires c =
-    let a = c.requires.accepted.0 in
-    let hl = c.requires.accepted.1 in
+    let a = c.args.automaton.now.accepted in
+    let hl = c.requires.accepted in
     let at = at≡ (goal.at.reduce_raised-requires c).After-reset-cleared in
     let n = size≡ (goal.at.reduce_raised-requires c).After-reset-cleared in
     let met = meets _ _ at n c.narrow-met.ensures in
@@ -102,17 +101,11 @@ returns c =
     c.reduce_raised.ensures
     ∙ ap (enter_of _ _) (cleared (goal.at.returns c).After-reset-cleared)
 
-pub counts_of-counts-requires : goal.counts_of-counts-requires
-counts_of-counts-requires c = c.requires.accepted.0
-
-pub invariant_at-at-requires : goal.invariant_at-at-requires
-invariant_at-at-requires c = let pre = c.requires.accepted in asks_invariant _ c.counts_of-counts.ensures pre.0 pre.1
-
 pub overflow_add-c : goal.overflow_add-c
-overflow_add-c c = omega (arith, few (goal.at.overflow_add-c c).After-counts_of-counts)
+overflow_add-c c = omega (arith, few (goal.at.overflow_add-c c).Start)
 
 pub reset-cleared-requires : goal.reset-cleared-requires
-reset-cleared-requires c = omega (arith, few (goal.at.reset-cleared-requires c).After-counts_of-counts)
+reset-cleared-requires c = omega (arith, few (goal.at.reset-cleared-requires c).Start)
 
 pub overflow_add-c-2 : goal.overflow_add-c-2
-overflow_add-c-2 c = omega (arith, few (goal.at.overflow_add-c-2 c).After-counts_of-counts)
+overflow_add-c-2 c = omega (arith, few (goal.at.overflow_add-c-2 c).Start)

@@ -18,13 +18,13 @@ pub loop-x-init : goal.loop-x-init
 unfolding meet_limits
 loop-x-init c = (omega arith, omega arith, refl, λ e. (e, refl))
 
-pub limits_of-limits-requires : goal.limits_of-limits-requires
-limits_of-limits-requires c = (c.requires.accepted, omega arith, omega arith)
+pub limits-limits-requires : goal.limits-limits-requires
+limits-limits-requires c = (omega arith, omega arith)
 
 pub meet-met-requires : goal.meet-met-requires
 unfolding limits_at
 meet-met-requires c =
-    let limits = c.limits_of-limits.ensures in
+    let limits = c.limits-limits.ensures in
     turn_ready _ _ c.args.w c.loop-x.work c.requires.few_clocks.0 c.requires.on_scale.0
     c.requires.on_scale.1 c.loop-x.x c.loop-x.invariant.0 (omega arith) c.loop-x.invariant.2
     (ap (λ (l : Limits). l.lo) limits) (ap (λ (l : Limits). l.hi) limits) (ap (λ (l : Limits). eqb l.hi no_upper) limits)
@@ -32,7 +32,7 @@ meet-met-requires c =
 pub loop-x-preserved : goal.loop-x-preserved
 unfolding limits_at
 loop-x-preserved c =
-    let limits = c.limits_of-limits.ensures in
+    let limits = c.limits-limits.ensures in
     let below = c.is_below.ensures in (
       omega arith,
       omega arith,
@@ -45,7 +45,7 @@ loop-x-preserved c =
         | else-is_below w ↦
             let s = c.loop-x.invariant.3 (sym w.same-is ∙ e) in (
               s.0,
-              turn_same _ _ _ c.limits_of-limits.result.lo c.limits_of-limits.result.hi (eqb c.limits_of-limits.result.hi no_upper)
+              turn_same _ _ _ c.limits-limits.result.lo c.limits-limits.result.hi (eqb c.limits-limits.result.hi no_upper)
                   c.meet-met.ensures (sym below ∙ w.if-is_below.false) ∙ s.1,
             )
       ],

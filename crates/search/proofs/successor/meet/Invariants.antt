@@ -8,7 +8,7 @@ use Rattle.search.proofs.successor.meet.Given as goal
 
 abbrev pub invariant-loop-x : goal.invariant-loop-x
 invariant-loop-x l =
-    (0 < l.x) × (l.x ≤ l.c + 1) × (l.work ≡ meet_limits (limits_at l.automaton l.at) (l.x - 1) l.initial.work)
+    (0 < l.x) × (l.x ≤ l.c + 1) × (l.work ≡ meet_limits (limits_at l.automaton.bytes.now l.at) (l.x - 1) l.initial.work)
     × (l.same ≡ true → (l.initial.same ≡ true) × (l.work.zone ≡ l.initial.work.zone))
 
 abbrev pub decreases-loop-x : goal.decreases-loop-x

@@ -13,14 +13,14 @@ pub loop-x-init : goal.loop-x-init
 unfolding raise_limits
 loop-x-init c = (omega arith, omega arith, refl)
 
-pub limits_of-requires : goal.limits_of-requires
-limits_of-requires c = (c.requires.accepted, omega arith, omega arith)
+pub limits-requires : goal.limits-requires
+limits-requires c = (omega arith, omega arith)
 
 pub loop-x-preserved : goal.loop-x-preserved
 unfolding limits_at
 loop-x-preserved c =
     let inv = c.loop-x.invariant in
-    let bound = c.at_most.ensures ∙ ap (λ (l : Limits). at_most l.hi) c.limits_of.ensures in
+    let bound = c.at_most.ensures ∙ ap (λ (l : Limits). at_most l.hi) c.limits.ensures in
     (omega arith, omega arith, raise_more _ _ _ inv.0 inv.2 bound)
 
 pub returns : goal.returns

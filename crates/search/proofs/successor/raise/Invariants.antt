@@ -8,7 +8,7 @@ use Rattle.search.proofs.successor.raise.Given as goal
 abbrev pub invariant-loop-x : goal.invariant-loop-x
 invariant-loop-x l =
     (0 < l.x) × (l.x ≤ l.c + 1)
-    × (l.z ≡ (raise_limits (limits_at l.automaton l.at) (l.x - 1) (record { zone = l.initial.z; fraction = l.fraction })).zone)
+    × (l.z ≡ (raise_limits (limits_at l.automaton.bytes.now l.at) (l.x - 1) (record { zone = l.initial.z; fraction = l.fraction })).zone)
 
 abbrev pub decreases-loop-x : goal.decreases-loop-x
 decreases-loop-x l = l.c + 1 - l.x
