@@ -1,9 +1,10 @@
 -- "Cards on the table": document 01's cards A to J, that of document 02, Change 4, and one more, each with a store, and what the search finds and
 -- leaves.
-use Rattle.std.specs.Prelude.{ℕ, ◌/◌, ◌%◌, List, [], ◌∷◌, ◌++◌, ◌≡◌, ℤ, pos, negsuc, length, replicate}
+use Rattle.std.specs.Prelude.{ℕ, ◌/◌, ◌%◌, List, [], ◌∷◌, ◌++◌, ◌≡◌, ℤ, pos, negsuc, length, replicate, Result, Ok, Err}
+use Rattle.automata.specs.declared.refusals.Refusal.{Refusal}
+use Rattle.automata.specs.declared.refusals.Refusal.TheVariants.{CountsOutOfRange, NoSuchClock, StoreFull}
 use Rattle.zones.specs.declared.fraction.Fraction.{Fraction}
 use Rattle.search.specs.declared.verdict.Findings.{Findings}
-use Rattle.search.specs.declared.verdict.Findings.TheVariants.{Found, Refused}
 use Rattle.search.specs.declared.verdict.Holding.TheVariants.{AnyError, Below}
 use Rattle.search.specs.declared.verdict.Verdict.{Verdict}
 use Rattle.search.specs.declared.verdict.Verdict.TheVariants.{Reached, Holds}
@@ -12,7 +13,7 @@ use Rattle.search.specs.Answers.{search_findings, search_store}
 pub record Example : Type 0 where
   pub bytes : List ℕ
   pub store : List ℤ
-  pub findings : Findings
+  pub findings : Result Findings Refusal
   pub after : List ℤ
 
 -- what is claimed of a card
@@ -62,11 +63,12 @@ abbrev first : ℕ → List ℤ
 first hi = kept hi ++ replicate 13 (pos 7)
 
 -- what is found: a verdict, the zones kept, the exact fraction, and the zones dropped, as again and as inside
-abbrev dropping : Verdict → ℕ → Fraction → ℕ → ℕ → Findings
-dropping v zones exact again inside = Found v (record { zones = zones; exact = exact; dropped = record { again = again; inside = inside } })
+abbrev dropping : Verdict → ℕ → Fraction → ℕ → ℕ → Result Findings Refusal
+dropping v zones exact again inside =
+    Ok (record { answer = record { verdict = v; zones = zones }; exact = exact; dropped = record { again = again; inside = inside } })
 
 -- none is dropped
-abbrev found : Verdict → ℕ → Fraction → Findings
+abbrev found : Verdict → ℕ → Fraction → Result Findings Refusal
 found v zones exact = dropping v zones exact 0 0
 
 abbrev over : ℕ → ℕ → Fraction
@@ -110,11 +112,11 @@ examples =
       after = first 5;
     }
     -- I
-    ∷ record { bytes = first_bytes; store = replicate 10 (pos 7); findings = Refused 10; after = replicate 10 (pos 7) }
+    ∷ record { bytes = first_bytes; store = replicate 10 (pos 7); findings = Err StoreFull; after = replicate 10 (pos 7) }
     ∷ record { bytes = first_bytes; store = replicate 11 (pos 7); findings = found (below 1 1) 1 (over 1 1); after = kept 5 }
     -- J, and with n of 9
-    ∷ record { bytes = card 1 (limits 0 5) (limits 0 9) (edge 1 2 7 no_upper); store = lent; findings = Refused 7; after = lent }
-    ∷ record { bytes = card 9 (limits 0 5) (limits 0 9) (edge 1 0 7 no_upper); store = lent; findings = Refused 4; after = lent }
+    ∷ record { bytes = card 1 (limits 0 5) (limits 0 9) (edge 1 2 7 no_upper); store = lent; findings = Err NoSuchClock; after = lent }
+    ∷ record { bytes = card 9 (limits 0 5) (limits 0 9) (edge 1 0 7 no_upper); store = lent; findings = Err CountsOutOfRange; after = lent }
     -- document 02: "a start with limits 0 to 20, one edge back to itself with guard lo 1 that resets, and a target with no edge into it. We print
     -- 1/1", which is the exact fraction; "becomes holds at any error". The reset leads back to the same zone
     ∷ record {

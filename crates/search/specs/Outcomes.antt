@@ -1,6 +1,8 @@
 -- The outcome of a search, as the code has it: the definition's for each of its cases.
 use Rattle.std.specs.Prelude.{ℕ, ◌+◌, ◌*◌, ◌≤◌, Bool, true, false, ◌≡◌, pos, negsuc}
 use Rattle.reachability.specs.Search as definition
+use Rattle.automata.specs.Numbers.{number}
+use Rattle.automata.specs.declared.refusals.Refusal.{Refusal}
 use Rattle.slots.specs.declared.slot.Origin.{Origin}
 use Rattle.zones.specs.Integers.{up}
 use Rattle.search.specs.Store.{origin_of, most_slots}
@@ -18,7 +20,7 @@ came_of o = elim o.parent [ pos j ↦ definition.by_edge j (up o.edge) | negsuc 
 unfoldable pub outcome_of : Outcome → definition.Outcome
 outcome_of Going = definition.going
 outcome_of (Reached o) = definition.ended (definition.reached (came_of o))
-outcome_of (Refused k) = definition.ended (definition.refused k)
+outcome_of (Refused k) = definition.ended (definition.refused (number k))
 
 -- the origin told is one that a slot tells
 abbrev pub Honest : Outcome → Type 0
@@ -57,7 +59,7 @@ abbrev pub reached_by : Turn → Fraction → Origin → Turn
 reached_by t exact o = record { count = t.count; exact = exact; safe = t.safe; dropped = t.dropped; outcome = Reached o }
 
 -- a refusal by k
-abbrev pub refused_by : Turn → Fraction → ℕ → Turn
+abbrev pub refused_by : Turn → Fraction → Refusal → Turn
 refused_by t exact k = record { count = t.count; exact = exact; safe = t.safe; dropped = t.dropped; outcome = Refused k }
 
 -- ---- no more zones were dropped than were offered: one, and of each kept zone at most 256. So no count overflows

@@ -1,5 +1,5 @@
 // The search over zones in the lent store: kept zones are taken oldest first, with edges in order.
-ghost use Rattle.std.specs.Prelude.{◌≡◌, List, ℕ, suc, ◌*◌, ◌≤◌, ◌<◌, length};
+ghost use Rattle.std.specs.Prelude.{◌≡◌, List, ℕ, suc, ◌*◌, ◌≤◌, ◌<◌, length, MatchOption};
 ghost use Rattle.zones.specs.Ranges.{Fits32, Sized, counts, last_counts};
 ghost use Rattle.zones.specs.Settled.{Settled};
 ghost use Rattle.zones.specs.Zones.{set_of};
@@ -20,6 +20,7 @@ use crate::outcome::{Dropped, Outcome, Turn};
 use crate::successor::{enter, narrow};
 use automata::fields::Edge;
 use automata::opened::Automaton;
+use automata::refusals::Refusal;
 use slots::containment::{inside_of, is_within, largest_count};
 use slots::slot::{Origin, decode, encode, keep, slot_length};
 use zones::fraction::Fraction;
@@ -33,24 +34,20 @@ const COUNTS: u64 = 65535;
 // The most slots that are used.
 const SLOTS: usize = 2147483647;
 
-// The number of the oldest kept slot of the same location that contains the new one; `count` where none does.
-fn find(store: &[i32], new: &[i32], count: usize, size: usize) -> usize
+// The number of the oldest kept slot of the same location that contains the new one.
+fn find(store: &[i32], new: &[i32], count: usize, size: usize) -> Option<usize>
     requires { (size ≤ 9) × (count * slot_length size ≤ length store.now) × (slot_length size ≤ length new.now) }
-    ensures { FirstHit size new.now store.now count result }
+    ensures { MatchOption result (FirstHit size new.now store.now count count)
+        (λ j. (j < count) × FirstHit size new.now store.now count j) }
 {
     let stride = slot_length(size);
-    let mut j = 0;
-    let mut at = 0;
-    while j < count {
-        if store[at] == new[0] {
-            if is_within(new, &store[at..], size * size) {
-                return j;
-            }
+    for j in 0..count {
+        let at = j * stride;
+        if store[at] == new[0] && is_within(new, &store[at..], size * size) {
+            return Some(j);
         }
-        j += 1;
-        at += stride;
     }
-    count
+    None
 }
 
 // The new zone is dropped inside the old one, which contains it: the test's thresholds lower both fractions.
@@ -87,27 +84,23 @@ fn judge(
     let exact = w.fraction;
     let numbers = encode(l, origin, z, size);
     let stride = slot_length(size);
-    let j = find(store, &numbers, count, size);
-    if j < count {
+    if let Some(j) = find(store, &numbers, count, size) {
         let at = j * stride;
         return drop_inside(turn, exact, &numbers, &store[at..], size * size);
     }
     if COUNTS < largest_count(&numbers, size * size) {
-        return turn.refused(exact, 9);
+        return turn.refused(exact, Refusal::ErrorCountTooLarge);
     }
     if count < capacity {
         keep(store, count * stride, &numbers, stride);
-        let safe = turn.safe;
-        let dropped = turn.dropped;
         return Turn {
             count: count + 1,
             exact,
-            safe,
-            dropped,
             outcome: Outcome::Going,
+            ..turn
         };
     }
-    turn.refused(exact, 10)
+    turn.refused(exact, Refusal::StoreFull)
 }
 
 // What has entered l is judged.
@@ -131,14 +124,10 @@ fn offer(
         return turn.emptied(exact, safe);
     }
     if l == automaton.target() {
-        let safe = turn.safe;
-        let dropped = turn.dropped;
         return Turn {
-            count: turn.count,
             exact,
-            safe,
-            dropped,
             outcome: Outcome::Reached(origin),
+            ..turn
         };
     }
     judge(automaton, store, turn, capacity, l, origin, work)
@@ -218,9 +207,7 @@ fn expand(
         zone: z,
         fraction: first,
     };
-    let last = automaton.edges;
-    let mut i = 0;
-    while i < last {
+    for i in 0..automaton.edges {
         let edge = automaton.edge(i);
         if edge.from == l {
             let exact = t.exact;
@@ -231,7 +218,6 @@ fn expand(
                 return t;
             }
         }
-        i += 1;
     }
     t
 }
@@ -264,8 +250,7 @@ fn capacity_of(numbers: usize, size: usize) -> usize
     requires { size ≤ 9 }
     ensures { result ≡ capacity_of size numbers }
 {
-    let all = numbers / slot_length(size);
-    if SLOTS < all { SLOTS } else { all }
+    SLOTS.min(numbers / slot_length(size))
 }
 
 // The whole search of an accepted automaton.

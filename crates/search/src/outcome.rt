@@ -3,6 +3,7 @@ ghost use Rattle.std.specs.Prelude.{◌≡◌};
 ghost use Rattle.zones.specs.Ranges.{Fits32};
 ghost use Rattle.search.specs.Outcomes.{outcome_of, has_ended, Few, most_offers, dropped_with, emptied_by, contained_by, refused_by};
 
+use automata::refusals::Refusal;
 use slots::slot::Origin;
 use zones::fraction::{Fraction, after_lowering};
 
@@ -12,7 +13,7 @@ use zones::fraction::{Fraction, after_lowering};
 pub enum Outcome {
     Going,
     Reached(Origin),
-    Refused(u32),
+    Refused(Refusal),
 }
 
 // How many zones were dropped by containment: as again, of which every pair equals that of the kept zone, and as inside.
@@ -29,14 +30,15 @@ impl Dropped {
         ensures { result ≡ dropped_with self equal }
     {
         if equal {
-            return Dropped {
+            Dropped {
                 again: self.again + 1,
-                inside: self.inside,
-            };
-        }
-        Dropped {
-            again: self.again,
-            inside: self.inside + 1,
+                ..self
+            }
+        } else {
+            Dropped {
+                inside: self.inside + 1,
+                ..self
+            }
         }
     }
 }
@@ -56,11 +58,9 @@ impl Turn {
     pub(crate) fn has_ended(self) -> bool
         ensures { result ≡ has_ended (outcome_of self.outcome) }
     {
-        let outcome = self.outcome;
-        match outcome {
+        match self.outcome {
             Outcome::Going => false,
-            Outcome::Reached(o) => true,
-            Outcome::Refused(k) => true,
+            Outcome::Reached(_) | Outcome::Refused(_) => true,
         }
     }
 
@@ -69,14 +69,11 @@ impl Turn {
         requires { Fits32 self.safe × Fits32 below }
         ensures { result ≡ emptied_by self exact below }
     {
-        let safe = after_lowering(self.safe, below);
-        let dropped = self.dropped;
         Turn {
-            count: self.count,
             exact,
-            safe,
-            dropped,
+            safe: after_lowering(self.safe, below),
             outcome: Outcome::Going,
+            ..self
         }
     }
 
@@ -85,30 +82,23 @@ impl Turn {
         requires { Fits32 exact × Fits32 self.safe × Fits32 below × Few most_offers self.dropped }
         ensures { result ≡ contained_by self exact below equal }
     {
-        let lowered = after_lowering(exact, below);
-        let safe = after_lowering(self.safe, below);
-        let dropped = self.dropped.with(equal);
         Turn {
-            count: self.count,
-            exact: lowered,
-            safe,
-            dropped,
+            exact: after_lowering(exact, below),
+            safe: after_lowering(self.safe, below),
+            dropped: self.dropped.with(equal),
             outcome: Outcome::Going,
+            ..self
         }
     }
 
     // The search is refused by k, the exact fraction being as told.
-    pub(crate) fn refused(self, exact: Fraction, k: u32) -> Turn
+    pub(crate) fn refused(self, exact: Fraction, k: Refusal) -> Turn
         ensures { result ≡ refused_by self exact k }
     {
-        let safe = self.safe;
-        let dropped = self.dropped;
         Turn {
-            count: self.count,
             exact,
-            safe,
-            dropped,
             outcome: Outcome::Refused(k),
+            ..self
         }
     }
 }

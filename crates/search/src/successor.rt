@@ -30,8 +30,7 @@ fn meet(automaton: &Automaton, at: usize, c: usize, w: Work, settled: bool) -> M
 {
     let mut work = w;
     let mut same = settled;
-    let mut x = 1;
-    while x <= c {
+    for x in 1..c + 1 {
         let limits = automaton.limits(at, x);
         let hi = limits.hi;
         let there = Bounds {
@@ -49,7 +48,6 @@ fn meet(automaton: &Automaton, at: usize, c: usize, w: Work, settled: bool) -> M
         work.zone[x * 9] = upper;
         work.zone[x] = lower;
         work.fraction = fraction;
-        x += 1;
     }
     Met {
         work,
@@ -76,10 +74,8 @@ fn raise(automaton: &Automaton, at: usize, c: usize, w: Work) -> Work
 {
     let fraction = w.fraction;
     let mut z = w.zone;
-    let mut x = 1;
-    while x <= c {
+    for x in 1..c + 1 {
         z[x * 9] = Pair::at_most(automaton.limits(at, x).hi);
-        x += 1;
     }
     Work { zone: z, fraction }
 }

@@ -1,7 +1,6 @@
 // A verdict, and document 01's numbers for it: both directions, and which numbers are those of a verdict.
 ghost use Rattle.std.specs.Prelude.{◌≡◌};
-ghost use Rattle.search.specs.Answers.{answer_in};
-ghost use Rattle.search.specs.Verdicts.{holding_of, numbers_of, verdict_of, sound_numbers};
+ghost use Rattle.search.specs.Verdicts.{fraction_of, holding_of, numbers_of, verdict_of, sound_numbers};
 
 use crate::outcome::Dropped;
 use zones::fraction::{Fraction, gcd};
@@ -20,41 +19,22 @@ pub enum Verdict {
     Holds(Holding),
 }
 
-// A verdict with the number of zones kept, or the number of a refusal: what is printed, and what a cache gives back.
+// A verdict with the number of zones kept: what is printed, and what a cache gives back.
 #[derive(Clone, Copy)]
-pub enum Answer {
-    Found(Verdict, u32),
-    Refused(u32),
+pub struct Answer {
+    pub verdict: Verdict,
+    pub zones: u32,
 }
 
-// What stands beside a verdict of the bare search: the number of zones kept, the exact fraction, and the zones dropped.
+// What the bare search finds: an answer, which has the safe fraction, and beside it the exact fraction and the zones dropped.
 #[derive(Clone, Copy)]
-pub struct Figures {
-    pub zones: u32,
+pub struct Findings {
+    pub answer: Answer,
     pub exact: Fraction,
     pub dropped: Dropped,
 }
 
-// What the bare search finds: a verdict, which has the safe fraction, with its figures, or the number of a refusal.
-#[derive(Clone, Copy)]
-pub enum Findings {
-    Found(Verdict, Figures),
-    Refused(u32),
-}
-
-impl Findings {
-    // The answer alone.
-    pub fn answer(self) -> Answer
-        ensures { result ≡ answer_in self }
-    {
-        match self {
-            Findings::Found(v, x) => Answer::Found(v, x.zones),
-            Findings::Refused(k) => Answer::Refused(k),
-        }
-    }
-}
-
-// A verdict as numbers: its kind, and the n and d of its fraction.
+// A verdict as numbers: its kind, as a record's byte, and the n and d of its fraction.
 #[derive(Clone, Copy)]
 pub struct Numbers {
     pub kind: u8,
@@ -67,72 +47,76 @@ const REACHED: u8 = 0;
 const HOLDS: u8 = 1;
 
 // Up to which error a fraction says that it holds.
-pub(crate) fn limit(f: Fraction) -> Holding
-    ensures { result ≡ holding_of f }
-{
-    if f.d == 0 {
-        Holding::AnyError
-    } else {
-        Holding::Below(f)
+impl From<Fraction> for Holding {
+    ghost from_gives = { λ f h. h ≡ holding_of f };
+
+    fn from(f: Fraction) -> Holding {
+        if f.d == 0 {
+            Holding::AnyError
+        } else {
+            Holding::Below(f)
+        }
     }
 }
 
-fn holding_numbers(h: Holding) -> Numbers
-    ensures { result ≡ numbers_of (Verdict.Holds h) }
-{
-    match h {
-        Holding::AnyError => Numbers {
-            kind: HOLDS,
-            n: 1,
-            d: 0,
-        },
-        Holding::Below(f) => Numbers {
-            kind: HOLDS,
-            n: f.n,
-            d: f.d,
-        },
+// The fraction below which it holds: any error counts as 1/0.
+impl From<Holding> for Fraction {
+    ghost from_gives = { λ h f. f ≡ fraction_of h };
+
+    fn from(h: Holding) -> Fraction {
+        match h {
+            Holding::AnyError => Fraction { n: 1, d: 0 },
+            Holding::Below(f) => f,
+        }
     }
 }
 
 // The numbers of a verdict.
-pub fn numbers_of(v: Verdict) -> Numbers
-    ensures { result ≡ numbers_of v }
-{
-    match v {
-        Verdict::Reached => Numbers {
-            kind: REACHED,
-            n: 0,
-            d: 0,
-        },
-        Verdict::Holds(h) => holding_numbers(h),
+impl From<Verdict> for Numbers {
+    ghost from_gives = { λ v x. x ≡ numbers_of v };
+
+    fn from(v: Verdict) -> Numbers {
+        match v {
+            Verdict::Reached => Numbers {
+                kind: REACHED,
+                n: 0,
+                d: 0,
+            },
+            Verdict::Holds(h) => {
+                let f = Fraction::from(h);
+                Numbers {
+                    kind: HOLDS,
+                    n: f.n,
+                    d: f.d,
+                }
+            }
+        }
     }
 }
 
 // The verdict that numbers say.
-pub fn verdict_of(x: Numbers) -> Verdict
-    ensures { result ≡ verdict_of x }
-{
-    if x.kind == REACHED {
-        return Verdict::Reached;
+impl From<Numbers> for Verdict {
+    ghost from_gives = { λ x v. v ≡ verdict_of x };
+
+    fn from(x: Numbers) -> Verdict {
+        if x.kind == REACHED {
+            return Verdict::Reached;
+        }
+        Verdict::Holds(Holding::from(Fraction { n: x.n, d: x.d }))
     }
-    Verdict::Holds(limit(Fraction { n: x.n, d: x.d }))
 }
 
-// Whether the numbers are those of a verdict.
-pub fn numbers_sound(x: Numbers) -> bool
-    ensures { result ≡ sound_numbers x }
-{
-    if x.kind == REACHED {
-        if x.n == 0 {
-            return x.d == 0;
+impl Numbers {
+    // Whether the numbers are those of a verdict.
+    pub fn are_sound(self) -> bool
+        ensures { result ≡ sound_numbers self }
+    {
+        if self.kind == REACHED {
+            return self.n == 0 && self.d == 0;
         }
-        return false;
+        if self.kind == HOLDS {
+            return self.n != 0 && gcd(self.n, self.d) == 1;
+        }
+        false
     }
-    if x.kind != HOLDS {
-        return false;
-    }
-    if x.n == 0 {
-        return false;
-    }
-    gcd(x.n, x.d) == 1
 }

@@ -7,14 +7,13 @@ use mathlib.Core.Logic.{⊎_elim}
 use borrow.Author.Tests.{eq-eqb, ne_eqb}
 use lib.IntN.{ℤ}
 use lib.ListN.{length}
+use Rattle.std.specs.Prelude.{Result, Ok, Err}
 use native.Mathlib.Nat.{eq-zero-or-pos}
 use native.Mathlib.Omega.{arith}
 use Rattle.zones.specs.declared.fraction.Fraction.{Fraction}
 use Rattle.search.specs.declared.outcome.Dropped.{Dropped}
 use Rattle.search.specs.declared.outcome.Turn.{Turn}
 use Rattle.search.specs.declared.verdict.Findings.{Findings}
-use Rattle.search.specs.declared.verdict.Findings.TheVariants.{Found, Refused}
-use Rattle.search.specs.declared.verdict.Figures.{Figures}
 use Rattle.search.specs.declared.verdict.Holding.{Holding}
 use Rattle.search.specs.declared.verdict.Verdict.TheVariants.{Holds}
 use Rattle.search.specs.declared.verdict.Verdict.TheVariants as verdict
@@ -24,7 +23,10 @@ use Rattle.search.specs.declared.outcome.Outcome.TheVariants as outcome
 use Rattle.slots.specs.declared.slot.Origin.{Origin}
 use Rattle.search.specs.declared.verdict.Holding.TheVariants.{AnyError, Below}
 use Rattle.automata.specs.Automata.{clocks}
+use Rattle.automata.specs.Numbers.{number, named}
 use Rattle.automata.specs.Refusals.{refusal_of}
+use Rattle.automata.specs.declared.refusals.Refusal.{Refusal}
+use Rattle.automata.proofs.accepting.Numbering.{above, named_number}
 use Rattle.search.specs.Exploring.{Shown}
 use Rattle.search.specs.Outcomes.{outcome_of}
 use Rattle.search.specs.Instance.{fractions_of, zones_of}
@@ -32,7 +34,7 @@ use Rattle.automata.specs.Semantics.{system_of}
 use Rattle.search.specs.Store.{most_slots, capacity_of}
 use Rattle.search.specs.Verdicts.{holding_of}
 use Rattle.zones.specs.Fractions.{lowest_terms}
-use Rattle.search.specs.Answers.{figures_of, findings_of, state_findings, state_of, search_findings, search_store}
+use Rattle.search.specs.Answers.{found_of, findings_of, state_findings, state_of, search_findings, search_store}
 use Rattle.reachability.proofs.Keeps.{search_room}
 use Rattle.search.proofs.exploration.Stores.{capacity_small}
 
@@ -46,19 +48,19 @@ holding_below f e = rw (holding_of, ne_eqb f.d 0 e) refl
 
 -- ---- what is found, by the outcome x with which the search stopped
 module _ {x : Outcome} (exact safe : Fraction) (zones : ℕ) (d : Dropped) where
-  pub finds_holding : x ≡ Going → {h : Holding} {y : Figures} → h ≡ holding_of (lowest_terms safe) → y ≡ figures_of exact zones d →
-      Found (Holds h) y ≡ findings_of (outcome_of x) (fractions_of exact safe) zones d
+  pub finds_holding : x ≡ Going → {h : Holding} {y : Findings} → h ≡ holding_of (lowest_terms safe) → y ≡ found_of (Holds h) exact zones d →
+      Ok y ≡ findings_of (outcome_of x) (fractions_of exact safe) zones d
   unfolding outcome_of findings_of
-  finds_holding e f g = rw e (λ i. Found (Holds (f i)) (g i))
+  finds_holding e f g = rw e (ap Ok (g ∙ (λ i. found_of (Holds (f i)) exact zones d)))
 
-  pub finds_reached : {o : Origin} → x ≡ Reached o → {y : Figures} → y ≡ figures_of exact zones d →
-      Found verdict.Reached y ≡ findings_of (outcome_of x) (fractions_of exact safe) zones d
+  pub finds_reached : {o : Origin} → x ≡ Reached o → {y : Findings} → y ≡ found_of verdict.Reached exact zones d →
+      Ok y ≡ findings_of (outcome_of x) (fractions_of exact safe) zones d
   unfolding outcome_of findings_of
-  finds_reached e g = rw e (ap (Found verdict.Reached) g)
+  finds_reached e g = rw e (ap Ok g)
 
-  pub finds_refused : {k : ℕ} → x ≡ outcome.Refused k → Refused k ≡ findings_of (outcome_of x) (fractions_of exact safe) zones d
+  pub finds_refused : {k : Refusal} → x ≡ outcome.Refused k → Err k ≡ findings_of (outcome_of x) (fractions_of exact safe) zones d
   unfolding outcome_of findings_of
-  finds_refused e = rw e refl
+  finds_refused {k = k} e = rw e (ap Err (sym (named_number k)))
 
 -- ---- what is found, by whether the bytes are refused
 module _ (b : List ℕ) where
@@ -66,22 +68,23 @@ module _ (b : List ℕ) where
   unfolding search_findings
   found_accepted e amount = rw (search_findings, eq-eqb (refusal_of b) 0 e) refl
 
-  pub found-refused : 0 < refusal_of b → (amount : ℕ) → search_findings b amount ≡ Refused (refusal_of b)
+  pub found-refused : 0 < refusal_of b → (amount : ℕ) → search_findings b amount ≡ Err (named (refusal_of b))
   unfolding search_findings
   found-refused p amount = rw (search_findings, ne_eqb (refusal_of b) 0 (λ e. absurd (omega arith))) refl
 
-  pub by_refusal : (amount : ℕ) (P : Findings → Type 0) → (refusal_of b ≡ 0 → P (state_findings (state_of b amount))) →
-      (0 < refusal_of b → P (Refused (refusal_of b))) → P (search_findings b amount)
+  pub by_refusal : (amount : ℕ) (P : Result Findings Refusal → Type 0) → (refusal_of b ≡ 0 → P (state_findings (state_of b amount))) →
+      (0 < refusal_of b → P (Err (named (refusal_of b)))) → P (search_findings b amount)
   by_refusal amount P f g = ⊎_elim (λ e. rw (found_accepted e amount) (f e)) (λ p. rw (found-refused p amount) (g p)) (eq-zero-or-pos (refusal_of b))
 
 -- ---- refused at reading
-module _ (b : List ℕ) {k : ℕ} (e : k ≡ refusal_of b) (h : k ≡ 0 → ⊥) where
-  pub refused_findings : (amount : ℕ) → Refused k ≡ search_findings b amount
-  refused_findings amount = ap Refused e ∙ sym (found-refused b (omega arith) amount)
+module _ (b : List ℕ) (k : Refusal) (e : number k ≡ refusal_of b) where
+  pub refused_findings : (amount : ℕ) → Err k ≡ search_findings b amount
+  refused_findings amount =
+      ap Err (sym (named_number k) ∙ ap named e) ∙ sym (found-refused b (omega (arith, e, above k)) amount)
 
   pub refused_store : (s : List ℤ) → s ≡ search_store b s
   unfolding search_store
-  refused_store s = rw (search_store, ne_eqb (refusal_of b) 0 (λ z. h (e ∙ z))) refl
+  refused_store s = rw (search_store, ne_eqb (refusal_of b) 0 (λ z. absurd (omega (arith, e, above k)))) refl
 
 -- ---- searched
 module _ (b : List ℕ) (ok : refusal_of b ≡ 0) (s s' : List ℤ) (t : Turn) (h : Shown (suc (clocks b)) s (state_of b (length s)) s' t) where
@@ -90,7 +93,7 @@ module _ (b : List ℕ) (ok : refusal_of b ≡ 0) (s s' : List ℤ) (t : Turn) (
       let c = capacity_of (suc (clocks b)) (length s) in
       omega (arith, h.number, search_room (system_of b) (zones_of b) c, capacity_small (suc (clocks b)) (length s))
 
-  pub searched_findings : {r : Findings} → r ≡ findings_of (outcome_of t.outcome) (fractions_of t.exact t.safe) t.count t.dropped →
+  pub searched_findings : {r : Result Findings Refusal} → r ≡ findings_of (outcome_of t.outcome) (fractions_of t.exact t.safe) t.count t.dropped →
       r ≡ search_findings b (length s)
   unfolding state_findings
   searched_findings e =

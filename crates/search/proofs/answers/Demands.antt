@@ -6,6 +6,7 @@ use mathlib.Core.List.{List}
 use mathlib.Core.Logic.{⊎_elim}
 use borrow.Author.Tests.{eq-eqb, ne_eqb}
 use lib.ListN.{length}
+use Rattle.std.specs.Prelude.{Ok}
 use native.Mathlib.Nat.{eq-zero-or-pos, mul-pos}
 use native.Mathlib.Omega.{arith}
 use Rattle.zones.specs.declared.fraction.Fraction.{Fraction}
@@ -15,8 +16,7 @@ use Rattle.zones.proofs.fractions.Lowest.{lowest_equal, lowest_positive, lowest_
 use Rattle.zones.proofs.fractions.Thresholds.{below_at_most}
 use Rattle.automata.specs.Automata.{clocks}
 use Rattle.automata.specs.Refusals.{refusal_of}
-use Rattle.search.specs.Demands.{Robust, KeptExact, KeptContains, KeptBetween, Ordered}
-use Rattle.search.specs.declared.verdict.Answer.TheVariants.{Found}
+use Rattle.search.specs.Demands.{Robust, RobustVerdict, KeptExact, KeptContains, KeptBetween, Ordered}
 use Rattle.search.specs.declared.verdict.Verdict.TheVariants.{Holds}
 use Rattle.search.specs.Instance.{zones_of, meaning_of, search_of}
 use Rattle.automata.specs.Semantics.{system_of}
@@ -69,7 +69,7 @@ module _ (b : List ℕ) (c : ℕ) (ok : refusal_of b ≡ 0) where
       (below_at_most _ _ (λ s e s> t. below-to_lowest y e s (tight s e s> (below-from_lowest x e s t))))
 
   state_robust : Robust b (answer_in (state_findings (search_of b c)))
-  unfolding state_findings findings_of answer_in Robust
+  unfolding state_findings findings_of answer_in Robust RobustVerdict
   state_robust = go (search_of b c).outcome refl
     where
       go : (x : Outcome) → (search_of b c).outcome ≡ x →
@@ -81,8 +81,8 @@ module _ (b : List ℕ) (c : ℕ) (ok : refusal_of b ≡ 0) where
 
 -- the exact fraction is right of all runs, too: of a search that went to its end, a verdict with it, as was filed before there was a safe one
 pub exact_robust : (b : List ℕ) (c : ℕ) → refusal_of b ≡ 0 → (search_of b c).outcome ≡ going → (zones : ℕ) →
-    Robust b (Found (Holds (holding_of (lowest_terms (search_of b c).frac.exact))) zones)
-unfolding Robust
+    Robust b (Ok (record { verdict = Holds (holding_of (lowest_terms (search_of b c).frac.exact)); zones = zones }))
+unfolding Robust RobustVerdict
 exact_robust b c ok e zones s t l d =
     holds (system_of b) (zones_of b) (meaning_of b) 1 0 (laws b (accepted b ok)) c e s t l
     (l, tight b c ok s t l (given_below (search_of b c).frac.exact (exact_positive b c ok) s t d))

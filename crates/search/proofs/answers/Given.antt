@@ -5,6 +5,7 @@ use mathlib.Core.Path.{◌≡◌, refl, sym, ap, ◌∙◌, subst}
 use mathlib.Core.List.{List}
 use mathlib.Core.Logic.{◌⊎◌, inl, inr, ⊎_elim}
 use lib.ListN.{length}
+use Rattle.std.specs.Prelude.{Result, Err}
 use native.Mathlib.Nat.{eq-zero-or-pos}
 use native.Mathlib.Omega.{arith}
 use Rattle.zones.specs.declared.fraction.Fraction.{Fraction}
@@ -12,17 +13,20 @@ use Rattle.zones.specs.declared.pair.Pair.{Pair}
 use Rattle.zones.specs.Fractions.{lowest_terms}
 use Rattle.zones.specs.Ranges.{Fits32}
 use Rattle.zones.proofs.fractions.Lowest.{lowest_positive, lowest_coprime, lowest_n_le, lowest_d_le}
-use Rattle.search.specs.declared.verdict.Answer.TheVariants as answer
 use Rattle.search.specs.declared.verdict.Findings.{Findings}
-use Rattle.search.specs.declared.verdict.Findings.TheVariants.{Refused}
 use Rattle.automata.specs.Accepted.{Accepted}
 use Rattle.automata.specs.Automata.{clocks}
+use Rattle.automata.specs.Numbers.{named}
 use Rattle.automata.specs.Refusals.{refusal_of}
+use Rattle.automata.specs.declared.refusals.Refusal.{Refusal}
+use Rattle.automata.specs.declared.refusals.Refusal.TheVariants.{ErrorCountTooLarge, StoreFull}
+use Rattle.automata.proofs.accepting.Numbering.{named_refusal}
 use Rattle.search.specs.Exploring.{SoundState}
 use Rattle.search.specs.Instance.{Fractions, ZoneNode, ZoneState, zones_of, search_of}
-use Rattle.search.specs.Given.{Terms, Given, Beside, Lasting, LastingFindings}
+use Rattle.search.specs.Given.{Terms, Lowest, Given, Under, Beside, Lasting, LastingFindings}
 use Rattle.search.specs.Promised.{Promised}
-use Rattle.reachability.specs.Search.{Result, empty, zone, Outcome, going, ended, reached, refused, first_node, child, offer}
+use Rattle.reachability.specs.Search as reachability
+use Rattle.reachability.specs.Search.{empty, zone, Outcome, going, ended, reached, refused, first_node, child, offer}
 use Rattle.automata.specs.Semantics.{system_of}
 use Rattle.search.specs.Store.{most_slots, capacity_of}
 use Rattle.search.specs.Verdicts.{fraction_of, holding_of}
@@ -49,6 +53,9 @@ Known going = Unit {0}
 Known (ended (reached c)) = Unit {0}
 Known (ended (refused k)) = (k ≡ 9) ⊎ (k ≡ 10)
 
+named_known : (k : ℕ) → Known (ended (refused k)) → (named k ≡ ErrorCountTooLarge) ⊎ (named k ≡ StoreFull)
+named_known k = ⊎_elim (λ e. inl (ap named e)) (λ e. inr (ap named e))
+
 module _ (b : List ℕ) (c : ℕ) where
   judged_known : {q : ZoneState} {k : ZoneNode} {f : Fractions} {q' : ZoneState} → Judged (system_of b) (zones_of b) c q k f q' → Known q'.outcome
   judged_known (was_target e) = tt
@@ -57,7 +64,7 @@ module _ (b : List ℕ) (c : ℕ) where
   judged_known (was_kept e g h i) = tt
   judged_known (was_full e g h i) = inr refl
 
-  offer_known : (q : ZoneState) (n : List Pair → ZoneNode) (r : Result (List Pair) Fractions) →
+  offer_known : (q : ZoneState) (n : List Pair → ZoneNode) (r : reachability.Result (List Pair) Fractions) →
       Known (offer (system_of b) (zones_of b) c q n r).outcome
   unfolding offer
   offer_known q n (empty f) = tt
@@ -94,31 +101,31 @@ module _ (b : List ℕ) (ok : refusal_of b ≡ 0) (amount : ℕ) where
   exact_terms : Terms (lowest_terms (state_of b amount).frac.exact)
   exact_terms = lowest (state_of b amount).frac.exact (exact_positive b c ok) (final_sound b (accepted b ok) c).exact
 
-  abbrev found : Findings
+  abbrev found : Result Findings Refusal
   found =
       findings_of (state_of b amount).outcome (state_of b amount).frac (length (state_of b amount).kept) (dropped_in (state_of b amount))
 
   state_given : Given b (answer_in (state_findings (state_of b amount)))
-  unfolding state_findings findings_of answer_in Given
+  unfolding state_findings findings_of answer_in Given Lowest
   state_given = go (state_of b amount).outcome refl
     where
       go : (x : Outcome) → (state_of b amount).outcome ≡ x → Given b (answer_in found)
-      go going e = rw e (safe_terms, ap holding_of (sym (given_fraction (state_of b amount).frac.safe (safe_positive b c ok))), few)
-      go (ended (reached c)) e = rw e few
-      go (ended (refused k)) e = rw e (inr (ok, subst Known e (final_known b c)))
+      go going e = rw e ((safe_terms, ap holding_of (sym (given_fraction (state_of b amount).frac.safe (safe_positive b c ok)))), few)
+      go (ended (reached c)) e = rw e (tt, few)
+      go (ended (refused k)) e = rw e (inr (ok, named_known k (subst Known e (final_known b c))))
 
   state_beside : Beside (state_findings (state_of b amount))
-  unfolding state_findings findings_of Beside
+  unfolding state_findings findings_of Beside Under
   state_beside = go (state_of b amount).outcome refl
     where
       go : (x : Outcome) → (state_of b amount).outcome ≡ x → Beside found
       go going e = rw e (exact_terms, given_ordered b c ok)
-      go (ended (reached c)) e = rw e exact_terms
+      go (ended (reached c)) e = rw e (exact_terms, tt)
       go (ended (refused k)) e = rw e tt
 
 given : (b : List ℕ) (amount : ℕ) → Given b (search_answer b amount)
 unfolding answer_in Given
-given b amount = by_refusal b amount (λ r. Given b (answer_in r)) (λ e. state_given b e amount) (λ p. inl (refl, p, refusal_small b))
+given b amount = by_refusal b amount (λ r. Given b (answer_in r)) (λ e. state_given b e amount) (λ p. inl (named_refusal b p, rw (named_refusal b p) p, rw (named_refusal b p) (refusal_small b)))
 
 beside : (b : List ℕ) (amount : ℕ) → Beside (search_findings b amount)
 unfolding Beside
@@ -138,7 +145,7 @@ longer_same b amount amount' h =
     (capacity_more (suc (clocks b)) amount amount' h)
 
 -- ---- so what is found is the same at every length that lets the search finish
-full_findings : (b : List ℕ) (amount : ℕ) → Full b amount → state_findings (state_of b amount) ≡ Refused 10
+full_findings : (b : List ℕ) (amount : ℕ) → Full b amount → state_findings (state_of b amount) ≡ Err StoreFull
 unfolding state_findings findings_of
 full_findings b amount e = rw (state_findings, e) refl
 
@@ -155,14 +162,14 @@ finds_once b amount h amount' g = ⊎_elim
     (eq-zero-or-pos (refusal_of b))
 
 -- and so is the answer
-answer-refused : (r : Findings) (k : ℕ) → r ≡ Refused k → answer_in r ≡ answer.Refused k
+answer-refused : (r : Result Findings Refusal) (k : Refusal) → r ≡ Err k → answer_in r ≡ Err k
 unfolding answer_in
 answer-refused r k e = rw e refl
 
 pub lasting : (b : List ℕ) (amount : ℕ) → Lasting b (search_answer b amount)
 unfolding Lasting LastingFindings
 lasting b amount h amount' g =
-    ap answer_in (finds_once b amount (λ e. h (answer-refused _ 10 e)) amount' (λ e. g (answer-refused _ 10 e)))
+    ap answer_in (finds_once b amount (λ e. h (answer-refused _ StoreFull e)) amount' (λ e. g (answer-refused _ StoreFull e)))
 
 -- ---- the whole promise, of the definition
 pub promised : (b : List ℕ) (amount : ℕ) → Promised b amount (search_findings b amount)

@@ -9,12 +9,12 @@ use borrow.Author.Tests.{le-leb, lt-leb, eq-eqb, ne_eqb}
 use lib.Dec.{eqb}
 use native.Mathlib.Omega.{arith}
 use Rattle.zones.specs.Fractions.{gcd_of}
-use Rattle.search.specs.declared.verdict.Answer.TheVariants.{Found}
+use Rattle.std.specs.Prelude.{Ok}
 use Rattle.search.specs.declared.verdict.Holding.{Holding}
 use Rattle.search.specs.declared.verdict.Numbers.{Numbers}
 use Rattle.search.specs.declared.verdict.Verdict.{Verdict}
 use Rattle.search.specs.declared.verdict.Verdict.TheVariants.{Reached, Holds}
-use Rattle.search.specs.Given.{Given}
+use Rattle.search.specs.Given.{Lowest, Given}
 use Rattle.search.specs.Verdicts.{fraction_of, holding_of, numbers_of, verdict_of, sound_numbers}
 
 -- ---- numbers
@@ -48,16 +48,16 @@ module _ (x : Numbers) where
   holds_terms e g = rw (sound_numbers, ne_eqb x.kind 0 (λ z. absurd (omega arith)), eq-eqb x.kind 1 e, le-leb 1 x.n (omega arith)) refl
 
 -- ---- a verdict that is given out
-pub numbers-back : (b : List ℕ) (v : Verdict) (zones : ℕ) → Given b (Found v zones) → verdict_of (numbers_of v) ≡ v
-unfolding Given numbers_of verdict_of
+pub numbers-back : (b : List ℕ) (v : Verdict) (zones : ℕ) → Given b (Ok (record { verdict = v; zones = zones })) → verdict_of (numbers_of v) ≡ v
+unfolding Given Lowest numbers_of verdict_of
 numbers-back b Reached zones g = refl
-numbers-back b (Holds h) zones g = ap Holds (sym g.1)
+numbers-back b (Holds h) zones g = ap Holds (sym g.0.1)
 
-pub numbers_are_sound : (b : List ℕ) (v : Verdict) (zones : ℕ) → Given b (Found v zones) → sound_numbers (numbers_of v) ≡ true
-unfolding Given numbers_of sound_numbers
+pub numbers_are_sound : (b : List ℕ) (v : Verdict) (zones : ℕ) → Given b (Ok (record { verdict = v; zones = zones })) → sound_numbers (numbers_of v) ≡ true
+unfolding Given Lowest numbers_of sound_numbers
 numbers_are_sound b Reached zones g = refl
 numbers_are_sound b (Holds h) zones g =
-    rw (le-leb 1 (fraction_of h).n g.0.least, eq-eqb (gcd_of (fraction_of h).n (fraction_of h).d) 1 g.0.lowest) refl
+    rw (le-leb 1 (fraction_of h).n g.0.0.least, eq-eqb (gcd_of (fraction_of h).n (fraction_of h).d) 1 g.0.0.lowest) refl
 
 -- its n, d and zone count take four bytes, its kind one
 pub record Short (x : Numbers) (zones : ℕ) : Type 0 where
@@ -66,7 +66,7 @@ pub record Short (x : Numbers) (zones : ℕ) : Type 0 where
   pub d< : x.d < 4294967296
   pub zones< : zones < 4294967296
 
-pub numbers-short : (b : List ℕ) (v : Verdict) (zones : ℕ) → Given b (Found v zones) → Short (numbers_of v) zones
-unfolding Given numbers_of
-numbers-short b Reached zones g = record { kind< = omega arith; n< = omega arith; d< = omega arith; zones< = omega arith }
-numbers-short b (Holds h) zones g = record { kind< = omega arith; n< = g.0.n<; d< = g.0.d<; zones< = omega (arith, g.2) }
+pub numbers-short : (b : List ℕ) (v : Verdict) (zones : ℕ) → Given b (Ok (record { verdict = v; zones = zones })) → Short (numbers_of v) zones
+unfolding Given Lowest numbers_of
+numbers-short b Reached zones g = record { kind< = omega arith; n< = omega arith; d< = omega arith; zones< = omega (arith, g.1) }
+numbers-short b (Holds h) zones g = record { kind< = omega arith; n< = g.0.0.n<; d< = g.0.0.d<; zones< = omega (arith, g.1) }

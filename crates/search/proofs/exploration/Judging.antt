@@ -22,14 +22,19 @@ use Rattle.search.specs.declared.outcome.Outcome.TheVariants.{Reached}
 use Rattle.search.specs.declared.outcome.Turn.{Turn}
 use Rattle.search.specs.Outcomes.{came_of, outcome_of, Few, most_offers, dropped_with, emptied_by, contained_by, kept_by, reached_by, refused_by}
 use Rattle.automata.specs.Accepted.{Accepted}
+use Rattle.automata.specs.Numbers.{number}
+use Rattle.automata.specs.declared.refusals.Refusal.{Refusal}
+use Rattle.automata.specs.declared.refusals.Refusal.TheVariants.{ErrorCountTooLarge, StoreFull}
 use Rattle.automata.specs.Automata.{clocks, locations, target}
+use Rattle.automata.specs.Opened.{Counted}
+use Rattle.automata.proofs.fields.Counting.{size≡}
 use Rattle.search.specs.Exploring.{FirstHit, SoundNode, SoundState, Shown, Live, Continues, Led, node_at}
 use Rattle.search.specs.Exploring as exploring
 use Rattle.search.specs.Instance.{Fractions, fractions_of, ZoneState, ZoneNode, result_of, lowered_inside, overcounted, zones_of}
 use Rattle.reachability.specs.Search as defined
 use Rattle.reachability.specs.Search.{Came, first_zone, by_edge, reached, refused, ended, Nth, none, find, dropping, judge, offer}
 use Rattle.automata.specs.Semantics.{system_of}
-use Rattle.slots.specs.Slots.{slot_length, spare, p_at, head_of, slot_of, zone_of}
+use Rattle.slots.specs.Slots.{slot_length, spare, p_at, head_of, slot_of, zone_of, Framed}
 use Rattle.slots.specs.Containing.{inside_slots, equal_slots, largest_slot, Readable, ComparableSlots}
 use Rattle.slots.specs.declared.slot.Origin.{Origin}
 use Rattle.search.specs.Store.{origin_of, store_of}
@@ -140,7 +145,7 @@ module _ (b : List ℕ) (a : Accepted b) where
     shows {s'} {r} was e = subst (λ (x : ZoneState). Shown n s₀ x s' r) (sym (computes (system_of b) (zones_of b) was)) e
 
     -- a state with the same zones, refused by k
-    stopped_by : {k : ℕ} → Shown n s₀ (defined.stopped q (fractions_of w.fraction turn.safe) (refused k)) s (refused_by turn w.fraction k)
+    stopped_by : {k : Refusal} → Shown n s₀ (defined.stopped q (fractions_of w.fraction turn.safe) (refused (number k))) s (refused_by turn w.fraction k)
     unfolding outcome_of
     stopped_by = record {
       number = d.shown.number;
@@ -202,7 +207,7 @@ module _ (b : List ℕ) (a : Accepted b) where
       alone : find (system_of b) (zones_of b) q.kept l w.zone ≡ none
       alone = hit_none b n≤ l o w.zone q.kept s₀ rest j first (omega (arith, d.shown.number))
 
-      judged_big : counts < largest_count n w.zone → Shown n s₀ after s (refused_by turn w.fraction 9)
+      judged_big : counts < largest_count n w.zone → Shown n s₀ after s (refused_by turn w.fraction ErrorCountTooLarge)
       unfolding overcounted
       judged_big g = shows (was_big off alone (lt-ltb counts (largest_count n w.zone) g)) stopped_by
 
@@ -211,7 +216,7 @@ module _ (b : List ℕ) (a : Accepted b) where
         unfolding overcounted
         counted = le-ltb counts (largest_count n w.zone) small
 
-        judged_full : capacity ≤ turn.count → Shown n s₀ after s (refused_by turn w.fraction 10)
+        judged_full : capacity ≤ turn.count → Shown n s₀ after s (refused_by turn w.fraction StoreFull)
         judged_full r = shows (was_full off alone counted (omega (arith, d.shown.number))) stopped_by
 
         judged_kept : turn.count < capacity → {at : ℕ} {s' : List ℤ} → at ≡ turn.count * slot_length n →
@@ -242,6 +247,20 @@ pub record Entered (b : List ℕ) (l : ℕ) (o : Origin) (w : Work) (capacity : 
   pub progress : exploring.Going b capacity s turn
   pub few : Few most_offers turn.dropped
   pub size≡ : size ≡ suc (clocks b)
+
+-- by what `judge` requires
+pub enters : {b : List ℕ} {n m e : ℕ} {l : ℕ} {o : Origin} {w : Work} {capacity : ℕ} {turn : Turn} {s : List ℤ} → Accepted b → Counted b n m e →
+    (l < locations b) × (l ≡ target b → ⊥) → exploring.Going b capacity s turn × Few most_offers turn.dropped →
+    Sized last_counts (suc (clocks b)) w × Framed (suc (clocks b)) w.zone → Entered b l o w capacity turn s (n + 1)
+enters a k there going sized = record {
+  accepted = a;
+  location = there.0;
+  away = there.1;
+  sized = sized.0;
+  progress = going.0;
+  few = going.1;
+  size≡ = size≡ k;
+}
 
 module _ {b : List ℕ} {l : ℕ} {o : Origin} {w : Work} {capacity : ℕ} {turn : Turn} {s : List ℤ} {size : ℕ}
     (entered : Entered b l o w capacity turn s size) where
@@ -321,11 +340,11 @@ module _ {b : List ℕ} {l : ℕ} {o : Origin} {w : Work} {capacity : ℕ} {turn
       largest = em ∙ (λ i. largest_slot (new≡ i) (es i * es i)) ∙ largest_slot_lem _ (head_of l o) (head_size l o) w.zone _ (n≤ b a)
 
       pub gives_big : counts < most → (p : Led o) →
-          Continues b capacity s turn (op p) s (refused_by turn w.fraction 9)
+          Continues b capacity s turn (op p) s (refused_by turn w.fraction ErrorCountTooLarge)
       gives_big g p = record { shows = λ s₀ q d. judged_big b a d entered.away w p _ hits out (rw largest at g) }
 
       pub gives_full : most ≤ counts → capacity ≤ turn.count → (p : Led o) →
-          Continues b capacity s turn (op p) s (refused_by turn w.fraction 10)
+          Continues b capacity s turn (op p) s (refused_by turn w.fraction StoreFull)
       gives_full g r p = record { shows = λ s₀ q d. judged_full b a d entered.away w p _ hits out (rw largest at g) r }
 
       pub gives_kept : most ≤ counts → turn.count < capacity → {per-slot : ℕ} {s' : List ℤ} → per-slot ≡ slot_length size →

@@ -17,7 +17,7 @@ use Rattle.search.proofs.exploration.expand.Goals.{After-edge-edge, then-edge-l+
 
 pub loop-i-init : goal.loop-i-init
 loop-i-init c =
-    (c.args.automaton.now.counted.edges≡, omega arith, refl, λ x p s₀ q₀ h. begins _ _ _ _ _ _ _ h)
+    (refl, λ x p s₀ q₀ h. begins _ _ _ _ _ _ _ h)
 
 pub edge-edge-requires : goal.edge-edge-requires
 edge-edge-requires c = omega arith
@@ -25,14 +25,14 @@ edge-edge-requires c = omega arith
 -- ---- with the edge fetched
 module _ (c : After-edge-edge) where
   within : c.loop-i.i < edges c.args.automaton.now.bytes.now
-  within = omega (arith, c.loop-i.invariant.0, c.loop-i-test.true)
+  within = omega (arith, c.args.automaton.now.counted.edges≡)
 
   -- the zone with the running fraction
   abbrev taken : Work
   taken = record { zone = c.loop-i.w.zone; fraction = c.loop-i.t.exact }
 
   taken_is : taken ≡ work_of c.args.z c.loop-i.t.exact
-  taken_is = λ k. record { zone = c.loop-i.invariant.2 k; fraction = c.loop-i.t.exact }
+  taken_is = λ k. record { zone = c.loop-i.invariant.0 k; fraction = c.loop-i.t.exact }
 
   leaves : c.edge-edge.result.from ≡ c.args.l → from c.args.automaton.now.bytes.now c.loop-i.i ≡ c.args.l
   leaves e = sym (ap (λ (e : Edge). e.from) c.edge-edge.ensures) ∙ e
@@ -40,7 +40,7 @@ module _ (c : After-edge-edge) where
   -- for a caller that asks of any state
   some : Between c.args.automaton.now.bytes.now c.args.capacity c.args.parent c.args.l c.args.z first_zone []
       c.requires.accepted.0.base c.requires.accepted.0.state c.loop-i.i c.loop-i.store c.loop-i.t
-  some = c.loop-i.invariant.3 first_zone [] c.requires.accepted.0.base c.requires.accepted.0.state c.requires.accepted.0.live
+  some = c.loop-i.invariant.1 first_zone [] c.requires.accepted.0.base c.requires.accepted.0.state c.requires.accepted.0.live
 
 pub along-origin-requires : goal.along-origin-requires
 along-origin-requires c = (
@@ -82,7 +82,7 @@ pub returns-then-has_ended : goal.returns-then-has_ended
 returns-then-has_ended c =
     let pre = c.requires.accepted in
     λ x p. record {
-      shows = λ s₀ q₀ h. stops (c.loop-i.invariant.3 x p s₀ q₀ h) (within (goal.at.returns-then-has_ended c).After-edge-edge) c.args.automaton.now.accepted pre.1
+      shows = λ s₀ q₀ h. stops (c.loop-i.invariant.1 x p s₀ q₀ h) (within (goal.at.returns-then-has_ended c).After-edge-edge) c.args.automaton.now.accepted pre.1
           (taken_is (goal.at.returns-then-has_ended c).After-edge-edge)
           (leaves (goal.at.returns-then-has_ended c).After-edge-edge c.if-edge-l.true) c.along-origin.ensures c.follow-t.ensures
           (sym c.has_ended.ensures ∙ c.if-has_ended.true);
@@ -91,14 +91,12 @@ returns-then-has_ended c =
 pub loop-i-preserved : goal.loop-i-preserved
 loop-i-preserved c =
     let pre = c.requires.accepted in (
-      c.loop-i.invariant.0,
-      omega arith,
       elim c.if-edge-l.branch [
-        | then-edge-l+else-has_ended x ↦ ap (λ (v : Work). v.zone) x.w-is ∙ c.loop-i.invariant.2
-        | else-edge-l x ↦ ap (λ (v : Work). v.zone) x.w-is ∙ c.loop-i.invariant.2
+        | then-edge-l+else-has_ended x ↦ ap (λ (v : Work). v.zone) x.w-is ∙ c.loop-i.invariant.0
+        | else-edge-l x ↦ ap (λ (v : Work). v.zone) x.w-is ∙ c.loop-i.invariant.0
       ],
       λ y p s₀ q₀ h.
-          let between = c.loop-i.invariant.3 y p s₀ q₀ h in
+          let between = c.loop-i.invariant.1 y p s₀ q₀ h in
           let here = (goal.at.loop-i-preserved c).After-edge-edge in
           elim c.if-edge-l.branch [
             | then-edge-l+else-has_ended x ↦
@@ -113,11 +111,11 @@ loop-i-preserved c =
 pub shape_of-store : goal.shape_of-store
 shape_of-store c =
     let pre = c.requires.accepted in
-    let between = c.loop-i.invariant.3 first_zone [] pre.0.base pre.0.state pre.0.live in
+    let between = c.loop-i.invariant.1 first_zone [] pre.0.base pre.0.state pre.0.live in
     live-length _ c.args.automaton.now.accepted pre.0.long between.live.shown between.live.sound ∙ sym (going_length _ c.args.automaton.now.accepted pre.0)
 
 pub returns : goal.returns
 returns c =
     λ x p. record {
-      shows = λ s₀ q₀ h. ends (c.loop-i.invariant.3 x p s₀ q₀ h) (omega (arith, c.loop-i.invariant.0, c.loop-i-test.false));
+      shows = λ s₀ q₀ h. ends (c.loop-i.invariant.1 x p s₀ q₀ h) (omega (arith, c.args.automaton.now.counted.edges≡));
     }

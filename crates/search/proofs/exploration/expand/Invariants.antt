@@ -1,9 +1,8 @@
--- The loop of `expand`: what it keeps, and what falls.
-use Prim.Native.Nat.{ℕ, ◌-◌, ◌≤◌}
+-- The loop of `expand`: what it keeps.
+use Prim.Native.Nat.{ℕ}
 use mathlib.Core.Path.{◌≡◌}
 use mathlib.Core.List.{List}
 use lib.IntN.{ℤ}
-use Rattle.automata.specs.Automata.{edges}
 use Rattle.reachability.specs.Search.{Came}
 use Rattle.search.specs.Exploring.{Live}
 use Rattle.search.specs.Instance.{ZoneState}
@@ -12,9 +11,6 @@ use Rattle.search.proofs.exploration.expand.Given as goal
 
 abbrev pub invariant-loop-i : goal.invariant-loop-i
 invariant-loop-i l =
-    (l.last ≡ edges l.automaton.bytes.now) × (l.i ≤ l.last) × (l.w.zone ≡ l.initial.w.zone) ×
+    (l.w.zone ≡ l.initial.w.zone) ×
     ((x : Came) (p : List ℕ) (s₀ : List ℤ) (q₀ : ZoneState) → Live l.automaton.bytes.now l.capacity s₀ q₀ l.initial.store l.initial.t →
     Between l.automaton.bytes.now l.capacity l.parent l.l l.initial.w.zone x p s₀ q₀ l.i l.store l.t)
-
-abbrev pub decreases-loop-i : goal.decreases-loop-i
-decreases-loop-i l = l.last - l.i

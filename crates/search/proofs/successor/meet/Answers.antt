@@ -16,7 +16,7 @@ use Rattle.search.proofs.successor.meet.Goals.{then-is_below, else-is_below}
 
 pub loop-x-init : goal.loop-x-init
 unfolding meet_limits
-loop-x-init c = (omega arith, omega arith, refl, λ e. (e, refl))
+loop-x-init c = (refl, λ e. (e, refl))
 
 pub limits-limits-requires : goal.limits-limits-requires
 limits-limits-requires c = (omega arith, omega arith)
@@ -26,7 +26,7 @@ unfolding limits_at
 meet-met-requires c =
     let limits = c.limits-limits.ensures in
     turn_ready _ _ c.args.w c.loop-x.work c.requires.few_clocks.0 c.requires.on_scale.0
-    c.requires.on_scale.1 c.loop-x.x c.loop-x.invariant.0 (omega arith) c.loop-x.invariant.2
+    c.requires.on_scale.1 c.loop-x.x (omega arith) (omega arith) c.loop-x.invariant.0
     (ap (λ (l : Limits). l.lo) limits) (ap (λ (l : Limits). l.hi) limits) (ap (λ (l : Limits). eqb l.hi no_upper) limits)
 
 pub loop-x-preserved : goal.loop-x-preserved
@@ -34,16 +34,14 @@ unfolding limits_at
 loop-x-preserved c =
     let limits = c.limits-limits.ensures in
     let below = c.is_below.ensures in (
-      omega arith,
-      omega arith,
       turn_met _ _ c.args.w c.loop-x.work c.requires.few_clocks.0 c.requires.on_scale.0
-          c.requires.on_scale.1 c.loop-x.x c.loop-x.invariant.0 (omega arith) c.loop-x.invariant.2
+          c.requires.on_scale.1 c.loop-x.x (omega arith) (omega arith) c.loop-x.invariant.0
           (ap (λ (l : Limits). l.lo) limits) (ap (λ (l : Limits). l.hi) limits)
           (ap (λ (l : Limits). eqb l.hi no_upper) limits) c.meet-met.ensures,
       λ e. elim c.if-is_below.branch [
         | then-is_below w ↦ true_false (sym e ∙ w.same-is)
         | else-is_below w ↦
-            let s = c.loop-x.invariant.3 (sym w.same-is ∙ e) in (
+            let s = c.loop-x.invariant.1 (sym w.same-is ∙ e) in (
               s.0,
               turn_same _ _ _ c.limits-limits.result.lo c.limits-limits.result.hi (eqb c.limits-limits.result.hi no_upper)
                   c.meet-met.ensures (sym below ∙ w.if-is_below.false) ∙ s.1,
@@ -54,5 +52,5 @@ loop-x-preserved c =
 pub returns : goal.returns
 returns c =
     let last : c.loop-x.x - 1 ≡ c.args.c = omega arith in
-    let all = limits_all _ _ c.args.w last c.loop-x.invariant.2 in
-    record { work = all; same = λ e. let s = c.loop-x.invariant.3 e in (s.0, ap (λ (v : Work). v.zone) (sym all) ∙ s.1) }
+    let all = limits_all _ _ c.args.w last c.loop-x.invariant.0 in
+    record { work = all; same = λ e. let s = c.loop-x.invariant.1 e in (s.0, ap (λ (v : Work). v.zone) (sym all) ∙ s.1) }

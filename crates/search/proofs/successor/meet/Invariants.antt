@@ -1,5 +1,5 @@
--- The loop of `meet`: what it keeps, and what falls.
-use Prim.Native.Nat.{◌+◌, ◌-◌, ◌≤◌, ◌<◌}
+-- The loop of `meet`: what it keeps.
+use Prim.Native.Nat.{◌-◌}
 use mathlib.Core.Path.{◌≡◌}
 use mathlib.Core.Bool.{true}
 use Rattle.zones.specs.Zones.{meet_limits}
@@ -8,8 +8,5 @@ use Rattle.search.proofs.successor.meet.Given as goal
 
 abbrev pub invariant-loop-x : goal.invariant-loop-x
 invariant-loop-x l =
-    (0 < l.x) × (l.x ≤ l.c + 1) × (l.work ≡ meet_limits (limits_at l.automaton.bytes.now l.at) (l.x - 1) l.initial.work)
+    (l.work ≡ meet_limits (limits_at l.automaton.bytes.now l.at) (l.x - 1) l.initial.work)
     × (l.same ≡ true → (l.initial.same ≡ true) × (l.work.zone ≡ l.initial.work.zone))
-
-abbrev pub decreases-loop-x : goal.decreases-loop-x
-decreases-loop-x l = l.c + 1 - l.x

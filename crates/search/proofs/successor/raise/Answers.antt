@@ -11,7 +11,7 @@ use Rattle.search.proofs.successor.raise.Goals as goal
 
 pub loop-x-init : goal.loop-x-init
 unfolding raise_limits
-loop-x-init c = (omega arith, omega arith, refl)
+loop-x-init c = refl
 
 pub limits-requires : goal.limits-requires
 limits-requires c = (omega arith, omega arith)
@@ -21,7 +21,7 @@ unfolding limits_at
 loop-x-preserved c =
     let inv = c.loop-x.invariant in
     let bound = c.at_most.ensures ∙ ap (λ (l : Limits). at_most l.hi) c.limits.ensures in
-    (omega arith, omega arith, raise_more _ _ _ inv.0 inv.2 bound)
+    raise_more _ _ _ (omega arith) inv bound
 
 pub returns : goal.returns
-returns c = raise_all _ _ _ (omega arith) c.loop-x.invariant.2
+returns c = raise_all _ _ _ (omega arith) c.loop-x.invariant

@@ -1,5 +1,5 @@
--- The loop of `raise`: what it keeps, and what falls.
-use Prim.Native.Nat.{◌+◌, ◌-◌, ◌≤◌, ◌<◌}
+-- The loop of `raise`: what it keeps.
+use Prim.Native.Nat.{◌-◌}
 use mathlib.Core.Path.{◌≡◌}
 use Rattle.zones.specs.Zones.{raise_limits}
 use Rattle.automata.specs.Automata.{limits_at}
@@ -7,8 +7,4 @@ use Rattle.search.proofs.successor.raise.Given as goal
 
 abbrev pub invariant-loop-x : goal.invariant-loop-x
 invariant-loop-x l =
-    (0 < l.x) × (l.x ≤ l.c + 1)
-    × (l.z ≡ (raise_limits (limits_at l.automaton.bytes.now l.at) (l.x - 1) (record { zone = l.initial.z; fraction = l.fraction })).zone)
-
-abbrev pub decreases-loop-x : goal.decreases-loop-x
-decreases-loop-x l = l.c + 1 - l.x
+    (l.z ≡ (raise_limits (limits_at l.automaton.bytes.now l.at) (l.x - 1) (record { zone = l.initial.z; fraction = l.fraction })).zone)

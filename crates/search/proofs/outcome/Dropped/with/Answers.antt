@@ -7,6 +7,6 @@ pub returns-then-equal : goal.returns-then-equal
 unfolding dropped_with
 returns-then-equal c = rw c.if-equal.true
 
-pub returns : goal.returns
+pub returns-else-equal : goal.returns-else-equal
 unfolding dropped_with
-returns c = rw c.if-equal.false
+returns-else-equal c = rw c.if-equal.false

@@ -1,5 +1,7 @@
 -- Whether the search has stopped, by the outcome.
 -- Assumes nothing.
+use mathlib.Core.Logic.{⊎_elim}
+use mathlib.Core.Path.{refl}
 use Rattle.search.specs.Outcomes.{outcome_of, has_ended}
 use Rattle.search.proofs.outcome.Turn.has_ended.Goals as goal
 
@@ -9,8 +11,4 @@ returns-in-Going c = cc
 
 pub returns-in-Reached : goal.returns-in-Reached
 unfolding outcome_of has_ended
-returns-in-Reached c = cc
-
-pub returns-in-Refused : goal.returns-in-Refused
-unfolding outcome_of has_ended
-returns-in-Refused c = cc
+returns-in-Reached c = ⊎_elim (λ p. rw p.1 refl) (λ p. rw p.1 refl) c.in-Reached.is

@@ -1,6 +1,6 @@
--- `limit` meets its contract: divisor 0 or not.
+-- A fraction says a holding: divisor 0 or not.
 use Rattle.search.proofs.answers.Answers.{holding_any, holding_below}
-use Rattle.search.proofs.verdict.limit.Goals as goal
+use Rattle.search.proofs.verdict.HoldingFromFraction.from.Goals as goal
 
 pub returns-then-f-eq0 : goal.returns-then-f-eq0
 returns-then-f-eq0 c = holding_any _ c.if-f-eq0.true
