@@ -5,7 +5,7 @@ ghost use Rattle.automata.specs.Automata.{clocks, locations, edges, start, targe
 ghost use Rattle.automata.specs.Automata.{reset_byte, reset_set, lo_at, hi_at};
 ghost use Rattle.automata.specs.Opened.{counts_of, edge_of, limits_of};
 
-use encoding::{be16, be32, wide};
+use encoding::{be16, be32};
 
 // The hi of a guard without an upper limit.
 pub const NO_UPPER: u32 = 4294967295;
@@ -37,35 +37,35 @@ pub(crate) fn clocks(automaton: &[u8]) -> usize
     requires { 11 ≤ length automaton.now }
     ensures { result ≡ clocks automaton.now }
 {
-    wide(automaton[5]) as usize
+    usize::from(automaton[5])
 }
 
 pub(crate) fn locations(automaton: &[u8]) -> usize
     requires { 11 ≤ length automaton.now }
     ensures { result ≡ locations automaton.now }
 {
-    wide(automaton[6]) as usize
+    usize::from(automaton[6])
 }
 
 pub fn start(automaton: &[u8]) -> usize
     requires { 11 ≤ length automaton.now }
     ensures { result ≡ start automaton.now }
 {
-    wide(automaton[7]) as usize
+    usize::from(automaton[7])
 }
 
 pub fn target(automaton: &[u8]) -> usize
     requires { 11 ≤ length automaton.now }
     ensures { result ≡ target automaton.now }
 {
-    wide(automaton[8]) as usize
+    usize::from(automaton[8])
 }
 
 pub(crate) fn edges(automaton: &[u8]) -> usize
     requires { 11 ≤ length automaton.now }
     ensures { result ≡ edges automaton.now }
 {
-    be16(automaton, 9) as usize
+    usize::from(be16(automaton, 9))
 }
 
 // ---- where the parts stand
@@ -122,7 +122,7 @@ pub(crate) fn edge_from(automaton: &[u8], i: usize) -> usize
     ensures { result ≡ from automaton.now i }
 {
     let at = edge_at(automaton, i);
-    wide(automaton[at]) as usize
+    usize::from(automaton[at])
 }
 
 pub(crate) fn edge_to(automaton: &[u8], i: usize) -> usize
@@ -131,7 +131,7 @@ pub(crate) fn edge_to(automaton: &[u8], i: usize) -> usize
     ensures { result ≡ to automaton.now i }
 {
     let at = edge_at(automaton, i);
-    wide(automaton[at + 1]) as usize
+    usize::from(automaton[at + 1])
 }
 
 pub(crate) fn reset_byte(automaton: &[u8], i: usize) -> u8

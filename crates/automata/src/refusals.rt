@@ -9,7 +9,7 @@ use crate::fields::{
     NO_UPPER, clocks, edge_at, edge_from, edge_to, edges, hi_at, invariant_at, lo_at, locations,
     reset_byte, start, target,
 };
-use encoding::{be32, wide};
+use encoding::be32;
 
 const VERSION: u8 = 1;
 
@@ -81,7 +81,7 @@ fn no_such_clock(automaton: &[u8]) -> bool
     let mut i = edges(automaton);
     while 0 < i {
         i -= 1;
-        if bound <= wide(reset_byte(automaton, i)) {
+        if bound <= u32::from(reset_byte(automaton, i)) {
             return true;
         }
     }

@@ -3,7 +3,7 @@
 use Prim.Native.Nat.{ℕ, ◌+◌, ◌-◌, ◌<◌, ◌≤◌}
 use mathlib.Core.Bool.{Bool, true, false, false≢true}
 use mathlib.Core.List.{List}
-use mathlib.Core.Path.{◌≡◌, refl, sym, ap, ◌∙◌, subst}
+use mathlib.Core.Path.{◌≡◌, refl, sym, ap, ◌∙◌}
 use lib.ListN.{length, get_or, take, drop, length-take, length-drop}
 use lib.Seq.{get_or-take, get_or-drop}
 use native.Mathlib.Decide.{dec_le}
@@ -18,8 +18,8 @@ pub record Outer (a b : List ℕ) (i j : ℕ) : Type 0 where
   pub front : (k : ℕ) → k < i → get_or a k 0 ≡ get_or b k 0
   pub back : (k : ℕ) → j ≤ k → k < length a → get_or a k 0 ≡ get_or b k 0
 
-pub outer_start : (a b : List ℕ) → length a ≡ length b → Outer a b 0 (length a)
-outer_start a b e = record { size = e; front = λ k h. absurd (omega arith); back = λ k h g. absurd (omega arith) }
+pub outer_start : (a b : List ℕ) (j : ℕ) → length a ≡ length b → length a ≤ j → Outer a b 0 j
+outer_start a b j e m = record { size = e; front = λ k h. absurd (omega arith); back = λ k h g. absurd (omega arith) }
 
 pub outer_same : (a b : List ℕ) (i j : ℕ) → Outer a b i j → j ≤ i → same_bytes a b ≡ true
 outer_same a b i j o h =
@@ -37,8 +37,9 @@ module _ (a b : List ℕ) (i j : ℕ) (o : Outer a b i j) where
     back = λ k h l. elim (dec_le j k) [ yes e ↦ o.back k e l | no e ↦ g k h (omega arith) ];
   }
 
-  pub outer_byte : get_or a i 0 ≡ get_or b i 0 → Outer a b (i + 1) j
-  outer_byte e = wider (i + 1) j (λ k h l. subst (λ (m : ℕ). get_or a m 0 ≡ get_or b m 0) (omega arith) e) (λ k h l. absurd (omega arith))
+  -- less is said of fewer bytes
+  pub outer_fewer : (m n : ℕ) → m ≤ i → j ≤ n → Outer a b m n
+  outer_fewer m n f g = record { size = o.size; front = λ k h. o.front k (omega arith); back = λ k h. o.back k (omega arith) }
 
   -- a word at either end; they may overlap
   pub outer_words : 4 ≤ j → {r t : Bool} → Words a b i r → Words a b (j - 4) t → r ≡ true → t ≡ true → Outer a b (i + 4) (j - 4)

@@ -9,9 +9,16 @@ use lib.Dec.{eqb}
 use lib.ListN.{get_or}
 use native.Mathlib.Decide.{dec_le}
 use native.Mathlib.Omega.{arith}
-use Rattle.encoding.specs.Bytes.{same_bytes, Four}
+use Rattle.std.proofs.Common.{Fits, w8}
+use Rattle.encoding.specs.Bytes.{same_bytes, Two, Four}
 use Rattle.encoding.specs.Numbers.{le32_at}
 use Rattle.encoding.proofs.Equality.{differ_same}
+
+-- a slice's type says that its elements are bytes
+pub four_bytes : (s : List ℕ) → ((i : ℕ) → Fits w8 (get_or s i 0)) → (at : ℕ) → Four s at
+four_bytes s h at =
+    let two : (i : ℕ) → Two s i = λ i. record { first = (h i).fits; second = (h (i + 1)).fits } in
+    record { front = two at; back = two (at + 2) }
 
 -- what the code learns of two words
 abbrev pub Words : List ℕ → List ℕ → ℕ → Bool → Type 0

@@ -6,8 +6,8 @@ use Rattle.automata.specs.Automata.{clocks, reset_byte}
 use Rattle.automata.proofs.accepting.Some.{found, passed, ends}
 use Rattle.automata.proofs.refusals.no_such_clock.Goals as goal
 
-pub returns-then-bound-wide : goal.returns-then-bound-wide
-returns-then-bound-wide c =
+pub returns-then-bound-from : goal.returns-then-bound-from
+returns-then-bound-from c =
     let s = c.args.automaton.now in
     let l = c.loop-i in
     found l.invariant.0 (omega arith) (le-leb (2 ^ clocks s) (reset_byte s (l.i - 1)) (omega arith))
