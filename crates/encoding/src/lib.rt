@@ -7,6 +7,7 @@ ghost use Rattle.encoding.specs.Placing.{placed};
 ghost use Rattle.encoding.specs.Bytes.{same_bytes, Four};
 
 // The number of the two bytes at `at`.
+#[tactic(auto, unfolding(crate::specs::Numbers::be16_at))]
 pub fn be16(s: &[u8], at: usize) -> u16
     requires { at + 2 ≤ length s.now }
     ensures { result ≡ be16_at s.now at }
@@ -15,6 +16,7 @@ pub fn be16(s: &[u8], at: usize) -> u16
 }
 
 // The number of the four bytes at `at`. Where two numbers differ, the first byte that differs decides which is less.
+#[tactic(auto, unfolding(crate::specs::Numbers::be16_at, crate::specs::Numbers::be32_at))]
 pub fn be32(s: &[u8], at: usize) -> u32
     requires { at + 4 ≤ length s.now }
     ensures { result ≡ be32_at s.now at }
@@ -23,6 +25,7 @@ pub fn be32(s: &[u8], at: usize) -> u32
 }
 
 // The last two bytes of a number.
+#[tactic(auto, unfolding(crate::specs::Numbers::be16))]
 pub fn two_bytes_of(x: u32) -> [u8; 2]
     ensures { result ≡ be16 x }
 {
@@ -31,6 +34,7 @@ pub fn two_bytes_of(x: u32) -> [u8; 2]
 }
 
 // The four bytes of a number.
+#[tactic(auto, unfolding(crate::specs::Numbers::be32))]
 pub fn bytes_of(x: u32) -> [u8; 4]
     ensures { result ≡ be32 x }
 {
@@ -39,6 +43,7 @@ pub fn bytes_of(x: u32) -> [u8; 4]
 
 // ---- strings of bytes compared
 // The little-endian number of four bytes, and that they are bytes. It is one load, and serves where only equality is asked.
+#[tactic(auto, unfolding(crate::specs::Numbers::le32_at))]
 fn le32(s: &[u8], at: usize) -> u32
     requires { at + 4 ≤ length s.now }
     ensures { (result ≡ le32_at s.now at) × Four s.now at }
@@ -56,6 +61,7 @@ fn same_word(a: &[u8], b: &[u8], at: usize) -> bool
 
 // Whether two strings of one length are the same: four bytes as one number, then the odd bytes singly. It goes from both ends, since automata share
 // long beginnings or long ends; the last two words may overlap.
+#[tactic(auto, using(crate::proofs::Words::words_differ))]
 fn same_by_words(a: &[u8], b: &[u8]) -> bool
     requires { length a.now ≡ length b.now }
     ensures { result ≡ same_bytes a.now b.now }
@@ -73,6 +79,7 @@ fn same_by_words(a: &[u8], b: &[u8]) -> bool
 }
 
 // Whether two strings of bytes are the same: their lengths, then their bytes.
+#[tactic(auto, using(crate::proofs::Equality::differ_same))]
 pub fn same(a: &[u8], b: &[u8]) -> bool
     ensures { result ≡ same_bytes a.now b.now }
 {
@@ -83,6 +90,7 @@ pub fn same(a: &[u8], b: &[u8]) -> bool
 }
 
 // Bytes put at a place of others.
+#[tactic(auto, using(crate::proofs::Placed::part_placed))]
 pub fn put(to: &mut [u8], at: usize, bytes: &[u8])
     requires { at + length bytes.now ≤ length to.old }
     ensures { to.new ≡ placed at bytes.now to.old }

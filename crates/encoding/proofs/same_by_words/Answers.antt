@@ -1,22 +1,11 @@
 -- `same_by_words` meets its contract: the bytes before 4k and from n - 4k on are the same.
 use Prim.Native.Nat.{◌+◌, ◌-◌, ◌*◌, ◌/◌}
-use mathlib.Core.Path.{◌≡◌, sym, ◌∙◌}
+use mathlib.Core.Path.{◌≡◌, ◌∙◌}
 use lib.ListN.{length}
 use native.Mathlib.Omega.{arith}
 use Rattle.encoding.proofs.Equality.{slices_same}
-use Rattle.encoding.proofs.Words.{words_differ}
-use Rattle.encoding.proofs.Ends.{outer_start, outer_words, outer_fewer, between_same}
+use Rattle.encoding.proofs.Ends.{outer_words, outer_fewer, between_same}
 use Rattle.encoding.proofs.same_by_words.Goals as goal
-use Rattle.encoding.proofs.same_by_words.Goals.{then-not-same_word-via-then-not-same_word, then-not-same_word-via-else-not-same_word+then-not-same_word-2}
-
-pub loop-k-init : goal.loop-k-init
-loop-k-init c = outer_start _ _ _ c.requires (omega arith)
-
-pub returns-then-not-same_word : goal.returns-then-not-same_word
-returns-then-not-same_word c = sym (elim c.then-not-same_word.branch [
-  then-not-same_word-via-then-not-same_word w ↦ words_differ _ _ _ c.same_word.ensures w.if-not-same_word.true
-  | then-not-same_word-via-else-not-same_word+then-not-same_word-2 w ↦ words_differ _ _ _ w.same_word-else-not-same_word.ensures w.if-not-same_word-2.true
-])
 
 pub loop-k-preserved : goal.loop-k-preserved
 loop-k-preserved c =

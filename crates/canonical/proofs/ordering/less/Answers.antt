@@ -1,9 +1,19 @@
 -- `less` meets its contract: the bytes from k on decide as the whole edges do.
+use Prim.Native.Nat.{ℕ, ◌+◌}
+use mathlib.Core.List.{List}
 use mathlib.Core.Path.{◌∙◌}
+use lib.ListN.{get_or}
 use native.Mathlib.Omega.{arith}
-use Rattle.encoding.proofs.Words.{four_bytes}
+use Rattle.std.proofs.Common.{Fits, w8}
+use Rattle.encoding.specs.Bytes.{Two, Four}
 use Rattle.canonical.proofs.ordering.Comparing.{words_less, words_more, words_same}
 use Rattle.canonical.proofs.ordering.less.Goals as goal
+
+-- a slice's type says that its elements are bytes
+four_bytes : (s : List ℕ) → ((i : ℕ) → Fits w8 (get_or s i 0)) → (at : ℕ) → Four s at
+four_bytes s h at =
+    let two : (i : ℕ) → Two s i = λ i. record { first = (h i).fits; second = (h (i + 1)).fits } in
+    record { front = two at; back = two (at + 2) }
 
 pub returns-then-x-y : goal.returns-then-x-y
 returns-then-x-y c =
