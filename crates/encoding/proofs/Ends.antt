@@ -6,11 +6,10 @@ use mathlib.Core.List.{List}
 use mathlib.Core.Path.{◌≡◌, sym, ap, ◌∙◌}
 use lib.ListN.{length, get_or, take, drop}
 use lib.Seq.{ext_get_or}
-use native.Mathlib.Decide.{dec_le}
 use native.Mathlib.Omega.{arith}
 use Rattle.std.proofs.lemmas.Grind.{common_steps}
-use Rattle.encoding.specs.Bytes.{same_bytes}
 use Rattle.std.proofs.lemmas.Bool.Decides.{same_from_decides, Decides-like}
+use Rattle.encoding.specs.Bytes.{same_bytes}
 use Rattle.encoding.proofs.Equality.{one_list}
 use Rattle.encoding.proofs.Words.{Words, words_agree}
 
@@ -21,7 +20,7 @@ pub record Outer (a b : List ℕ) (i j : ℕ) : Type 0 where
   pub back : (k : ℕ) → j ≤ k → k < length a → get_or a k 0 ≡ get_or b k 0
 
 outer_equal : (a b : List ℕ) (j : ℕ) → Outer a b j j → a ≡ b
-outer_equal a b j o = ext_get_or 0 a b o.size (λ k l. elim (dec_le j k) [ yes g ↦ o.back k g l | no g ↦ o.front k (omega arith) ])
+outer_equal a b j o = ext_get_or 0 a b o.size (grind (arith, o.front, o.back))
 
 module _ (a b : List ℕ) (i j : ℕ) (o : Outer a b i j) where
   -- the bytes from i to m agree too, and those from n to j
@@ -29,8 +28,8 @@ module _ (a b : List ℕ) (i j : ℕ) (o : Outer a b i j) where
       → Outer a b m n
   wider m n f g = record {
     size = o.size;
-    front = λ k h. elim (dec_le i k) [ yes l ↦ f k l h | no l ↦ o.front k (omega arith) ];
-    back = λ k h l. elim (dec_le j k) [ yes e ↦ o.back k e l | no e ↦ g k h (omega arith) ];
+    front = grind (arith, f, o.front);
+    back = grind (arith, g, o.back);
   }
 
   -- less is said of fewer bytes

@@ -42,6 +42,7 @@ slices_same a b = same_from_decides _ _ (bytes_decides a b) (one_list a b)
 
 -- "equal exactly when their lengths and all their bytes agree"
 pub all_agree : (a b : List ℕ) → same_bytes a b ≡ true ↔ ((length a ≡ length b) × ((k : ℕ) → k < length a → get_or a k 0 ≡ get_or b k 0))
-all_agree a b =
-    ((λ e. let g = same_equal a b e in (ap length g, (λ k h. ap (λ (s : List ℕ). get_or s k 0) g))),
-    (λ h. (one_list a b).1 (ext_get_or 0 a b h.0 h.1)))
+all_agree a b = (
+  (λ e. let g = same_equal a b e in (ap length g, (λ k h. ap (λ (s : List ℕ). get_or s k 0) g))),
+  (λ h. (one_list a b).1 (ext_get_or 0 a b h.0 h.1)),
+)

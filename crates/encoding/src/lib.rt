@@ -6,6 +6,7 @@ ghost use Rattle.encoding.specs.Numbers.{be16_at, be32_at, le32_at, be16, be32};
 ghost use Rattle.encoding.specs.Placing.{placed};
 ghost use Rattle.encoding.specs.Bytes.{same_bytes, Four};
 
+// ---- numbers, by std's conversions: they are methods of each width, so one function for both would need a trait with these as its impls
 // The number of the two bytes at `at`.
 #[tactic(auto, unfolding(crate::specs::Numbers::be16_at))]
 pub fn be16(s: &[u8], at: usize) -> u16
