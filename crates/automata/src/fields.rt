@@ -30,35 +30,35 @@ pub(crate) fn clocks(automaton: &[u8]) -> usize
     requires { 11 ≤ length automaton.now }
     ensures { result ≡ clocks automaton.now }
 {
-    automaton[5] as usize
+    usize::from(automaton[5])
 }
 
 pub(crate) fn locations(automaton: &[u8]) -> usize
     requires { 11 ≤ length automaton.now }
     ensures { result ≡ locations automaton.now }
 {
-    automaton[6] as usize
+    usize::from(automaton[6])
 }
 
 pub(crate) fn start(automaton: &[u8]) -> usize
     requires { 11 ≤ length automaton.now }
     ensures { result ≡ start automaton.now }
 {
-    automaton[7] as usize
+    usize::from(automaton[7])
 }
 
 pub(crate) fn target(automaton: &[u8]) -> usize
     requires { 11 ≤ length automaton.now }
     ensures { result ≡ target automaton.now }
 {
-    automaton[8] as usize
+    usize::from(automaton[8])
 }
 
 pub(crate) fn edges(automaton: &[u8]) -> usize
     requires { 11 ≤ length automaton.now }
     ensures { result ≡ edges automaton.now }
 {
-    be16(automaton, 9) as usize
+    usize::from(be16(automaton, 9))
 }
 
 // ---- where the parts stand
@@ -98,7 +98,7 @@ pub(crate) fn edge_from(automaton: &[u8], i: usize) -> usize
     requires i_bound { i < edges automaton.now }
     ensures { result ≡ from automaton.now i }
 {
-    automaton[edge_at(automaton, i)] as usize
+    usize::from(automaton[edge_at(automaton, i)])
 }
 
 pub(crate) fn edge_to(automaton: &[u8], i: usize) -> usize
@@ -106,7 +106,7 @@ pub(crate) fn edge_to(automaton: &[u8], i: usize) -> usize
     requires i_bound { i < edges automaton.now }
     ensures { result ≡ to automaton.now i }
 {
-    automaton[edge_at(automaton, i) + 1] as usize
+    usize::from(automaton[edge_at(automaton, i) + 1])
 }
 
 pub(crate) fn reset_byte(automaton: &[u8], i: usize) -> u8

@@ -6,7 +6,7 @@ ghost use Rattle.order.specs.Laid.{edge_bytes, nth_edge, edges_from};
 ghost use Rattle.canonical.specs.Comparing.{less_from};
 ghost use Rattle.canonical.specs.Numbers.{Lies, Listed, Positioned, Inserted, Lists, falling, taken_at, put_at};
 
-use encoding::{same, wide, word};
+use encoding::{be32, same};
 
 // The numbers of edges in order, of which the first `count` are there. A byte holds the number of one of 256 edges.
 #[derive(Clone, Copy)]
@@ -50,8 +50,8 @@ fn less(bytes: &[u8], a: usize, b: usize, size: usize) -> bool
 {
     let mut k = 0;
     while 4 <= size - k {
-        let x = word(bytes, a + k);
-        let y = word(bytes, b + k);
+        let x = be32(bytes, a + k);
+        let y = be32(bytes, b + k);
         if x < y {
             return true;
         }
@@ -105,7 +105,7 @@ fn listed_less(bytes: &[u8], size: usize, numbers: &[u8; 256], k: usize, x: usiz
     requires { (k < 256) × Lies size bytes.now (get_or numbers.now k 0) × Lies size bytes.now x }
     ensures { result ≡ bytes_less (nth_edge size bytes.now (get_or numbers.now k 0)) (nth_edge size bytes.now x) }
 {
-    edge_less(bytes, size, wide(numbers[k]) as usize, x)
+    edge_less(bytes, size, usize::from(numbers[k]), x)
 }
 
 // Whether edge x has the bytes of the one listed at k.
@@ -113,7 +113,7 @@ fn same_as_listed(bytes: &[u8], size: usize, numbers: &[u8; 256], k: usize, x: u
     requires { (k < 256) × Lies size bytes.now (get_or numbers.now k 0) × Lies size bytes.now x }
     ensures { result ≡ same_bytes (nth_edge size bytes.now x) (nth_edge size bytes.now (get_or numbers.now k 0)) }
 {
-    edge_same(bytes, size, x, wide(numbers[k]) as usize)
+    edge_same(bytes, size, x, usize::from(numbers[k]))
 }
 
 // Where edge x belongs, behind the last that is less, and whether its bytes are new there. Edges in order are behind all, which is tested first;

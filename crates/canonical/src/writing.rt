@@ -8,7 +8,7 @@ ghost use Rattle.canonical.specs.Parts.{Sorted, front_of};
 
 use crate::edges::Edges;
 use crate::ordering::Order;
-use encoding::{bytes_of, put, two_bytes_of, wide};
+use encoding::{bytes_of, put, two_bytes_of};
 
 // The head and the invariants: length and number of edges put right, all else as drawn.
 fn write_front(form: &mut [u8], automaton: &[u8], at: usize, total: usize, count: usize)
@@ -42,7 +42,7 @@ fn write_edges(form: &mut [u8], at: usize, bytes: &[u8], size: usize, order: Ord
     let mut i = 0;
     let mut to = at;
     while i < count {
-        put_edge(form, to, bytes, size, wide(numbers[i]) as usize);
+        put_edge(form, to, bytes, size, usize::from(numbers[i]));
         to += size;
         i += 1;
     }

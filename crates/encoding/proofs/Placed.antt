@@ -1,12 +1,12 @@
 -- Bytes put at a place: what a copy leaves, in a whole slice or in a lent part, and one put right behind another.
 -- Assumes nothing.
 use Prim.Native.Nat.{ℕ, ◌+◌, ◌-◌, ◌≤◌}
-use mathlib.Core.List.{List, [], ◌++◌, append_assoc, append-nil}
+use mathlib.Core.List.{List, ◌++◌, append_assoc}
 use mathlib.Core.Path.{◌≡◌, sym, ap, ◌∙◌}
-use lib.ListN.{length, take, drop, length-append, length-drop, drop_of_length-le}
-use lib.Seq.{take_all, take_at, drop_at, drop-drop, length-take-le}
-use native.Mathlib.Nat.{zero-add}
+use lib.ListN.{length, take, drop, length-append}
+use lib.Seq.{drop-drop}
 use native.Mathlib.Omega.{arith}
+use Rattle.std.proofs.lemmas.Grind.{common_steps}
 use Rattle.encoding.specs.Placing.{placed}
 
 -- ---- bytes that take the place of a lent part from `at` on: of one as long as they are, or of all that follows
@@ -18,24 +18,16 @@ part_placed s xs at n e f = rw (f, e) (simp drop-drop)
 pub lent_placed : (s xs : List ℕ) (at : ℕ) {ys : List ℕ} → ys ≡ placed 0 xs (take (length s - at) (drop at s))
     → take at s ++ (ys ++ drop (length s - at) (drop at s)) ≡ placed at xs s
 unfolding placed
-lent_placed s xs at e =
-    let none : drop (length s - at) (drop at s) ≡ [] = drop_of_length-le (drop at s) {i = length s - at} (omega (arith, length-drop at s)) in
-    let all : take (length s - at) (drop at s) ≡ drop at s = take_all (length s - at) (drop at s) (omega (arith, length-drop at s)) in
-    rw (none, e, append-nil, all) (simp (zero-add, drop-drop))
+lent_placed s xs at e = grind (arith, common_steps, e)
 
 -- ---- what begins with xs at a place begins with xs and ys, once ys are put behind xs
 behind : (s xs ys : List ℕ) (at to : ℕ) → at ≤ length s → to ≡ at + length xs → placed to ys (placed at xs s) ≡ placed at (xs ++ ys) s
 unfolding placed
 behind s xs ys at to h e =
-    let rest = drop (at + length xs) s in
-    let long : length (take at s ++ xs) ≡ to = omega (arith, length-append (take at s) xs, length-take-le at s h) in
-    let whole : placed at xs s ≡ (take at s ++ xs) ++ rest = sym (append_assoc (take at s) xs rest) in
-    let front : take to (placed at xs s) ≡ take at s ++ xs = ap (take to) whole ∙ take_at (take at s ++ xs) rest to long in
-    let far : (at + length xs) + length ys ≡ at + length (xs ++ ys) = omega (arith, length-append xs ys) in
-    let back : drop (to + length ys) (placed at xs s) ≡ drop (at + length (xs ++ ys)) s =
-    sym (drop-drop (length ys) to (placed at xs s)) ∙ ap (drop (length ys)) (ap (drop to) whole ∙ drop_at (take at s ++ xs) rest to long)
-    ∙ drop-drop (length ys) (at + length xs) s ∙ ap (λ (k : ℕ). drop k s) far
-    in
+    let front : take to (placed at xs s) ≡ take at s ++ xs = grind (arith, common_steps) in
+    let over : drop to (placed at xs s) ≡ drop (at + length xs) s = grind (arith, common_steps) in
+    let far : at + length xs + length ys ≡ at + length (xs ++ ys) = omega (arith, length-append xs ys) in
+    let back = sym (drop-drop (length ys) to _) ∙ ap (drop (length ys)) over ∙ drop-drop (length ys) _ s ∙ ap (λ (k : ℕ). drop k s) far in
     (λ i. front i ++ (ys ++ back i)) ∙ simp append_assoc
 
 -- the same of the code's two puts

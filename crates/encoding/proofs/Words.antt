@@ -3,11 +3,10 @@
 use Prim.Native.Nat.{ℕ, ◌+◌, ◌<◌, ◌≤◌}
 use mathlib.Core.Bool.{Bool, true, false}
 use mathlib.Core.List.{List}
-use mathlib.Core.Path.{◌≡◌, sym, ap, ◌∙◌, subst}
+use mathlib.Core.Path.{◌≡◌, sym, ap, ◌∙◌}
 use borrow.Author.Tests.{eqb-true, eqb-false}
 use lib.Dec.{eqb}
 use lib.ListN.{get_or}
-use native.Mathlib.Decide.{dec_le}
 use native.Mathlib.Omega.{arith}
 use Rattle.encoding.specs.Bytes.{same_bytes, Four}
 use Rattle.encoding.specs.Numbers.{le32_at}
@@ -25,13 +24,7 @@ four_agree a b at f g e k h l =
     let e2 : get_or a (at + 2) 0 ≡ get_or b (at + 2) 0 = omega arith in
     let e1 : get_or a (at + 1) 0 ≡ get_or b (at + 1) 0 = omega arith in
     let e0 : get_or a at 0 ≡ get_or b at 0 = omega arith in
-    elim (dec_le (at + 2) k) [
-      | yes m ↦ elim (dec_le (at + 3) k) [ yes n ↦ subst SameAt (omega arith) e3 | no n ↦ subst SameAt (omega arith) e2 ]
-      | no m ↦ elim (dec_le (at + 1) k) [ yes n ↦ subst SameAt (omega arith) e1 | no n ↦ subst SameAt (omega arith) e0 ]
-    ]
-  where
-    SameAt : ℕ → Type 0
-    SameAt n = get_or a n 0 ≡ get_or b n 0
+    grind (arith, e0, e1, e2, e3)
 
 pub words_agree : (a b : List ℕ) (at : ℕ) {r : Bool} → Words a b at r → r ≡ true → (k : ℕ) → at ≤ k → k < at + 4 → get_or a k 0 ≡ get_or b k 0
 words_agree a b at w e = four_agree a b at w.1 w.2 (eqb-true _ _ (sym w.0 ∙ e))

@@ -1,11 +1,7 @@
--- The loop of `same_by_words`: what it keeps, and what falls.
-use Prim.Native.Nat.{◌-◌, ◌≤◌}
-use lib.ListN.{length}
+-- The loop of `same_by_words`: k words at either end are the same.
+use Prim.Native.Nat.{◌*◌, ◌-◌}
 use Rattle.encoding.proofs.Ends.{Outer}
 use Rattle.encoding.proofs.same_by_words.Given as goal
 
-abbrev pub invariant-loop-i : goal.invariant-loop-i
-invariant-loop-i l = (l.i ≤ length l.a) × (l.j ≤ length l.a) × Outer l.a l.b l.i l.j
-
-abbrev pub decreases-loop-i : goal.decreases-loop-i
-decreases-loop-i l = l.j - l.i
+abbrev pub invariant-loop-k : goal.invariant-loop-k
+invariant-loop-k l = Outer l.a l.b (4 * l.k) (l.n - 4 * l.k)

@@ -12,5 +12,5 @@ loop-i-preserved c =
     let l = c.loop-i in
     let a = c.args in
     let written = write_turn a.size a.bytes.now a.order.numbers a.order.count c.requires.listed a.form.now a.at l.i
-    (omega (arith, c.requires.size_in_bounds)) (omega arith) l.invariant.1 l.invariant.3 c.wide.ensures.0 c.put_edge.ensures in
+    (omega (arith, c.requires.size_in_bounds)) (omega arith) l.invariant.1 l.invariant.3 c.from.ensures c.put_edge.ensures in
     (omega arith, next_place a.at l.i a.size l.invariant.1, c.put_edge.auto.form ∙ l.invariant.2, written)

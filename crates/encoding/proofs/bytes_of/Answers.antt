@@ -1,8 +1,0 @@
--- `bytes_of` meets its contract.
-use mathlib.Core.Path.{refl}
-use Rattle.encoding.specs.Numbers.{be32}
-use Rattle.encoding.proofs.bytes_of.Goals as goal
-
-pub returns : goal.returns
-unfolding be32
-returns c = refl
