@@ -8,13 +8,12 @@ use Rattle.std.specs.List.{range_with_len, AllWithin, HoldsAt}
 use mathlib.Core.Path.{◌≡◌, refl, sym, ap, ◌∙◌}
 use mathlib.Core.Bool.{Bool, true, false, cond}
 use mathlib.Core.List.{List, [], ◌∷◌, ◌++◌, append_assoc, append-nil}
-use lib.IntN.{ℤ, pos, negsuc, nat_abs}
+use lib.IntN.{ℤ, pos}
 use lib.ListN.{length, get_or, set, replicate, length-append}
 use lib.Seq.{set_at, append_snoc}
-use lib.Signed.{◌≤ℤ◌, lt_z, non_neg, yes_non_neg}
-use lib.Dec.{T}
-use mir.Syntax.{w32, w64}
-use mir.Val.{Fits, SFits, of_z, to_z}
+use lib.Signed.{◌≤ℤ◌, lt_z}
+use mir.Syntax.{w32}
+use mir.Val.{SFits, of_z, to_z}
 use mir.ValLaws.{to_z-of_z, to_z_pos}
 use native.Mathlib.Nat.{zero-add, mul-le-mul}
 use native.Mathlib.Numerals.{add-one}
@@ -23,12 +22,11 @@ use Rattle.zones.specs.declared.fraction.Fraction.{Fraction}
 use Rattle.zones.specs.declared.pair.Comparison.{Comparison}
 use Rattle.zones.specs.declared.pair.Comparison.TheVariants.{Below, Equal, Above}
 use Rattle.zones.specs.declared.pair.Pair.{Pair}
-use Rattle.zones.specs.Integers.{up}
-use Rattle.zones.proofs.pairs.Integers.{int, le_read, le_make, lt_read, eq_make, lt_z_true, lt_z_false, le_lt_z, abs_fits}
+use Rattle.zones.proofs.pairs.Integers.{int, le_read, le_make, lt_read, eq_make, lt_z_true, lt_z_false, le_lt_z}
 use Rattle.zones.specs.Containment.{place_of, larger}
 use Rattle.zones.specs.Fractions.{lowered_by}
 use Rattle.zones.specs.Pairs.{compare_of, is_equal, is_at_most, threshold_of}
-use Rattle.zones.specs.Ranges.{Bounded, Fits32, ChoiceReady, last_counts, widest}
+use Rattle.zones.specs.Ranges.{Fits32, ChoiceReady, last_counts, widest}
 use Rattle.runs.specs.Limits.{scale}
 use Rattle.runs.proofs.Contradictions.{true_false}
 use Rattle.zones.proofs.ranges.Ranges.{lowered_narrow, chosen_narrow, last_here}
@@ -184,45 +182,6 @@ larger_max x y = grind (arith, nat_tests)
 pub largest_next : (s : List ℤ) (t : ℕ) → largest_slot s (t + 1) ≡ max (largest_slot s t) (slot_pair s t).p
 unfolding largest_slot
 largest_next s t = rw (add-one t) (larger_max _ _)
-
--- ---- `get_pair`: a number of 32 bits, read wide
-count_fits : (x : ℤ) → SFits w32 x → pos 0 ≤ℤ x → Fits w64 (nat_abs x)
-count_fits (pos n) h g = record { fits = omega (arith, h.sfits) }
-count_fits (negsuc n) h g = absurd g.le
-
-abs-up : (x : ℤ) → pos 0 ≤ℤ x → nat_abs x ≡ up x
-abs-up (pos n) g = refl
-abs-up (negsuc n) g = absurd g.le
-
-module _ (x : ℤ) (h : SFits w32 x) where
-  pub reads_m : SFits w64 (to_z w32 (of_z w32 x))
-  reads_m = rw (to_z-of_z w32 x h) (record { sfits = omega (arith, h.sfits) })
-
-  pub read_m : to_z w64 (of_z w64 (to_z w32 (of_z w32 x))) ≡ x
-  read_m = to_z-of_z w64 (to_z w32 (of_z w32 x)) reads_m ∙ to_z-of_z w32 x h
-
-  pub reads_p : pos 0 ≤ℤ x → T (non_neg (to_z w32 (of_z w32 x))) × Fits w64 (nat_abs (to_z w32 (of_z w32 x)))
-  reads_p g = rw (to_z-of_z w32 x h) (yes_non_neg g, count_fits x h g)
-
-  pub read_p : pos 0 ≤ℤ x → nat_abs (to_z w32 (of_z w32 x)) ≡ up x
-  read_p g = rw (to_z-of_z w32 x h) (abs-up x g)
-
--- ---- `put_pair`: a pair of a zone that is kept fits 32 bits
-module _ (q : Pair) (b : Bounded scale last_counts q) where
-  wide : SFits w64 q.m
-  wide = abs_fits w64 q.m (omega (arith, b.m))
-
-  narrow : SFits w32 q.m
-  narrow = abs_fits w32 q.m (omega (arith, b.m))
-
-  pub puts_m : SFits w32 (to_z w64 (of_z w64 q.m))
-  puts_m = rw (to_z-of_z w64 q.m wide) narrow
-
-  pub put_m : to_z w32 (of_z w32 (to_z w64 (of_z w64 q.m))) ≡ q.m
-  put_m = to_z-of_z w32 (to_z w64 (of_z w64 q.m)) puts_m ∙ to_z-of_z w64 q.m wide
-
-  pub put_p : to_z w32 q.p ≡ pos q.p
-  put_p = to_z_pos w32 q.p (omega (arith, b.p))
 
 -- ---- the place (i, j) of a square of n indices, the pair i × n + j of its slot
 module _ (n : ℕ) (n≤ : n ≤ 9) (i j : ℕ) (hi : i < n) (hj : j < n) where

@@ -1,7 +1,6 @@
 -- How a slot lies inside another: the lowest threshold of the pairs passed, which fits, and whether they were all equal.
 -- Assumes nothing.
 use mathlib.Core.Path.{◌≡◌, refl, ◌∙◌}
-use borrow.Author.Rules.{rules}
 use native.Mathlib.Omega.{arith}
 use Rattle.slots.specs.Containing.{every_pair, inside_slots}
 use Rattle.slots.proofs.slot.Loops.{turn_ready, turn_fits, turn_lowers, turn_equal, stays_so, fails_now}
@@ -11,12 +10,6 @@ use Rattle.slots.proofs.containment.inside_of.Goals.{then-not-is_equal, else-not
 pub loop-t-init : goal.loop-t-init
 unfolding inside_slots every_pair
 loop-t-init c = (refl, record { n = omega arith; d = omega arith }, refl)
-
-pub get_pair-a-requires : goal.get_pair-a-requires
-get_pair-a-requires c = let pre = c.requires in search (rules, pre.new_reads.counts, pre.old_reads.counts)
-
-pub get_pair-b-requires : goal.get_pair-b-requires
-get_pair-b-requires c = let pre = c.requires in search (rules, pre.new_reads.counts, pre.old_reads.counts)
 
 pub after_choice-below-requires : goal.after_choice-below-requires
 after_choice-below-requires c = (
