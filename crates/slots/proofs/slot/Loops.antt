@@ -14,7 +14,7 @@ use lib.Seq.{set_at, append_snoc}
 use lib.Signed.{◌≤ℤ◌, lt_z}
 use mir.Syntax.{w32}
 use mir.Val.{SFits, of_z, to_z}
-use mir.ValLaws.{to_z-of_z, to_z_pos}
+use mir.ValLaws.{to_z-of_z}
 use native.Mathlib.Nat.{zero-add, mul-le-mul}
 use native.Mathlib.Numerals.{add-one}
 use native.Mathlib.Omega.{arith}
@@ -211,13 +211,6 @@ row_ends n f out n≤ i = go (9 - n) (omega arith)
         back (suc m) h =
             let q : suc m + (i * 9 + n) ≡ suc (m + (i * 9 + n)) = omega arith in
             rw q (out (m + (i * 9 + n)) (omega arith) ∙ back m (omega arith))
-
--- ---- `headed`
-pub headed_all : (l : ℕ) (o : Origin) → l < 256 → SFits w32 o.parent → SFits w32 o.edge
-    → set (set (set (replicate longest (pos 0)) 0 (to_z w32 l)) 1 (to_z w32 (of_z w32 o.parent))) 2 (to_z w32 (of_z w32 o.edge))
-    ≡ head_of l o ++ replicate (spare 0) (pos 0)
-unfolding head_of
-headed_all l o h p q = rw (to_z_pos w32 l (omega arith), to_z-of_z w32 o.parent p, to_z-of_z w32 o.edge q)
 
 -- ---- `encode`: the numbers hd, the pairs of the first k places, and zeros
 pub encoded : ℕ → List ℤ → List Pair → ℕ → List ℤ

@@ -1,6 +1,6 @@
 -- How a slot lies inside another: the lowest threshold of the pairs passed, which fits, and whether they were all equal.
 -- Assumes nothing.
-use mathlib.Core.Path.{◌≡◌, refl, ◌∙◌}
+use mathlib.Core.Path.{refl, ◌∙◌}
 use native.Mathlib.Omega.{arith}
 use Rattle.slots.specs.Containing.{every_pair, inside_slots}
 use Rattle.slots.proofs.slot.Loops.{turn_ready, turn_fits, turn_lowers, turn_equal, stays_so, fails_now}
@@ -30,11 +30,3 @@ loop-t-preserved c =
         | else-not-is_equal w ↦ w.equal-is ∙ stays_so _ c.loop-t.t (equal ∙ w.if-not-is_equal.false) c.loop-t.invariant.2
       ],
     )
-
-pub returns : goal.returns
-returns c =
-    let e : c.loop-t.t ≡ c.args.pairs = omega arith in
-    let inv = c.loop-t.invariant in
-    let below = rw e at inv.0 in
-    let equal = rw e at inv.2 in
-    λ i. record { below = below i; equal = equal i }
