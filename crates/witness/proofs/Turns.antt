@@ -10,7 +10,6 @@ use native.Mathlib.Omega.{arith}
 use Rattle.zones.specs.declared.pair.Pair.{Pair}
 use Rattle.zones.specs.Integers.{down}
 use Rattle.zones.specs.Zones.{pair_at}
-use Rattle.witness.specs.declared.Back.{Back}
 use Rattle.witness.specs.Witnesses.{clocks_of, less_bound, plus_bound, places_of, wait_to, earlier_of, least_to, state_before, back_of, landing_of}
 
 one_less : (c : ℕ) → suc c - 1 ≡ c
@@ -49,12 +48,3 @@ pub back_of_lem : (v : List ℕ) (a g : List Pair) (R : ℕ → Bool) (c : ℕ) 
     back_of v a g R (suc c) ≡ record { wait = wait_to v a c; state = state_before (earlier_of v (wait_to v a c) c) g R c }
 unfolding back_of
 back_of_lem v a g R c = rw (one_less c)
-
--- ---- the three parts of a step back
-pub back_is : (v : List ℕ) (a g : List Pair) (R : ℕ → Bool) (n : ℕ) {t : ℕ} {u s : List ℕ} → t ≡ wait_to v a (n - 1) → u ≡ earlier_of v t (n - 1) →
-    s ≡ state_before u g R (n - 1) → ◌≡◌ {A = Back} (record { wait = t; state = s }) (back_of v a g R n)
-unfolding back_of
-back_is v a g R n e f h =
-    let k = f ∙ (λ i. earlier_of v (e i) (n - 1)) in
-    let q = h ∙ (λ i. state_before (k i) g R (n - 1)) in
-    λ i. record { wait = e i; state = q i }

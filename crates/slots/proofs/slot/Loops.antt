@@ -221,13 +221,15 @@ module _ (n l : ℕ) (o : Origin) (z : List Pair) where
   unfolding encoded pairs_to flat counted
   encode_start e = rw (append-nil (head_of l o)) e
 
-  pub encode_all : {slot : List ℤ} → n ≤ 9 → slot ≡ encoded n (head_of l o) z (n * 9) → slot ≡ slot_of n (head_of l o) z ++ replicate (spare n) (pos 0)
+  pub encode_all : {slot : List ℤ} → n ≤ 9 → slot ≡ encoded n (head_of l o) z (n * 9) →
+      slot ≡ slot_of n (head_of l o) z ++ replicate (spare n) (pos 0)
   unfolding encoded slot_of
   encode_all h f = f ∙ rw (counted_all n h)
 
 module _ (n : ℕ) (hd : List ℤ) (hd≡ : length hd ≡ fields) (z : List Pair) (n≤ : n ≤ 9) where
   pub encode_turn : (i j : ℕ) {slot : List ℤ} → i < n → j < n → slot ≡ encoded n hd z (i * 9 + j) →
-      set (set slot (m_at (i * n + j)) (place_of z (i * 9 + j)).m) (p_at (i * n + j)) (pos (place_of z (i * 9 + j)).p) ≡ encoded n hd z (i * 9 + (j + 1))
+      set (set slot (m_at (i * n + j)) (place_of z (i * 9 + j)).m) (p_at (i * n + j)) (pos (place_of z (i * 9 + j)).p) ≡
+      encoded n hd z (i * 9 + (j + 1))
   unfolding encoded flat
   encode_turn i j {slot} hi hj f =
       let k : ℕ = i * 9 + j in

@@ -16,6 +16,7 @@ loop-b-preserved c =
     let b = c.loop-b in
     elim c.if-not-resets-b.branch [
       | then-not-resets-b w ↦ w.least-is ∙ least_next _ _ _ _ b.b (omega arith) b.invariant w.if-not-resets-b.true
-          (w.saturating_add_signed.ensures ∙ entry_plus _ _ c.requires.3 c.args.x c.requires.1 _ (c.requires.2 _) b.b (omega arith)) w.min-least.ensures
+          (w.saturating_add_signed.ensures ∙ entry_plus _ _ c.requires.3 c.args.x c.requires.1 _ (c.requires.2 _) b.b (omega arith))
+          w.min-least.ensures
       | else-not-resets-b w ↦ w.least-is ∙ least_skips _ _ _ _ b.b (omega arith) b.invariant w.if-not-resets-b.false
     ]

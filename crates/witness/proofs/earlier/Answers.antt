@@ -1,6 +1,5 @@
 -- `earlier` meets its contract.
-use Prim.Native.Nat.{◌-◌}
-use mathlib.Core.Path.{◌≡◌, refl}
+use mathlib.Core.Path.{refl}
 use native.Mathlib.Omega.{arith}
 use Rattle.witness.specs.Witnesses.{places_of}
 use Rattle.witness.proofs.Turns.{state_next}
@@ -12,6 +11,3 @@ loop-x-init c = (omega arith, refl)
 
 pub loop-x-preserved : goal.loop-x-preserved
 loop-x-preserved c = (omega arith, state_next _ c.loop-x.x (omega arith) c.loop-x.invariant.1 c.saturating_sub.ensures)
-
-pub returns : goal.returns
-returns c = let e : c.loop-x.x - 1 ≡ c.args.size - 1 = omega arith in rw e at c.loop-x.invariant.1

@@ -1,7 +1,7 @@
 -- `landing` meets its contract.
-use Prim.Native.Nat.{◌-◌}
-use mathlib.Core.Path.{◌≡◌, refl, ◌∙◌}
+use mathlib.Core.Path.{refl, ◌∙◌}
 use native.Mathlib.Omega.{arith}
+use Rattle.std.proofs.Common.{rules}
 use Rattle.witness.specs.Witnesses.{places_of, landing_of}
 use Rattle.witness.proofs.Parts.{row_less}
 use Rattle.witness.proofs.Turns.{state_next}
@@ -19,4 +19,4 @@ loop-x-preserved c =
 
 pub returns : goal.returns
 unfolding landing_of
-returns c = let e : c.loop-x.x - 1 ≡ c.args.size - 1 = omega arith in rw e at c.loop-x.invariant.1
+returns c = search rules

@@ -1,6 +1,5 @@
 -- `wait_before` meets its contract.
-use Prim.Native.Nat.{◌-◌}
-use mathlib.Core.Path.{◌≡◌, refl}
+use mathlib.Core.Path.{refl}
 use native.Mathlib.Omega.{arith}
 use Rattle.witness.specs.Witnesses.{wait_to}
 use Rattle.witness.proofs.Parts.{column_less}
@@ -17,6 +16,3 @@ loop-x-preserved c =
     let next = wait_next c.args.v c.args.a x (omega arith) in
     let way = column_less _ _ c.requires.2 x (omega arith) _ (c.requires.1 x) in
     (omega arith, cc)
-
-pub returns : goal.returns
-returns c = let e : c.loop-x.x - 1 ≡ c.args.size - 1 = omega arith in rw e at c.loop-x.invariant.1
