@@ -8,12 +8,13 @@ use Rattle.std.specs.List.{range_with_len, AllWithin, HoldsAt}
 use mathlib.Core.Path.{◌≡◌, refl, sym, ap, ◌∙◌}
 use mathlib.Core.Bool.{Bool, true, false, cond}
 use mathlib.Core.List.{List, [], ◌∷◌, ◌++◌, append_assoc, append-nil}
-use lib.IntN.{ℤ, pos}
+use lib.Dec.{T}
+use lib.IntN.{ℤ, pos, negsuc, nat_abs}
 use lib.ListN.{length, get_or, set, replicate, length-append}
 use lib.Seq.{set_at, append_snoc}
-use lib.Signed.{◌≤ℤ◌, lt_z}
-use mir.Syntax.{w32}
-use mir.Val.{SFits, of_z, to_z}
+use lib.Signed.{◌≤ℤ◌, lt_z, non_neg, yes_non_neg}
+use mir.Syntax.{w32, w64}
+use mir.Val.{Fits, SFits, of_z, to_z}
 use mir.ValLaws.{to_z-of_z}
 use native.Mathlib.Nat.{zero-add, mul-le-mul}
 use native.Mathlib.Numerals.{add-one}
@@ -182,6 +183,14 @@ larger_max x y = grind (arith, nat_tests)
 pub largest_next : (s : List ℤ) (t : ℕ) → largest_slot s (t + 1) ≡ max (largest_slot s t) (slot_pair s t).p
 unfolding largest_slot
 largest_next s t = rw (add-one t) (larger_max _ _)
+
+-- ---- a number of 32 bits that is not negative, read wide
+count_fits : (x : ℤ) → SFits w32 x → pos 0 ≤ℤ x → Fits w64 (nat_abs x)
+count_fits (pos n) h g = record { fits = omega (arith, h.sfits) }
+count_fits (negsuc n) h g = absurd g.le
+
+pub reads_p : (x : ℤ) → SFits w32 x → pos 0 ≤ℤ x → T (non_neg (to_z w32 (of_z w32 x))) × Fits w64 (nat_abs (to_z w32 (of_z w32 x)))
+reads_p x h g = rw (to_z-of_z w32 x h) (yes_non_neg g, count_fits x h g)
 
 -- ---- the place (i, j) of a square of n indices, the pair i × n + j of its slot
 module _ (n : ℕ) (n≤ : n ≤ 9) (i j : ℕ) (hi : i < n) (hj : j < n) where
