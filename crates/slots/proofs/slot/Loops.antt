@@ -10,8 +10,8 @@ use mathlib.Core.Bool.{Bool, true, false, cond}
 use mathlib.Core.List.{List, [], ◌∷◌, ◌++◌, append_assoc, append-nil}
 use lib.Dec.{T}
 use lib.IntN.{ℤ, pos, negsuc, nat_abs}
-use lib.ListN.{length, get_or, set, replicate, length-append}
-use lib.Seq.{set_at, append_snoc}
+use lib.ListN.{length, get_or, take, set, replicate, length-append}
+use lib.Seq.{take_at, set_at, append_snoc}
 use lib.Signed.{◌≤ℤ◌, lt_z, non_neg, yes_non_neg}
 use mir.Syntax.{w32, w64}
 use mir.Val.{Fits, SFits, of_z, to_z}
@@ -34,7 +34,7 @@ use Rattle.zones.proofs.ranges.Ranges.{lowered_narrow, chosen_narrow, last_here}
 use Rattle.slots.specs.declared.slot.Origin.{Origin}
 use Rattle.slots.specs.Slots.{fields, longest, spare, m_at, p_at, pairs_to, flat, head_of, slot_of, slot_pair, counted, square_to}
 use Rattle.slots.specs.Containing.{compare_numbers, every_pair, within_slots, inside_slots, largest_slot, ComparableSlots}
-use Rattle.slots.proofs.slot.Codec.{counted_in, counted_out, counted_all, row_counted, rows_counted, pairs_in, pairs_out, pairs_length}
+use Rattle.slots.proofs.slot.Codec.{counted_in, counted_out, counted_all, row_counted, rows_counted, pairs_in, pairs_out, pairs_length, head_size}
 use Rattle.slots.proofs.slot.Codec.{flat-length, flat_append, square_in, square_out}
 
 -- ---- `compare_at`: the code compares the numbers' bits
@@ -224,6 +224,13 @@ row_ends n f out n≤ i = go (9 - n) (omega arith)
 -- ---- `encode`: the numbers hd, the pairs of the first k places, and zeros
 pub encoded : ℕ → List ℤ → List Pair → ℕ → List ℤ
 encoded n hd z k = (hd ++ flat (pairs_to n k z)) ++ replicate (longest - m_at (counted n k)) (pos 0)
+
+-- the numbers before the pairs, of the slot that it begins with
+abbrev pub head_in : List ℤ → List ℤ
+head_in slot = take fields slot
+
+pub head_in_lem : (l : ℕ) (o : Origin) {slot : List ℤ} → slot ≡ head_of l o ++ replicate (spare 0) (pos 0) → head_in slot ≡ head_of l o
+head_in_lem l o e = rw e (take_at (head_of l o) (replicate (spare 0) (pos 0)) fields (head_size l o))
 
 module _ (n l : ℕ) (o : Origin) (z : List Pair) where
   pub encode_start : {slot : List ℤ} → slot ≡ head_of l o ++ replicate (spare 0) (pos 0) → slot ≡ encoded n (head_of l o) z (0 * 9)
