@@ -35,14 +35,7 @@ pub fn is_within(new: &[i32], old: &[i32], pairs: usize) -> bool
     requires { (m_at pairs ≤ length new.now) × (m_at pairs ≤ length old.now) }
     ensures { result ≡ within_slots new.now old.now pairs }
 {
-    let mut t = 0;
-    while t < pairs {
-        if !compare_at(new, old, t).is_at_most() {
-            return false;
-        }
-        t += 1;
-    }
-    true
+    (0..pairs).all(|t| compare_at(new, old, t).is_at_most())
 }
 
 // How a new slot lies inside an old one, by a test that holds: its lowest threshold, and whether every pair equals the old one's.
@@ -59,15 +52,13 @@ pub fn inside_of(new: &[i32], old: &[i32], pairs: usize) -> Inside
 {
     let mut below = Fraction { n: 1, d: 0 };
     let mut equal = true;
-    let mut t = 0;
-    while t < pairs {
+    for t in 0..pairs {
         let a = get_pair(new, t);
         let b = get_pair(old, t);
         below = below.after_choice(a, b);
         if !a.compare(b).is_equal() {
             equal = false;
         }
-        t += 1;
     }
     Inside { below, equal }
 }
@@ -78,13 +69,8 @@ pub fn largest_count(slot: &[i32], pairs: usize) -> u64
     ensures { result ≡ largest_slot slot.now pairs }
 {
     let mut most: u64 = 0;
-    let mut t = 0;
-    while t < pairs {
-        let p = get_pair(slot, t).p;
-        if most < p {
-            most = p;
-        }
-        t += 1;
+    for t in 0..pairs {
+        most = most.max(get_pair(slot, t).p);
     }
     most
 }

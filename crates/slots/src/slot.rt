@@ -101,15 +101,10 @@ pub fn encode(location: usize, origin: Origin, z: [Pair; 81], size: usize) -> [i
     ensures { result ≡ slot_of size (head_of location origin) z ++ replicate (spare size) (pos 0) }
 {
     let mut slot = headed(location, origin);
-    let last = size * 9;
-    let mut t = 0;
-    let mut at = 0;
-    while at < last {
-        if at % 9 < size {
-            put_pair(&mut slot, t, z[at]);
-            t += 1;
+    for i in 0..size {
+        for j in 0..size {
+            put_pair(&mut slot, i * size + j, z[i * 9 + j]);
         }
-        at += 1;
     }
     slot
 }
@@ -141,15 +136,10 @@ pub fn decode(slot: &[i32], size: usize) -> [Pair; 81]
     ensures { result ≡ zone_of size slot.now }
 {
     let mut z = [Pair { m: 0, p: 0 }; 81];
-    let last = size * 9;
-    let mut t = 0;
-    let mut at = 0;
-    while at < last {
-        if at % 9 < size {
-            z[at] = get_pair(slot, t);
-            t += 1;
+    for i in 0..size {
+        for j in 0..size {
+            z[i * 9 + j] = get_pair(slot, i * size + j);
         }
-        at += 1;
     }
     z
 }
@@ -170,11 +160,7 @@ pub fn copy(slot: &mut [i32], numbers: &[i32], stride: usize)
     requires { (stride ≤ length slot.old) × (stride ≤ length numbers.now) }
     ensures { slot.new ≡ take stride numbers.now ++ drop stride slot.old }
 {
-    let mut i = 0;
-    while i < stride {
-        slot[i] = numbers[i];
-        i += 1;
-    }
+    slot[..stride].copy_from_slice(&numbers[..stride]);
 }
 
 // The slot at `at` of the store becomes the numbers given: it is lent to the copy as a part.

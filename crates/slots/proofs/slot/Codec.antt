@@ -39,21 +39,8 @@ module _ (n : ℕ) where
   unfolding counted
   counted_out k h = rw (le-ltb (k % 9) n h)
 
-  counted_step : (k : ℕ) → counted n k ≤ counted n (suc k)
-  counted_step k = go (dec_lt (k % 9) n)
-    where
-      go : Dec (k % 9 < n) → counted n k ≤ counted n (suc k)
-      go (yes h) = omega (arith, counted_in k h)
-      go (no h) = omega (arith, counted_out k (omega arith))
-
-  counted_grows : (k d : ℕ) → counted n k ≤ counted n (d + k)
-  counted_grows k zero = let e : 0 + k ≡ k = omega arith in rw e (omega arith)
-  counted_grows k (suc d) =
-      let e : suc d + k ≡ suc (d + k) = omega arith in
-      rw e (omega (arith, counted_grows k d, counted_step (d + k)))
-
   -- by rows
-  row_counted : (a b : ℕ) → b ≤ 9 → counted n (b + a * 9) ≡ min b n + counted n (a * 9)
+  pub row_counted : (a b : ℕ) → b ≤ 9 → counted n (b + a * 9) ≡ min b n + counted n (a * 9)
   row_counted a zero h = let e : 0 + a * 9 ≡ a * 9 = omega arith in rw e (omega arith)
   row_counted a (suc b) h = go (row_counted a b (omega arith)) (dec_lt b n)
     where
@@ -64,7 +51,7 @@ module _ (n : ℕ) where
       go ih (yes p) = rw e (omega (arith, counted_in (b + a * 9) (omega arith)))
       go ih (no p) = rw e (omega (arith, counted_out (b + a * 9) (omega arith)))
 
-  rows_counted : n ≤ 9 → (a : ℕ) → counted n (a * 9) ≡ a * n
+  pub rows_counted : n ≤ 9 → (a : ℕ) → counted n (a * 9) ≡ a * n
   unfolding counted
   rows_counted h zero = omega arith
   rows_counted h (suc a) =
@@ -89,12 +76,6 @@ module _ (n : ℕ) where
           go : P k (counted n k) → (t : Bool) → ltb (k % 9) n ≡ t → P (suc k) (cond t (suc (counted n k)) (counted n k))
           go ih true e = f k h (ltb-true (k % 9) n e) ih
           go ih false e = g k (ltb-false (k % 9) n e) ih
-
-  -- a place that counts comes before the last
-  pub counted-below : n ≤ 9 → (k : ℕ) → k < n * 9 → k % 9 < n → counted n k < n * n
-  counted-below h k hk c =
-      let e : (n * 9 - suc k) + suc k ≡ n * 9 = omega arith in
-      omega (arith, counted_in k c, counted_all h, rw e at (counted_grows (suc k) (n * 9 - suc k)))
 
 -- ---- the pairs of a zone, row by row
 module _ (n : ℕ) (z : List Pair) where

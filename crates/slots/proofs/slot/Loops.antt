@@ -1,18 +1,21 @@
 -- The turns of the loops over a slot, as the code takes them.
 -- Assumes nothing.
-use Prim.Native.Nat.{ℕ, zero, suc, ◌+◌, ◌-◌, ◌*◌, ◌%◌, ◌<◌, ◌≤◌}
+use Prim.Native.Nat.{ℕ, zero, suc, ◌+◌, ◌-◌, ◌*◌, ◌%◌, ◌<◌, ◌≤◌, max}
+use Rattle.std.proofs.lemmas.Bool.Decides.{nat_tests}
+use Rattle.std.proofs.lemmas.List.FromFn.{length-range_with_len, get_or-range_with_len}
+use Rattle.std.specs.Bool.{MatchBool}
+use Rattle.std.specs.List.{range_with_len, AllWithin, HoldsAt}
 use mathlib.Core.Path.{◌≡◌, refl, sym, ap, ◌∙◌}
 use mathlib.Core.Bool.{Bool, true, false, cond}
 use mathlib.Core.List.{List, [], ◌∷◌, ◌++◌, append_assoc, append-nil}
-use borrow.Author.Tests.{lt-ltb, le-ltb}
-use lib.IntN.{ℤ, pos, negsuc, nat_abs}
-use lib.ListN.{length, get_or, take, drop, set, replicate, length-append}
-use lib.Seq.{take_at, set_at, append_snoc, paste-suc}
-use lib.Signed.{◌≤ℤ◌, lt_z, non_neg, yes_non_neg}
 use lib.Dec.{T}
+use lib.IntN.{ℤ, pos, negsuc, nat_abs}
+use lib.ListN.{length, get_or, take, set, replicate, length-append}
+use lib.Seq.{take_at, set_at, append_snoc}
+use lib.Signed.{◌≤ℤ◌, lt_z, non_neg, yes_non_neg}
 use mir.Syntax.{w32, w64}
 use mir.Val.{Fits, SFits, of_z, to_z}
-use mir.ValLaws.{to_z-of_z, to_z_pos}
+use mir.ValLaws.{to_z-of_z}
 use native.Mathlib.Nat.{zero-add, mul-le-mul}
 use native.Mathlib.Numerals.{add-one}
 use native.Mathlib.Omega.{arith}
@@ -20,19 +23,18 @@ use Rattle.zones.specs.declared.fraction.Fraction.{Fraction}
 use Rattle.zones.specs.declared.pair.Comparison.{Comparison}
 use Rattle.zones.specs.declared.pair.Comparison.TheVariants.{Below, Equal, Above}
 use Rattle.zones.specs.declared.pair.Pair.{Pair}
-use Rattle.zones.specs.Integers.{up}
-use Rattle.zones.proofs.pairs.Integers.{int, le_read, le_make, lt_read, eq_make, lt_z_true, lt_z_false, le_lt_z, abs_fits}
+use Rattle.zones.proofs.pairs.Integers.{int, le_read, le_make, lt_read, eq_make, lt_z_true, lt_z_false, le_lt_z}
 use Rattle.zones.specs.Containment.{place_of, larger}
 use Rattle.zones.specs.Fractions.{lowered_by}
 use Rattle.zones.specs.Pairs.{compare_of, is_equal, is_at_most, threshold_of}
-use Rattle.zones.specs.Ranges.{Bounded, Fits32, ChoiceReady, last_counts, widest}
+use Rattle.zones.specs.Ranges.{Fits32, ChoiceReady, last_counts, widest}
 use Rattle.runs.specs.Limits.{scale}
 use Rattle.runs.proofs.Contradictions.{true_false}
 use Rattle.zones.proofs.ranges.Ranges.{lowered_narrow, chosen_narrow, last_here}
 use Rattle.slots.specs.declared.slot.Origin.{Origin}
-use Rattle.slots.specs.Slots.{fields, longest, spare, m_at, p_at, pairs_to, flat, head_of, slot_of, slot_pair, counted, square_to, zone_of}
+use Rattle.slots.specs.Slots.{fields, longest, spare, m_at, p_at, pairs_to, flat, head_of, slot_of, slot_pair, counted, square_to}
 use Rattle.slots.specs.Containing.{compare_numbers, every_pair, within_slots, inside_slots, largest_slot, ComparableSlots}
-use Rattle.slots.proofs.slot.Codec.{counted_in, counted_out, counted_all, counted-below, pairs_in, pairs_out, pairs_length, head_size}
+use Rattle.slots.proofs.slot.Codec.{counted_in, counted_out, counted_all, row_counted, rows_counted, pairs_in, pairs_out, pairs_length, head_size}
 use Rattle.slots.proofs.slot.Codec.{flat-length, flat_append, square_in, square_out}
 
 -- ---- `compare_at`: the code compares the numbers' bits
@@ -108,10 +110,6 @@ module _ (passes : ℕ → Bool) (t : ℕ) where
   pub stops : (pairs : ℕ) → t < pairs → passes t ≡ false → false ≡ every_pair pairs passes
   stops pairs h e = let f : (pairs - suc t) + suc t ≡ pairs = omega arith in sym (rw f at (fails e (pairs - suc t)))
 
-  pub goes : passes t ≡ true → every_pair t passes ≡ true → every_pair (t + 1) passes ≡ true
-  unfolding every_pair
-  goes e w = rw add-one (rw (e, w))
-
   -- so far, whatever it was
   pub stays_so : {b : Bool} → passes t ≡ true → b ≡ every_pair t passes → b ≡ every_pair (t + 1) passes
   unfolding every_pair
@@ -120,6 +118,22 @@ module _ (passes : ℕ → Bool) (t : ℕ) where
   pub fails_now : passes t ≡ false → false ≡ every_pair (t + 1) passes
   unfolding every_pair
   fails_now e = rw add-one (rw e)
+
+-- what std's `all` answered over the pairs, from the first on
+module _ (passes : ℕ → Bool) where
+  all_pass : (n : ℕ) → ((t : ℕ) → t < n → passes t ≡ true) → true ≡ every_pair n passes
+  unfolding every_pair
+  all_pass zero h = refl
+  all_pass (suc n) h = rw (h n (omega arith)) (all_pass n (λ t ht. h t (omega arith)))
+
+  pub all_answers : (n : ℕ) (r : Bool) →
+      MatchBool r (AllWithin (λ t. passes t ≡ true) (range_with_len 0 n) 0 (length (range_with_len 0 n)))
+      ((k : ℕ) × (k < length (range_with_len 0 n)) × HoldsAt (λ t. passes t ≡ false) (range_with_len 0 n) k) → r ≡ every_pair n passes
+  all_answers n true h =
+      all_pass n (λ t ht. rw (get_or-range_with_len 0 n t 0 ht, zero-add t) at (h t 0 (omega arith) (omega (arith, length-range_with_len 0 n))))
+  all_answers n false h =
+      let k : h.0 < n = omega (arith, length-range_with_len 0 n) in
+      stops passes h.0 n k (rw (get_or-range_with_len 0 n h.0 0 k, zero-add h.0) at (h.2 0))
 
 -- ---- `inside_of`: where the test holds, the new pair's m is not above the old one's
 module _ (new old : List ℤ) (t : ℕ) where
@@ -162,72 +176,50 @@ slots_fit new old pairs c = go pairs (omega arith)
     go (suc t) h = turn_fits new old t refl refl c h (go t (omega arith))
 
 -- ---- `largest_count`
-module _ (s : List ℤ) (t : ℕ) {most p : ℕ} (e : most ≡ largest_slot s t) (ep : p ≡ (slot_pair s t).p) where
-  pub larger_next : most < p → p ≡ largest_slot s (t + 1)
-  unfolding largest_slot larger
-  larger_next h = rw add-one (rw (← e, ← ep, lt-ltb most p h))
+larger_max : (x y : ℕ) → larger x y ≡ max x y
+unfolding larger
+larger_max x y = grind (arith, nat_tests)
 
-  pub larger_stays : p ≤ most → most ≡ largest_slot s (t + 1)
-  unfolding largest_slot larger
-  larger_stays h = rw add-one (rw (← e, ← ep, le-ltb most p h))
+pub largest_next : (s : List ℤ) (t : ℕ) → largest_slot s (t + 1) ≡ max (largest_slot s t) (slot_pair s t).p
+unfolding largest_slot
+largest_next s t = rw (add-one t) (larger_max _ _)
 
--- ---- `get_pair`: a number of 32 bits, read wide
+-- ---- a number of 32 bits that is not negative, read wide
 count_fits : (x : ℤ) → SFits w32 x → pos 0 ≤ℤ x → Fits w64 (nat_abs x)
 count_fits (pos n) h g = record { fits = omega (arith, h.sfits) }
 count_fits (negsuc n) h g = absurd g.le
 
-abs-up : (x : ℤ) → pos 0 ≤ℤ x → nat_abs x ≡ up x
-abs-up (pos n) g = refl
-abs-up (negsuc n) g = absurd g.le
+pub reads_p : (x : ℤ) → SFits w32 x → pos 0 ≤ℤ x → T (non_neg (to_z w32 (of_z w32 x))) × Fits w64 (nat_abs (to_z w32 (of_z w32 x)))
+reads_p x h g = rw (to_z-of_z w32 x h) (yes_non_neg g, count_fits x h g)
 
-module _ (x : ℤ) (h : SFits w32 x) where
-  pub reads_m : SFits w64 (to_z w32 (of_z w32 x))
-  reads_m = rw (to_z-of_z w32 x h) (record { sfits = omega (arith, h.sfits) })
+-- ---- the place (i, j) of a square of n indices, the pair i × n + j of its slot
+module _ (n : ℕ) (n≤ : n ≤ 9) (i j : ℕ) (hi : i < n) (hj : j < n) where
+  place_counts : i * n + j ≡ counted n (i * 9 + j)
+  place_counts =
+      let e : i * 9 + j ≡ j + i * 9 = omega arith in
+      rw e (omega (arith, row_counted n i j (omega arith), rows_counted n n≤ i))
 
-  pub read_m : to_z w64 (of_z w64 (to_z w32 (of_z w32 x))) ≡ x
-  read_m = to_z-of_z w64 (to_z w32 (of_z w32 x)) reads_m ∙ to_z-of_z w32 x h
+  pub place_below : i * n + j < n * n
+  place_below =
+      let row : suc i ≤ n = omega arith in
+      let all : n ≤ n = omega arith in
+      omega (arith, mul-le-mul row all)
 
-  pub reads_p : pos 0 ≤ℤ x → T (non_neg (to_z w32 (of_z w32 x))) × Fits w64 (nat_abs (to_z w32 (of_z w32 x)))
-  reads_p g = rw (to_z-of_z w32 x h) (yes_non_neg g, count_fits x h g)
+  pub place_few : i * n + j < 81
+  place_few = omega (arith, place_below, mul-le-mul n≤ n≤)
 
-  pub read_p : pos 0 ≤ℤ x → nat_abs (to_z w32 (of_z w32 x)) ≡ up x
-  read_p g = rw (to_z-of_z w32 x h) (abs-up x g)
-
--- ---- `put_pair`: a pair of a zone that is kept fits 32 bits
-module _ (q : Pair) (b : Bounded scale last_counts q) where
-  wide : SFits w64 q.m
-  wide = abs_fits w64 q.m (omega (arith, b.m))
-
-  narrow : SFits w32 q.m
-  narrow = abs_fits w32 q.m (omega (arith, b.m))
-
-  pub puts_m : SFits w32 (to_z w64 (of_z w64 q.m))
-  puts_m = rw (to_z-of_z w64 q.m wide) narrow
-
-  pub put_m : to_z w32 (of_z w32 (to_z w64 (of_z w64 q.m))) ≡ q.m
-  put_m = to_z-of_z w32 (to_z w64 (of_z w64 q.m)) puts_m ∙ to_z-of_z w64 q.m wide
-
-  pub put_p : to_z w32 q.p ≡ pos q.p
-  put_p = to_z_pos w32 q.p (omega (arith, b.p))
-
--- ---- the places that count, so far
-module _ (n k : ℕ) {t : ℕ} (e : t ≡ counted n k) where
-  pub counts_in : k % 9 < n → t + 1 ≡ counted n (k + 1)
-  counts_in c = rw (add-one k) (omega (arith, counted_in n k c))
-
-  pub counts_out : n ≤ k % 9 → t ≡ counted n (k + 1)
-  counts_out c = rw (add-one k) (omega (arith, counted_out n k c))
-
-  -- their number is below the slot's, of which there are at most 81
-  pub few : n ≤ 9 → k < n * 9 → k % 9 < n → (t < n * n) × (t < 81)
-  few h hk c = (omega (arith, counted-below n h k hk c), omega (arith, counted-below n h k hk c, mul-le-mul h h))
-
--- ---- `headed`
-pub headed_all : (l : ℕ) (o : Origin) → l < 256 → SFits w32 o.parent → SFits w32 o.edge
-    → set (set (set (replicate longest (pos 0)) 0 (to_z w32 l)) 1 (to_z w32 (of_z w32 o.parent))) 2 (to_z w32 (of_z w32 o.edge))
-    ≡ head_of l o ++ replicate (spare 0) (pos 0)
-unfolding head_of
-headed_all l o h p q = rw (to_z_pos w32 l (omega arith), to_z-of_z w32 o.parent p, to_z-of_z w32 o.edge q)
+-- the rest of a row does not count
+row_ends : {X : Type 0} (n : ℕ) (f : ℕ → X) → ((k : ℕ) → n ≤ k % 9 → f (suc k) ≡ f k) → n ≤ 9 → (i : ℕ) → f (i * 9 + n) ≡ f ((i + 1) * 9)
+row_ends n f out n≤ i = go (9 - n) (omega arith)
+  where
+    go : (d : ℕ) → n + d ≡ 9 → f (i * 9 + n) ≡ f ((i + 1) * 9)
+    go d e = let q : (i + 1) * 9 ≡ d + (i * 9 + n) = omega arith in rw q (sym (back d (omega arith)))
+      where
+        back : (m : ℕ) → n + m ≤ 9 → f (m + (i * 9 + n)) ≡ f (i * 9 + n)
+        back zero h = let q : zero + (i * 9 + n) ≡ i * 9 + n = omega arith in rw q
+        back (suc m) h =
+            let q : suc m + (i * 9 + n) ≡ suc (m + (i * 9 + n)) = omega arith in
+            rw q (out (m + (i * 9 + n)) (omega arith) ∙ back m (omega arith))
 
 -- ---- `encode`: the numbers hd, the pairs of the first k places, and zeros
 pub encoded : ℕ → List ℤ → List Pair → ℕ → List ℤ
@@ -240,16 +232,28 @@ head_in slot = take fields slot
 pub head_in_lem : (l : ℕ) (o : Origin) {slot : List ℤ} → slot ≡ head_of l o ++ replicate (spare 0) (pos 0) → head_in slot ≡ head_of l o
 head_in_lem l o e = rw e (take_at (head_of l o) (replicate (spare 0) (pos 0)) fields (head_size l o))
 
-pub encode_start : (n l : ℕ) (o : Origin) (z : List Pair) {slot : List ℤ} → slot ≡ head_of l o ++ replicate (spare 0) (pos 0)
-    → slot ≡ encoded n (head_in slot) z 0
-unfolding encoded pairs_to flat counted
-encode_start n l o z e = rw (head_in_lem l o e, append-nil (head_of l o)) e
+module _ (n l : ℕ) (o : Origin) (z : List Pair) where
+  pub encode_start : {slot : List ℤ} → slot ≡ head_of l o ++ replicate (spare 0) (pos 0) → slot ≡ encoded n (head_of l o) z (0 * 9)
+  unfolding encoded pairs_to flat counted
+  encode_start e = rw (append-nil (head_of l o)) e
 
-module _ (n : ℕ) (hd : List ℤ) (hd≡ : length hd ≡ fields) (z : List Pair) where
-  pub encode_in : (k : ℕ) {t : ℕ} {slot : List ℤ} → k % 9 < n → t < 81 → t ≡ counted n k → slot ≡ encoded n hd z k
-      → set (set slot (m_at t) (place_of z k).m) (p_at t) (pos (place_of z k).p) ≡ encoded n hd z (k + 1)
+  pub encode_all : {slot : List ℤ} → n ≤ 9 → slot ≡ encoded n (head_of l o) z (n * 9) →
+      slot ≡ slot_of n (head_of l o) z ++ replicate (spare n) (pos 0)
+  unfolding encoded slot_of
+  encode_all h f = f ∙ rw (counted_all n h)
+
+module _ (n : ℕ) (hd : List ℤ) (hd≡ : length hd ≡ fields) (z : List Pair) (n≤ : n ≤ 9) where
+  pub encode_turn : (i j : ℕ) {slot : List ℤ} → i < n → j < n → slot ≡ encoded n hd z (i * 9 + j) →
+      set (set slot (m_at (i * n + j)) (place_of z (i * 9 + j)).m) (p_at (i * n + j)) (pos (place_of z (i * 9 + j)).p) ≡
+      encoded n hd z (i * 9 + (j + 1))
   unfolding encoded flat
-  encode_in k {t} {slot} c h e f =
+  encode_turn i j {slot} hi hj f =
+      let k : ℕ = i * 9 + j in
+      let t : ℕ = i * n + j in
+      let c : k % 9 < n = omega arith in
+      let e : t ≡ counted n k = place_counts n n≤ i j hi hj in
+      let s : i * 9 + (j + 1) ≡ suc k = omega arith in
+      let h : t < 81 = place_few n n≤ i j hi hj in
       let q = place_of z k in
       let front : List ℤ = hd ++ flat (pairs_to n k z) in
       let zeros : List ℤ = replicate (longest - m_at (counted n (suc k))) (pos 0) in
@@ -257,33 +261,22 @@ module _ (n : ℕ) (hd : List ℤ) (hd≡ : length hd ≡ fields) (z : List Pair
       let one : length front ≡ m_at t =
       length-append hd (flat (pairs_to n k z)) ∙ omega (arith, hd≡, flat-length (pairs_to n k z), pairs_length n z k) in
       let two : length (front ++ (q.m ∷ [])) ≡ p_at t = length-append front (q.m ∷ []) ∙ omega (arith, one) in
-      rw (add-one k, f, more, set_at front (pos 0) (pos 0 ∷ zeros) q.m (m_at t) one)
+      rw (s, f, more, set_at front (pos 0) (pos 0 ∷ zeros) q.m (m_at t) one)
       (rw (← append_snoc front q.m (pos 0 ∷ zeros), set_at (front ++ (q.m ∷ [])) (pos 0) zeros (pos q.p) (p_at t) two)
       (rw (pairs_in n z k c) (simp (flat_append, append_assoc))))
 
-  pub encode_out : (k : ℕ) {slot : List ℤ} → n ≤ k % 9 → slot ≡ encoded n hd z k → slot ≡ encoded n hd z (k + 1)
+  pub encode_row : (i : ℕ) {slot : List ℤ} → slot ≡ encoded n hd z (i * 9 + n) → slot ≡ encoded n hd z ((i + 1) * 9)
   unfolding encoded
-  encode_out k c f = rw (add-one k, pairs_out n z k c, counted_out n k c) f
-
-pub encode_all : (n l : ℕ) (o : Origin) (z : List Pair) (k : ℕ) {slot₀ slot : List ℤ} → slot₀ ≡ head_of l o ++ replicate (spare 0) (pos 0) → n ≤ 9
-    → k ≡ n * 9 → slot ≡ encoded n (head_in slot₀) z k → slot ≡ slot_of n (head_of l o) z ++ replicate (spare n) (pos 0)
-unfolding encoded slot_of
-encode_all n l o z k g h e f = f ∙ rw (head_in_lem l o g, e, counted_all n h)
+  encode_row i f = f ∙ row_ends n (encoded n hd z) (λ k c. rw (pairs_out n z k c, counted_out n k c)) n≤ i
 
 -- ---- `decode`
-module _ (n : ℕ) (s : List ℤ) (k : ℕ) where
-  pub decode_in : {t : ℕ} {z : List Pair} {q : Pair} → k % 9 < n → t ≡ counted n k → q ≡ slot_pair s t → z ≡ square_to n k s →
-      set z k q ≡ square_to n (k + 1) s
-  decode_in c e f g = rw (add-one k, square_in n s k c) (λ i. set (g i) k ((f ∙ ap (slot_pair s) e) i))
+module _ (n : ℕ) (n≤ : n ≤ 9) (s : List ℤ) where
+  pub decode_turn : (i j : ℕ) {z : List Pair} {q : Pair} → i < n → j < n → q ≡ slot_pair s (i * n + j) → z ≡ square_to n (i * 9 + j) s →
+      set z (i * 9 + j) q ≡ square_to n (i * 9 + (j + 1)) s
+  decode_turn i j hi hj f g =
+      let k : ℕ = i * 9 + j in
+      let e : i * 9 + (j + 1) ≡ suc k = omega arith in
+      rw (e, square_in n s k (omega arith)) (λ r. set (g r) k ((f ∙ ap (slot_pair s) (place_counts n n≤ i j hi hj)) r))
 
-  pub decode_out : {z : List Pair} → n ≤ k % 9 → z ≡ square_to n k s → z ≡ square_to n (k + 1) s
-  decode_out c g = rw (add-one k, square_out n s k c) g
-
-  pub decode_all : {z : List Pair} → k ≡ n * 9 → z ≡ square_to n k s → z ≡ zone_of n s
-  unfolding zone_of
-  decode_all e g = g ∙ ap (λ (i : ℕ). square_to n i s) e
-
--- ---- `copy`
-pub copy_turn : (d s : List ℤ) (i : ℕ) {slot : List ℤ} → i < length d → i < length s → SFits w32 (get_or s i (pos 0)) → slot ≡ take i s ++ drop i d
-    → set slot i (to_z w32 (of_z w32 (get_or s i (pos 0)))) ≡ take (i + 1) s ++ drop (i + 1) d
-copy_turn d s i hd hs f e = rw (add-one i, e, to_z-of_z w32 (get_or s i (pos 0)) f) (simp zero-add at (paste-suc d 0 s i (pos 0) (omega arith) hs))
+  pub decode_row : (i : ℕ) {z : List Pair} → z ≡ square_to n (i * 9 + n) s → z ≡ square_to n ((i + 1) * 9) s
+  decode_row i g = g ∙ row_ends n (λ k. square_to n k s) (square_out n s) n≤ i

@@ -1,12 +1,9 @@
--- The loop of `clock_before`: what it keeps, and what falls.
-use Prim.Native.Nat.{◌-◌, ◌≤◌}
+-- The loop of `clock_before`: of the indices before b that are not reset, the least way counts.
+use Prim.Native.Nat.{◌-◌}
 use mathlib.Core.Path.{◌≡◌}
 use Rattle.zones.specs.Zones.{set_of}
 use Rattle.witness.specs.Witnesses.{least_to}
 use Rattle.witness.proofs.clock_before.Given as goal
 
 abbrev pub invariant-loop-b : goal.invariant-loop-b
-invariant-loop-b l = (l.b ≤ l.size - 1) × (l.least ≡ least_to l.u l.g (set_of l.resets) l.x l.b)
-
-abbrev pub decreases-loop-b : goal.decreases-loop-b
-decreases-loop-b l = l.size - l.b
+invariant-loop-b l = l.least ≡ least_to l.u l.g (set_of l.resets) l.x (l.b - 1)

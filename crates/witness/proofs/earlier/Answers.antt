@@ -1,4 +1,4 @@
--- `earlier` meets its contract: the clocks passed are earlier by the wait.
+-- `earlier` meets its contract.
 use mathlib.Core.Path.{refl}
 use native.Mathlib.Omega.{arith}
 use Rattle.witness.specs.Witnesses.{places_of}
@@ -10,4 +10,4 @@ unfolding places_of
 loop-x-init c = (omega arith, refl)
 
 pub loop-x-preserved : goal.loop-x-preserved
-loop-x-preserved c = (omega arith, state_next _ _ c.loop-x.invariant.1 c.less.ensures)
+loop-x-preserved c = (omega arith, state_next _ c.loop-x.x (omega arith) c.loop-x.invariant.1 c.saturating_sub.ensures)

@@ -1,4 +1,4 @@
--- The loop of `landing`: what it keeps, and what falls.
+-- The loop of `landing`: the clocks before x are at their least.
 use Prim.Native.Nat.{◌-◌, ◌≤◌}
 use mathlib.Core.Path.{◌≡◌}
 use Rattle.zones.specs.Integers.{down}
@@ -7,7 +7,4 @@ use Rattle.witness.specs.Witnesses.{places_of}
 use Rattle.witness.proofs.landing.Given as goal
 
 abbrev pub invariant-loop-x : goal.invariant-loop-x
-invariant-loop-x l = (l.x ≤ l.size - 1) × (l.v ≡ places_of (λ y. down (pair_at l.a 0 y).m) l.x)
-
-abbrev pub decreases-loop-x : goal.decreases-loop-x
-decreases-loop-x l = l.size - l.x
+invariant-loop-x l = (l.x - 1 ≤ l.size - 1) × (l.v ≡ places_of (λ y. down (pair_at l.a 0 y).m) (l.x - 1))

@@ -1,7 +1,7 @@
 -- `step_back` meets its contract.
 use Rattle.runs.specs.Limits.{scale}
+use Rattle.witness.specs.Witnesses.{back_of}
 use Rattle.witness.proofs.Sizes.{earlier_size}
-use Rattle.witness.proofs.Turns.{back_is}
 use Rattle.witness.proofs.step_back.Goals as goal
 
 pub state_before-state-requires : goal.state_before-state-requires
@@ -12,4 +12,5 @@ state_before-state-requires c = (
 )
 
 pub returns : goal.returns
-returns c = back_is _ _ _ _ _ c.wait_before-wait.ensures c.earlier-u.ensures c.state_before-state.ensures
+unfolding back_of
+returns c = cc

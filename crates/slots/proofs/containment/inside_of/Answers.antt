@@ -1,7 +1,6 @@
 -- How a slot lies inside another: the lowest threshold of the pairs passed, which fits, and whether they were all equal.
 -- Assumes nothing.
-use mathlib.Core.Path.{◌≡◌, refl, ◌∙◌}
-use borrow.Author.Rules.{rules}
+use mathlib.Core.Path.{refl, ◌∙◌}
 use native.Mathlib.Omega.{arith}
 use Rattle.slots.specs.Containing.{every_pair, inside_slots}
 use Rattle.slots.proofs.slot.Loops.{turn_ready, turn_fits, turn_lowers, turn_equal, stays_so, fails_now}
@@ -10,17 +9,11 @@ use Rattle.slots.proofs.containment.inside_of.Goals.{then-not-is_equal, else-not
 
 pub loop-t-init : goal.loop-t-init
 unfolding inside_slots every_pair
-loop-t-init c = (omega arith, refl, record { n = omega arith; d = omega arith }, refl)
-
-pub get_pair-a-requires : goal.get_pair-a-requires
-get_pair-a-requires c = let pre = c.requires in search (rules, pre.new_reads.counts, pre.old_reads.counts)
-
-pub get_pair-b-requires : goal.get_pair-b-requires
-get_pair-b-requires c = let pre = c.requires in search (rules, pre.new_reads.counts, pre.old_reads.counts)
+loop-t-init c = (refl, record { n = omega arith; d = omega arith }, refl)
 
 pub after_choice-below-requires : goal.after_choice-below-requires
 after_choice-below-requires c = (
-  c.loop-t.invariant.2,
+  c.loop-t.invariant.1,
   turn_ready _ _ _ c.get_pair-a.ensures c.get_pair-b.ensures c.requires c.loop-t-test.true,
 )
 
@@ -30,25 +23,10 @@ loop-t-preserved c =
     let old = c.get_pair-b.ensures in
     let a = c.args in
     let equal = turn_equal a.new.now a.old.now c.loop-t.t new old c.compare.ensures c.is_equal.ensures in (
-      omega arith,
-      c.after_choice-below.ensures ∙ turn_lowers _ _ _ new old c.loop-t.invariant.1,
-      rw c.after_choice-below.ensures (turn_fits _ _ _ new old c.requires c.loop-t-test.true c.loop-t.invariant.2),
+      c.after_choice-below.ensures ∙ turn_lowers _ _ _ new old c.loop-t.invariant.0,
+      rw c.after_choice-below.ensures (turn_fits _ _ _ new old c.requires c.loop-t-test.true c.loop-t.invariant.1),
       elim c.if-not-is_equal.branch [
         | then-not-is_equal w ↦ w.equal-is ∙ fails_now _ c.loop-t.t (equal ∙ w.if-not-is_equal.true)
-        | else-not-is_equal w ↦ w.equal-is ∙ stays_so _ c.loop-t.t (equal ∙ w.if-not-is_equal.false) c.loop-t.invariant.3
+        | else-not-is_equal w ↦ w.equal-is ∙ stays_so _ c.loop-t.t (equal ∙ w.if-not-is_equal.false) c.loop-t.invariant.2
       ],
     )
-
-pub returns : goal.returns
-returns c =
-    let e : c.loop-t.t ≡ c.args.pairs = omega arith in
-    let inv = c.loop-t.invariant in
-    let below = rw e at inv.1 in
-    let equal = rw e at inv.3 in
-    λ i. record { below = below i; equal = equal i }
-
-pub compare-requires : goal.compare-requires
-compare-requires c = tt
-
-pub is_equal-requires : goal.is_equal-requires
-is_equal-requires c = tt

@@ -1,30 +1,20 @@
--- The containment test of two slots: so far every pair passed, and the first that fails decides.
+-- The containment test of two slots: std's `all` over the pairs.
 -- Assumes nothing.
-use mathlib.Core.Path.{◌≡◌, refl, sym, ap, ◌∙◌}
-use native.Mathlib.Omega.{arith}
+use mathlib.Core.Path.{◌≡◌, refl}
+use mathlib.Core.Bool.{true, false}
+use Prim.Native.Nat.{ℕ}
+use Rattle.std.proofs.Common.{arith, rules, tests}
+use Rattle.std.proofs.lemmas.Iterator.{cases_from_all, YieldsList-from_range}
 use Rattle.zones.specs.Pairs.{is_at_most}
-use Rattle.slots.specs.Containing.{every_pair}
-use Rattle.slots.proofs.slot.Loops.{stops, goes}
+use Rattle.slots.specs.Containing.{compare_numbers}
+use Rattle.slots.proofs.slot.Loops.{all_answers}
 use Rattle.slots.proofs.containment.is_within.Goals as goal
-
-pub loop-t-init : goal.loop-t-init
-unfolding every_pair
-loop-t-init c = (omega arith, refl)
-
-pub returns-then-not-is_at_most : goal.returns-then-not-is_at_most
-returns-then-not-is_at_most c =
-    stops _ c.loop-t.t _ (omega arith)
-    (sym (c.is_at_most.ensures ∙ ap is_at_most c.compare_at.ensures) ∙ c.if-not-is_at_most.true)
-
-pub loop-t-preserved : goal.loop-t-preserved
-loop-t-preserved c =
-    let passed = sym (c.is_at_most.ensures ∙ ap is_at_most c.compare_at.ensures) ∙ c.if-not-is_at_most.false in
-    (omega arith, goes _ c.loop-t.t passed c.loop-t.invariant.1)
 
 pub returns : goal.returns
 returns c =
-    let e : c.loop-t.t ≡ c.args.pairs = omega arith in
-    sym (rw e at c.loop-t.invariant.1)
-
-pub is_at_most-requires : goal.is_at_most-requires
-is_at_most-requires c = tt
+    let a = c.args in
+    let passes = λ (t : ℕ). is_at_most (compare_numbers a.new.now a.old.now t) in
+    all_answers passes a.pairs c.all.result
+    (cases_from_all _ _ _ (λ t. passes t ≡ true) (λ t. passes t ≡ false) c.all.ensures.ran
+    (YieldsList-from_range 0 a.pairs a.pairs refl (omega arith))
+    (λ x q k. search (rules, tests)) (λ x q k. search (rules, tests)))

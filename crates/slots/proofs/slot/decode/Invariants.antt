@@ -1,11 +1,11 @@
--- The loop of `decode`: what it keeps, and what falls.
-use Prim.Native.Nat.{◌*◌, ◌-◌, ◌≤◌}
+-- The loops of `decode`: the zone has the pairs of the places before (i, 0), or before (i, j).
+use Prim.Native.Nat.{◌+◌, ◌*◌}
 use mathlib.Core.Path.{◌≡◌}
-use Rattle.slots.specs.Slots.{counted, square_to}
+use Rattle.slots.specs.Slots.{square_to}
 use Rattle.slots.proofs.slot.decode.Given as goal
 
-abbrev pub invariant-loop-at : goal.invariant-loop-at
-invariant-loop-at l = (l.last ≡ l.size * 9) × (l.at ≤ l.last) × (l.t ≡ counted l.size l.at) × (l.z ≡ square_to l.size l.at l.slot)
+abbrev pub invariant-loop-i : goal.invariant-loop-i
+invariant-loop-i l = l.z ≡ square_to l.size (l.i * 9) l.slot
 
-abbrev pub decreases-loop-at : goal.decreases-loop-at
-decreases-loop-at l = l.last - l.at
+abbrev pub invariant-loop-j : goal.invariant-loop-j
+invariant-loop-j l = l.z ≡ square_to l.size (l.i * 9 + l.j) l.slot

@@ -2,7 +2,9 @@
 use borrow.Author.Rules.{rules}
 use mir.Syntax.{w32}
 use mir.Val.{SFits}
-use Rattle.slots.proofs.slot.Loops.{headed_all}
+use mir.ValLaws.{to_z-of_z, to_z_pos}
+use native.Mathlib.Omega.{arith}
+use Rattle.slots.specs.Slots.{head_of}
 use Rattle.slots.proofs.slot.headed.Goals as goal
 use Rattle.slots.proofs.slot.headed.Goals.{Start}
 
@@ -10,6 +12,7 @@ fits : (c : Start) → SFits w32 c.args.origin.parent × SFits w32 c.args.origin
 fits c = (search rules, search rules)
 
 pub returns : goal.returns
+unfolding head_of
 returns c =
     let h = fits (goal.at.returns c).Start in
-    headed_all c.args.location c.args.origin c.requires h.0 h.1
+    rw (to_z_pos w32 c.args.location (omega arith), to_z-of_z w32 _ h.0, to_z-of_z w32 _ h.1)
