@@ -1,41 +1,38 @@
 // The search, the run and its judge, and the cache, open to C and to Rust (include/robustness.h).
 #![tactic(auto)]
 
-ghost use Rattle.std.specs.Prelude.{◌≡◌, length, ◌↔◌};
+ghost use Rattle.std.specs.Prelude.{◌≡◌, true, length, ◌↔◌};
 ghost use Rattle.automata.specs.Refusals.{refusal_of};
 ghost use Rattle.search.specs.Answers.{search_findings, search_store};
 ghost use Rattle.cache.specs.Caches.{sound};
 ghost use Rattle.cache.specs.Consulting.{make_empty_reply, make_empty_cache};
 ghost use Rattle.cache.specs.Drawn.{look_up_in, consult_answer, consult_cache, consult_store};
 ghost use Rattle.canonical.specs.Writing.{form_answer, form_buffer};
-ghost use Rattle.exports.specs.Replies.{verdict_numbers, filed_figures, over, answer_number, told, findings_number, findings_told};
-ghost use Rattle.exports.specs.Replies.{lookup_number, filed_told, lookup_told, sound_number};
-ghost use Rattle.exports.specs.Replies.{form_number, form_told, judgement_number, passes_told};
-ghost use Rattle.run_judge.specs.declared.judgement.Judgement.TheVariants.{Yes};
+ghost use Rattle.automata.specs.Numbers.{number_in};
+ghost use Rattle.exports.specs.Replies.{number_ins, filed, over, told, findings_told, number_told, filed_told, lookup_told, passes_told};
+ghost use Rattle.exports.specs.Replies.{sound_number};
 ghost use Rattle.run_judge.specs.Judging.{judgement_of};
 ghost use Rattle.run_judge.specs.Passing.{Passes};
 ghost use Rattle.run_writer.specs.Told.{Tells};
 ghost use Rattle.run_writer.specs.Writing.{run_findings, run_buffer};
 
-use automata::refusal;
-use cache::lookup::Lookup;
+use automata::opened::Automaton;
+use automata::refusals::Refusal;
 use cache::{consult, look_up, make_empty, sound};
-use canonical::reply::Reply;
 use canonical::write_canonical;
 use run_judge::judge;
-use run_judge::judgement::Judgement;
 use run_writer::write_run;
 use search::outcome::Dropped;
 use search::search;
-use search::verdict::{Answer, Figures, Findings, Verdict, numbers_of};
+use search::verdict::{Answer, Findings, Numbers};
 use zones::fraction::Fraction;
 
-// What a cache tells beside a verdict: the zones kept. It has no exact fraction and no counts of dropped zones.
-fn filed_figures(zones: u32) -> Figures
-    ensures { result ≡ filed_figures zones }
+// What a cache tells beside an answer: no exact fraction and no counts of dropped zones.
+fn filed(answer: Answer) -> Findings
+    ensures { result ≡ filed answer }
 {
-    Figures {
-        zones,
+    Findings {
+        answer,
         exact: Fraction { n: 0, d: 0 },
         dropped: Dropped {
             again: 0,
@@ -44,22 +41,20 @@ fn filed_figures(zones: u32) -> Figures
     }
 }
 
-// What is told of a verdict: kind, n, d, zones, exact n, exact d, again and inside.
-fn verdict_numbers(v: Verdict, beside: Figures) -> [u64; 8]
-    ensures { result ≡ verdict_numbers v beside }
+// What is told of findings: kind, n, d, zones, exact n, exact d, again and inside.
+fn numbers(found: Findings) -> [u64; 8]
+    ensures { result ≡ number_ins found }
 {
-    let x = numbers_of(v);
-    let exact = beside.exact;
-    let dropped = beside.dropped;
+    let x = Numbers::from(found.answer.verdict);
     [
-        x.kind as u64,
+        u64::from(x.kind),
         x.n,
         x.d,
-        beside.zones as u64,
-        exact.n,
-        exact.d,
-        dropped.again,
-        dropped.inside,
+        u64::from(found.answer.zones),
+        found.exact.n,
+        found.exact.d,
+        found.dropped.again,
+        found.dropped.inside,
     ]
 }
 
@@ -67,90 +62,56 @@ fn verdict_numbers(v: Verdict, beside: Figures) -> [u64; 8]
 fn write_over(numbers: [u64; 8], answer: &mut [u64])
     ensures { answer.new ≡ over numbers answer.old }
 {
-    let mut i: usize = 0;
-    while i < 8 && i < answer.len() {
+    for i in 0..answer.len().min(8) {
         answer[i] = numbers[i];
-        i += 1;
     }
 }
 
-// An answer: 0 with its numbers, or the refusal's number alone.
-fn tell(found: Answer, answer: &mut [u64]) -> u32
-    ensures value { result ≡ answer_number found }
-    ensures answer_after { answer.new ≡ told found answer.old }
-{
-    match found {
-        Answer::Found(v, zones) => {
-            write_over(verdict_numbers(v, filed_figures(zones)), answer);
-            0
-        }
-        Answer::Refused(k) => k,
-    }
-}
-
-// What the bare search finds: the same, with all that it tells beside the verdict.
-fn tell_findings(found: Findings, answer: &mut [u64]) -> u32
-    ensures value { result ≡ findings_number found }
+// What is found: 0 with its numbers, or the refusal's number alone.
+fn tell(found: Result<Findings, Refusal>, answer: &mut [u64]) -> u32
+    ensures value { result ≡ number_in found }
     ensures answer_after { answer.new ≡ findings_told found answer.old }
 {
     match found {
-        Findings::Found(v, x) => {
-            write_over(verdict_numbers(v, x), answer);
+        Ok(x) => {
+            write_over(numbers(x), answer);
             0
         }
-        Findings::Refused(k) => k,
+        Err(k) => k.number(),
+    }
+}
+
+// A number: 0 with it, or the refusal's number alone.
+fn tell_number(reply: Result<u64, Refusal>, to: &mut u64) -> u32
+    ensures value { result ≡ number_in reply }
+    ensures to_after { to.new ≡ number_told reply to.old }
+{
+    match reply {
+        Ok(n) => {
+            *to = n;
+            0
+        }
+        Err(k) => k.number(),
     }
 }
 
 // A lookup: 0 with whether the automaton is filed, and then its numbers, or the refusal's number alone.
-fn tell_lookup(found: Lookup, filed: &mut u64, answer: &mut [u64]) -> u32
-    ensures value { result ≡ lookup_number found }
-    ensures filed_after { filed.new ≡ filed_told found filed.old }
+fn tell_lookup(found: Result<Option<Answer>, Refusal>, is_filed: &mut u64, answer: &mut [u64]) -> u32
+    ensures value { result ≡ number_in found }
+    ensures filed_after { is_filed.new ≡ filed_told found is_filed.old }
     ensures answer_after { answer.new ≡ lookup_told found answer.old }
 {
     match found {
-        Lookup::Filed(v, zones) => {
-            *filed = 1;
-            write_over(verdict_numbers(v, filed_figures(zones)), answer);
+        Ok(Some(x)) => {
+            *is_filed = 1;
+            write_over(numbers(filed(x)), answer);
             0
         }
-        Lookup::Absent => {
-            *filed = 0;
+        Ok(None) => {
+            *is_filed = 0;
             0
         }
-        Lookup::Refused(k) => k,
-    }
-}
-
-// What came of writing a form: 0 with its length, or the refusal's number alone.
-fn tell_form(reply: Reply, written: &mut u64) -> u32
-    ensures value { result ≡ form_number reply }
-    ensures written_after { written.new ≡ form_told reply written.old }
-{
-    match reply {
-        Reply::Written(n) => {
-            *written = n as u64;
-            0
-        }
-        Reply::Refused(k) => k,
-    }
-}
-
-// What the judge says: 0 with 1 for yes and 0 for no, or the refusal's number alone.
-fn tell_judgement(judgement: Judgement, passes: &mut u64) -> u32
-    ensures value { result ≡ judgement_number judgement }
-    ensures passes_after { passes.new ≡ passes_told judgement passes.old }
-{
-    match judgement {
-        Judgement::Refused(k) => k,
-        Judgement::Yes => {
-            *passes = 1;
-            0
-        }
-        Judgement::No => {
-            *passes = 0;
-            0
-        }
+        Err(k) => k.number(),
     }
 }
 
@@ -159,28 +120,31 @@ fn tell_judgement(judgement: Judgement, passes: &mut u64) -> u32
 pub extern "C" fn robustness_refusal(automaton: &[u8]) -> u32
     ensures { result ≡ refusal_of automaton.now }
 {
-    refusal(automaton)
+    match Automaton::open(automaton) {
+        Ok(_) => 0,
+        Err(k) => k.number(),
+    }
 }
 
 // The form of an automaton, its edges in order and each once; and its length.
 #[unsafe(no_mangle)]
 pub extern "C" fn robustness_canonical(automaton: &[u8], form: &mut [u8], written: &mut u64) -> u32
-    ensures value { result ≡ form_number (form_answer automaton.now (length form.old)) }
+    ensures value { result ≡ number_in (form_answer automaton.now (length form.old)) }
     ensures form_after { form.new ≡ form_buffer automaton.now form.old }
-    ensures written_after { written.new ≡ form_told (form_answer automaton.now (length form.old)) written.old }
+    ensures written_after { written.new ≡ number_told (form_answer automaton.now (length form.old)) written.old }
 {
-    tell_form(write_canonical(automaton, form), written)
+    tell_number(write_canonical(automaton, form).map(|n| n as u64), written)
 }
 
 // What the search finds, told; the kept zones stand in the store.
 #[unsafe(no_mangle)]
 pub extern "C" fn robustness_search(automaton: &[u8], store: &mut [i32], answer: &mut [u64]) -> u32
-    ensures value { result ≡ findings_number (search_findings automaton.now (length store.old)) }
+    ensures value { result ≡ number_in (search_findings automaton.now (length store.old)) }
     ensures store_after { store.new ≡ search_store automaton.now store.old }
     ensures answer_after { answer.new
         ≡ findings_told (search_findings automaton.now (length store.old)) answer.old }
 {
-    tell_findings(search(automaton, store), answer)
+    tell(search(automaton, store), answer)
 }
 
 // The same, or 14; and where the answer is reached, a run that ends at the target.
@@ -191,7 +155,7 @@ pub extern "C" fn robustness_write_run(
     run: &mut [i64],
     answer: &mut [u64],
 ) -> u32
-    ensures value { result ≡ findings_number (run_findings automaton.now (length store.old) (length run.old)) }
+    ensures value { result ≡ number_in (run_findings automaton.now (length store.old) (length run.old)) }
     ensures store_after { store.new ≡ search_store automaton.now store.old }
     ensures run_after { run.new ≡ run_buffer automaton.now (length store.old) run.old }
     ensures answer_after { answer.new
@@ -199,26 +163,29 @@ pub extern "C" fn robustness_write_run(
     ensures tells { Tells automaton.now (length store.old) run.new
         (run_findings automaton.now (length store.old) (length run.old)) }
 {
-    tell_findings(write_run(automaton, store, run), answer)
+    tell(write_run(automaton, store, run), answer)
 }
 
 // Whether the buffer begins with a run of the automaton that ends at the target, told.
 #[unsafe(no_mangle)]
 pub extern "C" fn robustness_judge(automaton: &[u8], run: &[i64], passes: &mut u64) -> u32
-    ensures value { result ≡ judgement_number (judgement_of automaton.now run.now) }
+    ensures value { result ≡ number_in (judgement_of automaton.now run.now) }
     ensures passes_after { passes.new ≡ passes_told (judgement_of automaton.now run.now) passes.old }
-    ensures yes { (judgement_of automaton.now run.now ≡ Yes) ↔ Passes automaton.now run.now }
+    ensures yes { (judgement_of automaton.now run.now ≡ Ok true) ↔ Passes automaton.now run.now }
 {
-    tell_judgement(judge(automaton, run), passes)
+    tell_number(judge(automaton, run).map(u64::from), passes)
 }
 
 // 0, or 12 where fewer than five bytes are lent.
 #[unsafe(no_mangle)]
 pub extern "C" fn robustness_make_empty(cache: &mut [u8]) -> u32
-    ensures value { result ≡ make_empty_reply cache.old }
+    ensures value { result ≡ number_in (make_empty_reply cache.old) }
     ensures cache_after { cache.new ≡ make_empty_cache cache.old }
 {
-    make_empty(cache)
+    match make_empty(cache) {
+        Ok(()) => 0,
+        Err(k) => k.number(),
+    }
 }
 
 // 0 for a sound cache, else 11.
@@ -226,7 +193,11 @@ pub extern "C" fn robustness_make_empty(cache: &mut [u8]) -> u32
 pub extern "C" fn robustness_sound(cache: &[u8]) -> u32
     ensures { result ≡ sound_number (sound cache.now) }
 {
-    if sound(cache) { 0 } else { 11 }
+    if sound(cache) {
+        0
+    } else {
+        Refusal::UnsoundCache.number()
+    }
 }
 
 // What is filed of an automaton, told; its form is written first.
@@ -238,7 +209,7 @@ pub extern "C" fn robustness_look_up(
     filed: &mut u64,
     answer: &mut [u64],
 ) -> u32
-    ensures value { result ≡ lookup_number (look_up_in cache.now automaton.now (length form.old)) }
+    ensures value { result ≡ number_in (look_up_in cache.now automaton.now (length form.old)) }
     ensures form_after { form.new ≡ form_buffer automaton.now form.old }
     ensures filed_after { filed.new
         ≡ filed_told (look_up_in cache.now automaton.now (length form.old)) filed.old }
@@ -258,7 +229,7 @@ pub extern "C" fn robustness_consult(
     answer: &mut [u64],
 ) -> u32
     ensures value { result
-        ≡ answer_number (consult_answer cache.old automaton.now (length form.old) (length store.old)) }
+        ≡ number_in (consult_answer cache.old automaton.now (length form.old) (length store.old)) }
     ensures cache_after { cache.new
         ≡ consult_cache cache.old automaton.now (length form.old) (length store.old) }
     ensures form_after { form.new ≡ form_buffer automaton.now form.old }
@@ -268,5 +239,5 @@ pub extern "C" fn robustness_consult(
         ≡ told (consult_answer cache.old automaton.now (length form.old) (length store.old))
         answer.old }
 {
-    tell(consult(cache, automaton, form, store), answer)
+    tell(consult(cache, automaton, form, store).map(filed), answer)
 }
