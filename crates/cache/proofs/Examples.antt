@@ -19,7 +19,7 @@ use Rattle.search.proofs.answers.Examples as search
 use Rattle.search.proofs.answers.Given.{promised}
 use Rattle.search.proofs.answers.Numbers.{numbers_are_sound}
 use Rattle.encoding.specs.Placing.{placed}
-use Rattle.cache.specs.Layouts.{version1}
+use Rattle.cache.specs.Versions.{version1}
 use Rattle.cache.specs.Records.{measured, sound_record, filed_as, number_bytes, record_of}
 use Rattle.cache.specs.Lookups.{look_up, is_absent}
 use Rattle.cache.specs.Caches.{split, records_in, total, all_sound, sound_records, distinct, sound_header, sound_as}

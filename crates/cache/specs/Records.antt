@@ -1,5 +1,5 @@
 -- A record's bytes, in any layout L: what is read of them, which are sound, and what is written.
-use Rattle.std.specs.Prelude.{ℕ, ◌+◌, ◌≤◌, Bool, cond, ◌&&◌, List, ◌∷◌, ◌++◌, leb, length, get_or, drop}
+use Rattle.std.specs.Prelude.{ℕ, ◌+◌, ◌≤◌, ◌≡◌, Bool, cond, ◌&&◌, List, ◌∷◌, ◌++◌, leb, length, get_or, drop}
 use Rattle.encoding.specs.Numbers.{be32_at, be32}
 use Rattle.automata.specs.Canonical.{is_canonical}
 use Rattle.search.specs.declared.verdict.Numbers.{Numbers}
@@ -23,6 +23,12 @@ record_automaton L r = drop L.head r
 -- the length of the record that the bytes begin with, 0 where they begin with none
 unfoldable pub measured : Layout → List ℕ → ℕ
 measured L s = cond (leb L.head (be32_at s 0) && leb (be32_at s 0) (length s)) (be32_at s 0) 0
+
+-- they begin with a record of n bytes
+pub record Begins (L : Layout) (s : List ℕ) (n : ℕ) : Type 0 where
+  pub is : measured L s ≡ n
+  pub least : L.head ≤ n
+  pub most : n ≤ length s
 
 -- ---- what it says
 -- its numbers are those of a verdict, and its automaton is "free of 1 to 8" and its own form

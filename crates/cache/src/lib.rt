@@ -9,7 +9,8 @@ mod records;
 ghost use Rattle.std.specs.Prelude.{◌≡◌, ◌+◌, ◌≤◌, length};
 ghost use Rattle.canonical.specs.Writing.{form_buffer};
 ghost use Rattle.search.specs.Given.{Given};
-ghost use Rattle.cache.specs.Layouts.{Laid, header_length, version1};
+ghost use Rattle.cache.specs.Layouts.{header_length};
+ghost use Rattle.cache.specs.Versions.{version1};
 ghost use Rattle.cache.specs.Records.{record_of, Fits};
 ghost use Rattle.cache.specs.Caches.{used_of, sound_as, sound};
 ghost use Rattle.cache.specs.Consulting.{Room, Searches, appended, filing, make_empty_reply, make_empty_cache};
@@ -20,10 +21,10 @@ ghost use Rattle.cache.specs.Growing.{Carried};
 use canonical::reply::Reply;
 use canonical::write_canonical;
 use encoding::{be32, bytes_of, put};
-use layout::{HEADER, LONGEST, Layout, VERSION_AT, version_1};
+use layout::{HEADER, LONGEST, Layout, VERSION_AT};
 use lookup::Lookup;
 use record::write;
-use records::{all_distinct, look_in, records_sound};
+use records::Records;
 use search::search;
 use search::verdict::{Answer, Numbers, numbers_of};
 
@@ -35,7 +36,7 @@ pub fn make_empty(cache: &mut [u8]) -> u32
     if cache.len() < HEADER {
         return 12;
     }
-    let layout = version_1();
+    let layout = Layout::version_1();
     put(cache, 0, &bytes_of(HEADER as u32));
     put(cache, VERSION_AT, &[layout.version]);
     0
@@ -43,7 +44,6 @@ pub fn make_empty(cache: &mut [u8]) -> u32
 
 // ---- asking
 fn sound_as(cache: &[u8], layout: Layout) -> bool
-    requires { Laid layout }
     ensures { result ≡ sound_as layout cache.now }
 {
     if cache.len() < HEADER {
@@ -59,17 +59,18 @@ fn sound_as(cache: &[u8], layout: Layout) -> bool
     if cache[VERSION_AT] != layout.version {
         return false;
     }
-    if records_sound(&cache[HEADER..used], layout) {
-        return all_distinct(&cache[HEADER..used], layout);
-    }
-    false
+    let records = Records {
+        bytes: &cache[HEADER..used],
+        layout,
+    };
+    records.are_sound() && records.all_distinct()
 }
 
 // Whether the bytes are a sound cache.
 pub fn sound(cache: &[u8]) -> bool
     ensures { result ≡ sound cache.now }
 {
-    sound_as(cache, version_1())
+    sound_as(cache, Layout::version_1())
 }
 
 // What a cache says of a form.
@@ -78,7 +79,11 @@ fn look_up_form(cache: &[u8], form: &[u8]) -> Lookup
 {
     if sound(cache) {
         let used = be32(cache, 0) as usize;
-        return look_in(&cache[HEADER..used], version_1(), form);
+        let records = Records {
+            bytes: &cache[HEADER..used],
+            layout: Layout::version_1(),
+        };
+        return records.look_in(form);
     }
     Lookup::Refused(11)
 }
@@ -97,7 +102,6 @@ pub fn look_up(cache: &[u8], automaton: &[u8], form: &mut [u8]) -> Lookup
 // ---- filing
 // A record behind those that are there: the free part is lent to its writer, then the used length follows.
 fn append(cache: &mut [u8], layout: Layout, x: Numbers, zones: u32, automaton: &[u8])
-    requires laid { Laid layout }
     requires room { Room cache.old (layout.head + length automaton.now) }
     requires fits { Fits layout x zones automaton.now }
     ensures { cache.new ≡ appended cache.old (record_of layout x zones automaton.now) }
@@ -110,7 +114,6 @@ fn append(cache: &mut [u8], layout: Layout, x: Numbers, zones: u32, automaton: &
 
 // A verdict is filed, a refusal is not.
 fn file(cache: &mut [u8], layout: Layout, automaton: &[u8], answer: Answer)
-    requires laid { Laid layout }
     requires room { Room cache.old (layout.head + length automaton.now) }
     requires given { Given automaton.now answer }
     ensures { cache.new ≡ filing layout cache.old automaton.now answer }
@@ -123,7 +126,6 @@ fn file(cache: &mut [u8], layout: Layout, automaton: &[u8], answer: Answer)
 
 // The search of an automaton that is not in the sound cache, its verdict filed.
 fn search_and_file(cache: &mut [u8], layout: Layout, automaton: &[u8], store: &mut [i32]) -> Answer
-    requires laid { Laid layout }
     requires used_fits { (header_length ≤ used_of cache.old) × (used_of cache.old ≤ length cache.old) }
     ensures { Searches layout cache.old automaton.now store.old result cache.new store.new }
 {
@@ -149,7 +151,7 @@ fn consult_form(cache: &mut [u8], form: &[u8], store: &mut [i32]) -> Answer
 {
     match look_up_form(cache, form) {
         Lookup::Filed(v, zones) => Answer::Found(v, zones),
-        Lookup::Absent => search_and_file(cache, version_1(), form, store),
+        Lookup::Absent => search_and_file(cache, Layout::version_1(), form, store),
         Lookup::Refused(k) => Answer::Refused(k),
     }
 }

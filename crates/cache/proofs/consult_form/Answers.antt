@@ -6,7 +6,6 @@ pub search_and_file-requires : goal.search_and_file-requires
 search_and_file-requires c =
     let looked = c.look_up_form in
     record {
-      laid = c.version_1.ensures.laid;
       used_fits = absent_used _ _ c.args.store.now looked.ensures c.in-Absent.is;
     }
 
@@ -18,7 +17,7 @@ returns-in-Filed c =
 pub returns-in-Absent : goal.returns-in-Absent
 returns-in-Absent c =
     let looked = c.look_up_form in
-    let m = meets_absent _ _ _ looked.ensures c.in-Absent.is c.version_1.ensures.value c.search_and_file.ensures in
+    let m = meets_absent _ _ _ looked.ensures c.in-Absent.is c.version_1.ensures c.search_and_file.ensures in
     record { value = m.0; cache_after = m.1.0; store_after = m.1.1 }
 
 pub returns-in-Refused : goal.returns-in-Refused

@@ -17,7 +17,8 @@ use Rattle.search.specs.declared.verdict.Verdict.{Verdict}
 use Rattle.cache.specs.declared.layout.Layout.{Layout}
 use Rattle.cache.specs.declared.lookup.Lookup.{Lookup}
 use Rattle.cache.specs.declared.lookup.Lookup.TheVariants as lookup
-use Rattle.cache.specs.Layouts.{header_length, version1}
+use Rattle.cache.specs.Layouts.{header_length}
+use Rattle.cache.specs.Versions.{version1}
 use Rattle.cache.specs.Caches.{used_of}
 use Rattle.cache.specs.Consulting.{look_up_as, Searches, consult_answer_as, consult_cache_as, consult_store_as}
 use Rattle.cache.specs.Drawn.{look_up_in, consult_answer, consult_cache, consult_store}

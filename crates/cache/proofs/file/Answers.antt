@@ -10,7 +10,7 @@ pub append-requires : goal.append-requires
 append-requires c =
     let given = subst (Given _) c.in-Found.is c.requires.given in
     let fits = given_fits {L = c.args.layout} c.args.automaton.now _ _ given (omega (arith, c.requires.room)) in
-    record { laid = c.requires.laid; room = c.requires.room; fits = rw c.numbers_of.ensures fits }
+    record { room = c.requires.room; fits = rw c.numbers_of.ensures fits }
 
 pub returns-in-Found : goal.returns-in-Found
 returns-in-Found c = files_found _ _ _ _ _ c.in-Found.is c.numbers_of.ensures c.append.ensures

@@ -4,7 +4,8 @@ use mathlib.Core.Path.{ap, ◌∙◌}
 use native.Mathlib.Omega.{arith}
 use Rattle.encoding.specs.Numbers.{be32}
 use Rattle.cache.specs.declared.layout.Layout.{Layout}
-use Rattle.cache.specs.Layouts.{header_length, version_at, version1}
+use Rattle.cache.specs.Layouts.{header_length, version_at}
+use Rattle.cache.specs.Versions.{version1}
 use Rattle.cache.specs.Consulting.{empty_header}
 use Rattle.encoding.proofs.Placed.{goes_on}
 use Rattle.cache.proofs.consulting.Asking.{empty-refused, empty-made}
@@ -21,6 +22,6 @@ returns c =
     let a = c.args in
     let made = empty-made version1 a.cache.now (omega arith) in
     let one = rw c.bytes_of.ensures at c.put.ensures in
-    let version = ap (λ (L : Layout). L.version ∷ []) c.version_1-layout.ensures.value in
+    let version = ap (λ (L : Layout). L.version ∷ []) c.version_1-layout.ensures in
     let two = goes_on a.cache.now (be32 header_length) (version1.version ∷ []) 0 version_at (omega arith) (omega arith) in
     record { value = made.0; cache_after = two one version c.put-2.ensures ∙ made.1 }

@@ -1,170 +1,117 @@
--- The turns of the loops over records: what the bytes from `at` on say, in terms of the record that stands there.
+-- The turns of the walks over records: what is said of those that are left, by the record that is taken and those that are left then.
 -- Assumes nothing.
-use Prim.Native.Nat.{ℕ, zero, suc, ◌+◌, ◌-◌, ◌≤◌, ◌<◌}
+use Prim.Native.Nat.{ℕ, zero, suc, ◌+◌}
 use mathlib.Core.Bool.{Bool, true, false, cond, ◌&&◌}
-use mathlib.Core.List.{List, [], ◌∷◌}
-use mathlib.Core.Logic.{⊎_elim}
-use mathlib.Core.Path.{◌≡◌, refl, sym, ap, ◌∙◌, subst}
+use mathlib.Core.List.{List, [], ◌∷◌, ◌++◌}
+use mathlib.Core.Path.{◌≡◌, refl}
 use borrow.Author.Tests.{eqb-true, eqb-false, eq-eqb, ne_eqb}
 use lib.Dec.{eqb}
-use lib.ListN.{length, take, drop, length-drop}
-use lib.Seq.{take_all, take-nil, drop-drop, length-take-le}
-use native.Mathlib.Nat.{eq-zero-or-pos}
+use lib.ListN.{length, length-append}
 use native.Mathlib.Omega.{arith}
 use Rattle.encoding.specs.Bytes.{same_bytes}
 use Rattle.cache.specs.declared.layout.Layout.{Layout}
+use Rattle.cache.specs.declared.lookup.Lookup.{Lookup}
 use Rattle.cache.specs.declared.lookup.Lookup.TheVariants.{Absent}
-use Rattle.cache.specs.Records.{measured, sound_record, filed_as, record_automaton}
-use Rattle.cache.specs.Lookups.{look_up}
-use Rattle.cache.specs.Caches.{records_in, total, all_sound, sound_records}
-use Rattle.cache.proofs.layouts.Measured.{measured-le, measured_least}
-use Rattle.cache.proofs.records.Splitting.{records_none, records_more}
+use Rattle.cache.specs.declared.record.Record.{Record}
+use Rattle.cache.specs.declared.records.Records.{Records}
+use Rattle.cache.specs.Records.{sound_record, filed_as, record_automaton}
+use Rattle.cache.specs.Lookups.{look_up, is_absent, neither_filed, both_new}
+use Rattle.cache.specs.Caches.{records_in, total, all_sound, sound_records, distinct}
+use Rattle.cache.specs.Walks.{left, Takes}
 
-pub drop-take : (k m : ℕ) (l : List ℕ) → drop k (take m l) ≡ take (m - k) (drop k l)
-drop-take zero m l = let e : m - zero ≡ m = omega arith in rw e
-drop-take (suc k) zero l = let e : zero - suc k ≡ 0 = omega arith in rw e
-drop-take (suc k) (suc m) [] = sym (take-nil (suc m - suc k))
-drop-take (suc k) (suc m) (x ∷ l) = let e : suc m - suc k ≡ m - k = omega arith in rw e (drop-take k m l)
+-- ---- tests
+same_sums : (n a b : ℕ) → eqb (n + a) (n + b) ≡ eqb a b
+same_sums n a b = go (eqb a b) refl
+  where
+    go : (t : Bool) → eqb a b ≡ t → eqb (n + a) (n + b) ≡ t
+    go true e = eq-eqb _ _ (omega (arith, eqb-true a b e))
+    go false e = ne_eqb _ _ (λ g. eqb-false a b e (omega arith))
 
-pub look_none : (L : Layout) (b : List ℕ) {rs : List (List ℕ)} → rs ≡ [] → Absent ≡ look_up L rs b
+in_turn : (e s x : Bool) → (e && cond s x false) ≡ cond s (e && x) false
+in_turn e true x = refl
+in_turn true false x = refl
+in_turn false false x = refl
+
+either_filed : (s u : Bool) (f x y : Lookup) → is_absent f ≡ false
+    → (is_absent (cond s f x) && is_absent (cond u f y)) ≡ cond s false (cond u false (is_absent x && is_absent y))
+either_filed true u f x y e = rw e refl
+either_filed false false f x y e = refl
+either_filed false true f x y e = rw e (go (is_absent x))
+  where
+    go : (t : Bool) → (t && false) ≡ false
+    go true = refl
+    go false = refl
+
+-- ---- a record before others
+first-sound : (L : Layout) (r t : List ℕ) (rs : List (List ℕ)) → (eqb (total (r ∷ rs)) (length (r ++ t)) && all_sound L (r ∷ rs))
+    ≡ cond (sound_record L r) (eqb (total rs) (length t) && all_sound L rs) false
+unfolding total all_sound
+first-sound L r t rs =
+    rw (length-append r t, same_sums (length r) (total rs) (length t)) (in_turn (eqb (total rs) (length t)) (sound_record L r) (all_sound L rs))
+
+abbrev own : Record → List ℕ
+own r = record_automaton r.layout r.bytes.now
+
+module _ {w rest : Records} {r : Record} (t : Takes w r rest) where
+  module _ {own : List ℕ} (e : own ≡ record_automaton r.layout r.bytes.now) where
+    pub look_turn : (b : List ℕ) {p : Bool} → p ≡ same_bytes own b
+        → look_up w.layout (left w) b ≡ cond p (filed_as r.layout r.bytes.now) (look_up rest.layout (left rest) b)
+    unfolding look_up
+    look_turn b f = rw (t.records, f, e, t.layout, t.rest_layout) refl
+
+    pub neither_turn : (a b : List ℕ) {p q : Bool} → p ≡ same_bytes own a → q ≡ same_bytes own b
+        → neither_filed w.layout (left w) a b ≡ cond p false (cond q false (neither_filed rest.layout (left rest) a b))
+    unfolding neither_filed filed_as is_absent
+    neither_turn a b {p} {q} f g = rw (neither_filed, look_turn a f, look_turn b g) (either_filed p q _ _ _ refl)
+
+  pub sound_turn : {p : Bool} → p ≡ sound_record r.layout r.bytes.now
+      → sound_records w.layout w.bytes.now ≡ cond p (sound_records rest.layout rest.bytes.now) false
+  unfolding sound_records
+  sound_turn f =
+      rw (f, sound_records, t.records, t.bytes, t.layout, t.rest_layout)
+      (first-sound w.layout r.bytes.now rest.bytes.now (records_in w.layout rest.bytes.now))
+
+-- ---- two records before others
+two_distinct : (L : Layout) (r r' : List ℕ) (rs : List (List ℕ))
+    → distinct L (r ∷ r' ∷ rs) ≡ cond (both_new L rs (record_automaton L r) (record_automaton L r')) (distinct L rs) false
+unfolding distinct look_up is_absent filed_as neither_filed both_new
+two_distinct L r r' rs = go (same_bytes (record_automaton L r') (record_automaton L r)) (is_absent (look_up L rs (record_automaton L r))) refl refl
+  where
+    go : (t u : Bool) → same_bytes (record_automaton L r') (record_automaton L r) ≡ t → is_absent (look_up L rs (record_automaton L r)) ≡ u
+        → distinct L (r ∷ r' ∷ rs) ≡ cond (both_new L rs (record_automaton L r) (record_automaton L r')) (distinct L rs) false
+    go true u e f = rw (both_new, e) refl
+    go false true e f = rw (both_new, e, neither_filed, f) refl
+    go false false e f = rw (both_new, e, neither_filed, f) refl
+
+module _ {w u rest : Records} {r r' : Record} (t : Takes w r u) (t' : Takes u r' rest) where
+  pub distinct_turn : {own own' : List ℕ} {p : Bool} → own ≡ record_automaton r.layout r.bytes.now → own' ≡ record_automaton r'.layout r'.bytes.now
+      → p ≡ both_new rest.layout (left rest) own own' → distinct w.layout (left w) ≡ cond p (distinct rest.layout (left rest)) false
+  distinct_turn e f g =
+      rw (t.records, t'.records, g, e, f, t.layout, t'.layout, t'.rest_layout, t.rest_layout)
+      (two_distinct w.layout r.bytes.now r'.bytes.now (records_in w.layout rest.bytes.now))
+
+-- ---- none left
+pub look_end : (L : Layout) (b : List ℕ) {rs : List (List ℕ)} → rs ≡ [] → Absent ≡ look_up L rs b
 unfolding look_up
-look_none L b e = rw e refl
+look_end L b e = rw e refl
 
--- ---- the first record of bytes t, and the rest
-module _ (L : Layout) (t : List ℕ) where
-  abbrev rest : List ℕ
-  rest = drop (measured L t) t
+pub neither_end : (L : Layout) (a b : List ℕ) {rs : List (List ℕ)} → rs ≡ [] → true ≡ neither_filed L rs a b
+unfolding neither_filed look_up is_absent
+neither_end L a b e = rw (neither_filed, e) refl
 
-  none_sound : measured L t ≡ 0 → sound_records L t ≡ eqb 0 (length t)
-  unfolding sound_records total all_sound
-  none_sound e = rw (sound_records, records_none L t e) (go (eqb 0 (length t)))
-    where
-      go : (b : Bool) → (b && true) ≡ b
-      go true = refl
-      go false = refl
+pub distinct_end : (L : Layout) {rs : List (List ℕ)} → rs ≡ [] → true ≡ distinct L rs
+unfolding distinct
+distinct_end L e = rw e refl
 
-  -- they fill t where those of the rest fill the rest
-  abbrev fills : Bool
-  fills = eqb (total (records_in L rest)) (length rest)
+pub distinct_last : {w rest : Records} {r : Record} → Takes w r rest → left rest ≡ [] → true ≡ distinct w.layout (left w)
+unfolding distinct look_up is_absent
+distinct_last t e = rw (t.records, e) refl
 
-  filled : (b : Bool) → fills ≡ b → eqb (measured L t + total (records_in L rest)) (length t) ≡ b
-  filled true e = eq-eqb _ (length t)
-      (omega (arith, eqb-true (total (records_in L rest)) (length rest) e, length-drop (measured L t) t, measured-le L t))
-  filled false e = ne_eqb _ (length t)
-      (λ g. eqb-false (total (records_in L rest)) (length rest) e (omega (arith, length-drop (measured L t) t, measured-le L t)))
+no_bytes : (n : ℕ) → eqb n 0 ≡ (eqb 0 n && true)
+no_bytes zero = refl
+no_bytes (suc n) = rw (ne_eqb (suc n) 0 (λ e. omega arith), ne_eqb 0 (suc n) (λ e. omega arith)) refl
 
-  more_sound : 0 < measured L t → sound_records L t ≡ cond (sound_record L (take (measured L t) t)) (sound_records L rest) false
-  unfolding sound_records total all_sound
-  more_sound h =
-      rw (sound_records, records_more L t h, length-take-le (measured L t) t (measured-le L t), filled fills refl)
-      (go (sound_record L (take (measured L t) t)) fills)
-    where
-      go : (a b : Bool) → (b && cond a (all_sound L (records_in L rest)) false) ≡ cond a (b && all_sound L (records_in L rest)) false
-      go true b = refl
-      go false true = refl
-      go false false = refl
-
--- ---- at a place: the m bytes that `measure` gives there, and a whole record once its test is past
-pub record MeasuredAt (L : Layout) (s : List ℕ) (at m : ℕ) : Type 0 where
-  pub place : at ≤ length s
-  pub read : m ≡ measured L (take (length s - at) (drop at s))
-
-pub record WholeAt (L : Layout) (s : List ℕ) (at m : ℕ) : Type 0 where
-  pub measured : MeasuredAt L s at m
-  pub least : L.head ≤ m
-  pub positive : 0 < m
-  pub within : at + m ≤ length s
-
--- and another whole record behind it
-pub record TwoAt (L : Layout) (s : List ℕ) (at m m' : ℕ) : Type 0 where
-  pub first : WholeAt L s at m
-  pub second : WholeAt L s (at + m) m'
-
-abbrev pub record_at : List ℕ → ℕ → ℕ → List ℕ
-record_at s at m = take m (drop at s)
-
--- its automaton, as it is lent
-abbrev pub own_at : Layout → List ℕ → ℕ → ℕ → List ℕ
-own_at L s at m = take ((at + m) - (at + L.head)) (drop (at + L.head) s)
-
-module _ {L : Layout} {s : List ℕ} {at m : ℕ} (h : MeasuredAt L s at m) where
-  measure_here : m ≡ measured L (drop at s)
-  measure_here = h.read ∙ ap (measured L) (take_all (length s - at) (drop at s) (omega (arith, length-drop at s)))
-
-  pub whole : (m ≡ 0 → ⊥) → WholeAt L s at m
-  whole z = ⊎_elim
-      (λ q. absurd (z q))
-      (λ p. record {
-        measured = h;
-        least = omega (arith, measure_here, measured_least L (drop at s) (subst (λ (k : ℕ). 0 < k) measure_here p));
-        positive = p;
-        within = omega (arith, measure_here, measured-le L (drop at s), length-drop at s);
-      })
-      (eq-zero-or-pos m)
-
-  pub none_here : m ≡ 0 → records_in L (drop at s) ≡ []
-  none_here z = records_none L (drop at s) (sym measure_here ∙ z)
-
-  pub sound_none : m ≡ 0 → at < length s → false ≡ sound_records L (drop at s)
-  sound_none z l =
-      sym (none_sound L (drop at s) (sym measure_here ∙ z) ∙ ne_eqb 0 (length (drop at s)) (λ q. absurd (omega (arith, length-drop at s))))
-
-module _ {L : Layout} {s : List ℕ} {at m : ℕ} (w : WholeAt L s at m) where
-  some : 0 < measured L (drop at s)
-  some = omega (arith, measure_here w.measured)
-
-  left : drop (measured L (drop at s)) (drop at s) ≡ drop (at + m) s
-  left = ap (λ (k : ℕ). drop k (drop at s)) (sym (measure_here w.measured)) ∙ drop-drop m at s
-
-  -- the record and its automaton, as they are lent
-  lent : take ((at + m) - at) (drop at s) ≡ record_at s at m
-  lent = let q : (at + m) - at ≡ m = omega arith in rw q
-
-  pub own : own_at L s at m ≡ record_automaton L (record_at s at m)
-  own =
-      let q : (at + m) - (at + L.head) ≡ m - L.head = omega arith in
-      rw (q, ← drop-drop L.head at s) (sym (drop-take L.head m (drop at s)))
-
-  pub long : L.head ≤ length (take ((at + m) - at) (drop at s))
-  long = rw lent (omega (arith, length-take-le m (drop at s) (omega (arith, length-drop at s))))
-
-  pub more_here : records_in L (drop at s) ≡ record_at s at m ∷ records_in L (drop (at + m) s)
-  more_here = records_more L (drop at s) some ∙ (λ i. take (sym (measure_here w.measured) i) (drop at s) ∷ records_in L (left i))
-
-  -- ---- lookup
-  module _ (b : List ℕ) {t : Bool} (q : t ≡ same_bytes (own_at L s at m) b) where
-    pub same_here : same_bytes (record_automaton L (record_at s at m)) b ≡ t
-    same_here = sym (q ∙ ap (λ (x : List ℕ). same_bytes x b) own)
-
-    pub look_found : t ≡ true → filed_as L (take ((at + m) - at) (drop at s)) ≡ look_up L (records_in L (drop at s)) b
-    unfolding look_up
-    look_found r = rw (more_here, same_here, r) (ap (filed_as L) lent)
-
-    pub look_next : t ≡ false → look_up L (records_in L (drop (at + m) s)) b ≡ look_up L (records_in L (drop at s)) b
-    unfolding look_up
-    look_next r = rw (more_here, same_here, r) refl
-
-  -- ---- sound records
-  module _ {t : Bool} (q : t ≡ sound_record L (take ((at + m) - at) (drop at s))) where
-    sound_here : sound_records L (drop at s) ≡ cond t (sound_records L (drop (at + m) s)) false
-    sound_here =
-        more_sound L (drop at s) some
-        ∙ (λ i. cond (sound_record L (take (sym (measure_here w.measured) i) (drop at s))) (sound_records L (left i)) false)
-        ∙ ap (λ (x : Bool). cond x (sound_records L (drop (at + m) s)) false) (sym (q ∙ ap (sound_record L) lent))
-
-    pub sound_next : t ≡ true → sound_records L (drop (at + m) s) ≡ sound_records L (drop at s)
-    sound_next r = sym (sound_here ∙ rw r)
-
-    pub sound_bad : t ≡ false → false ≡ sound_records L (drop at s)
-    sound_bad r = sym (sound_here ∙ rw r)
-
--- ---- at the end nothing is left
-module _ (L : Layout) (s : List ℕ) (at : ℕ) (h : length s ≤ at) where
-  nothing : measured L (drop at s) ≡ 0
-  nothing = omega (arith, measured-le L (drop at s), length-drop at s)
-
-  pub none_left : records_in L (drop at s) ≡ []
-  none_left = records_none L (drop at s) nothing
-
-  pub sound_end : true ≡ sound_records L (drop at s)
-  sound_end = sym (none_sound L (drop at s) nothing ∙ eq-eqb 0 (length (drop at s)) (omega (arith, length-drop at s)))
+pub sound_end : {w rest : Records} {p : Bool} → left w ≡ [] → rest ≡ w → p ≡ eqb (length rest.bytes.now) 0
+    → p ≡ sound_records w.layout w.bytes.now
+unfolding sound_records total all_sound
+sound_end {w} e f g = rw (g, f, sound_records, e) (no_bytes (length w.bytes.now))

@@ -29,7 +29,6 @@ room_at c = record { least = omega arith; lent = omega arith; bytes = omega arit
 pub file-requires : goal.file-requires
 file-requires c =
     record {
-      laid = c.requires.laid;
       room = room_at (goal.at.file-requires c).Else-used-length;
       given = subst (Given _) (sym c.answer-answer.ensures) c.search.ensures.promised.given;
     }

@@ -5,4 +5,4 @@ use Rattle.cache.specs.Caches.{sound_as}
 use Rattle.cache.proofs.sound.Goals as goal
 
 pub returns : goal.returns
-returns c = c.sound_as.ensures ∙ ap (λ (L : Layout). sound_as L c.args.cache.now) c.version_1.ensures.value
+returns c = c.sound_as.ensures ∙ ap (λ (L : Layout). sound_as L c.args.cache.now) c.version_1.ensures
