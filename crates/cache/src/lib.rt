@@ -6,13 +6,14 @@ pub mod lookup;
 mod record;
 mod records;
 
-ghost use Rattle.std.specs.Prelude.{◌≡◌, ◌+◌, ◌≤◌, length};
+ghost use Rattle.std.specs.Prelude.{◌≡◌, ◌+◌, ◌≤◌, false, length, MatchOption};
 ghost use Rattle.canonical.specs.Writing.{form_buffer};
 ghost use Rattle.search.specs.Given.{Given};
 ghost use Rattle.cache.specs.Layouts.{header_length};
 ghost use Rattle.cache.specs.Versions.{version1};
 ghost use Rattle.cache.specs.Records.{record_of, Fits};
 ghost use Rattle.cache.specs.Caches.{used_of, sound_as, sound};
+ghost use Rattle.cache.specs.Walks.{Opened};
 ghost use Rattle.cache.specs.Consulting.{Room, Searches, appended, filing, make_empty_reply, make_empty_cache};
 ghost use Rattle.cache.specs.Consulting.{look_up_as, consult_answer_as, consult_cache_as, consult_store_as};
 ghost use Rattle.cache.specs.Drawn.{look_up_in, consult_answer, consult_cache, consult_store};
@@ -43,49 +44,56 @@ pub fn make_empty(cache: &mut [u8]) -> u32
 }
 
 // ---- asking
-fn sound_as(cache: &[u8], layout: Layout) -> bool
-    ensures { result ≡ sound_as layout cache.now }
+// The records of a sound cache, none where it isn't sound.
+#[tactic(auto, unfolding(crate::specs::Caches::sound_as, crate::specs::Caches::sound_header))]
+fn open_as(cache: &[u8], layout: Layout) -> Option<Records<'_>>
+    ensures { MatchOption result (sound_as layout cache.now ≡ false) (Opened layout cache.now) }
 {
     if cache.len() < HEADER {
-        return false;
+        return None;
     }
     let used = be32(cache, 0) as usize;
     if used < HEADER {
-        return false;
+        return None;
     }
     if cache.len() < used {
-        return false;
+        return None;
     }
     if cache[VERSION_AT] != layout.version {
-        return false;
+        return None;
     }
     let records = Records {
         bytes: &cache[HEADER..used],
         layout,
     };
-    records.are_sound() && records.all_distinct()
+    if records.are_sound() && records.all_distinct() {
+        return Some(records);
+    }
+    None
+}
+
+fn open(cache: &[u8]) -> Option<Records<'_>>
+    ensures { MatchOption result (sound cache.now ≡ false) (Opened version1 cache.now) }
+{
+    open_as(cache, Layout::version_1())
 }
 
 // Whether the bytes are a sound cache.
 pub fn sound(cache: &[u8]) -> bool
     ensures { result ≡ sound cache.now }
 {
-    sound_as(cache, Layout::version_1())
+    open(cache).is_some()
 }
 
 // What a cache says of a form.
+#[tactic(auto, unfolding(crate::specs::Consulting::look_up_as))]
 fn look_up_form(cache: &[u8], form: &[u8]) -> Lookup
     ensures { result ≡ look_up_as version1 cache.now form.now }
 {
-    if sound(cache) {
-        let used = be32(cache, 0) as usize;
-        let records = Records {
-            bytes: &cache[HEADER..used],
-            layout: Layout::version_1(),
-        };
-        return records.look_in(form);
+    match open(cache) {
+        Some(records) => records.look_in(form),
+        None => Lookup::Refused(11),
     }
-    Lookup::Refused(11)
 }
 
 // What a cache says of an automaton, whose form is written first. It only reads the cache.

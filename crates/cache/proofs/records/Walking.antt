@@ -49,9 +49,6 @@ unfolding total all_sound
 first-sound L r t rs =
     rw (length-append r t, same_sums (length r) (total rs) (length t)) (in_turn (eqb (total rs) (length t)) (sound_record L r) (all_sound L rs))
 
-abbrev own : Record → List ℕ
-own r = record_automaton r.layout r.bytes.now
-
 module _ {w rest : Records} {r : Record} (t : Takes w r rest) where
   module _ {own : List ℕ} (e : own ≡ record_automaton r.layout r.bytes.now) where
     pub look_turn : (b : List ℕ) {p : Bool} → p ≡ same_bytes own b
