@@ -1,4 +1,3 @@
--- Records one after another: where they split, the turns of the loops over them, and one more at the end.
+-- Records one after another: where they split, and one more at the end.
 pub mod Splitting
-pub mod Walking
 pub mod Looking

@@ -30,6 +30,7 @@ use search::search;
 use search::verdict::{Answer, Numbers, numbers_of};
 
 // An empty cache: 0, or 12 if it has no room.
+#[tactic(auto, unfolding(crate::specs::Consulting::make_empty_reply, crate::specs::Consulting::make_empty_as))]
 pub fn make_empty(cache: &mut [u8]) -> u32
     ensures value { result ≡ make_empty_reply cache.old }
     ensures cache_after { cache.new ≡ make_empty_cache cache.old }
@@ -121,6 +122,7 @@ fn append(cache: &mut [u8], layout: Layout, x: Numbers, zones: u32, automaton: &
 }
 
 // A verdict is filed, a refusal is not.
+#[tactic(auto, unfolding(crate::specs::Consulting::filing))]
 fn file(cache: &mut [u8], layout: Layout, automaton: &[u8], answer: Answer)
     requires room { Room cache.old (layout.head + length automaton.now) }
     requires given { Given automaton.now answer }
@@ -133,6 +135,7 @@ fn file(cache: &mut [u8], layout: Layout, automaton: &[u8], answer: Answer)
 }
 
 // The search of an automaton that is not in the sound cache, its verdict filed.
+#[tactic(auto, unfolding(crate::specs::Consulting::full))]
 fn search_and_file(cache: &mut [u8], layout: Layout, automaton: &[u8], store: &mut [i32]) -> Answer
     requires used_fits { (header_length ≤ used_of cache.old) × (used_of cache.old ≤ length cache.old) }
     ensures { Searches layout cache.old automaton.now store.old result cache.new store.new }
@@ -152,6 +155,7 @@ fn search_and_file(cache: &mut [u8], layout: Layout, automaton: &[u8], store: &m
 
 // ---- consulting
 // The verdict of a form: the filed one, or the search's, which is filed.
+#[tactic(auto, unfolding(crate::specs::Consulting::consult_answer_as, crate::specs::Consulting::consult_cache_as, crate::specs::Consulting::consult_store_as, crate::specs::Consulting::searched, crate::specs::Consulting::answer_to, crate::specs::Consulting::look_up_as, crate::specs::Consulting::full, crate::specs::Lookups::is_absent, crate::specs::Caches::sound_as, crate::specs::Caches::sound_header))]
 fn consult_form(cache: &mut [u8], form: &[u8], store: &mut [i32]) -> Answer
     ensures value { result ≡ consult_answer_as version1 cache.old form.now (length store.old) }
     ensures cache_after { cache.new ≡ consult_cache_as version1 cache.old form.now (length store.old) }

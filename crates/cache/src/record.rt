@@ -11,6 +11,7 @@ use encoding::{be32, bytes_of, put};
 use search::verdict::{Numbers, numbers_sound, verdict_of};
 
 // The length of the record that the bytes begin with, none where they begin with none.
+#[tactic(auto, unfolding(crate::specs::Records::measured))]
 pub(crate) fn measure(bytes: &[u8], layout: Layout) -> Option<usize>
     ensures { MatchOption result (measured layout bytes.now ≡ 0) (Begins layout bytes.now) }
 {

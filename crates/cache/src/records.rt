@@ -21,6 +21,7 @@ impl<'a> Iterator for Records<'a> {
 
     ghost remaining = { item_count left };
 
+    #[tactic(auto, using(crate::proofs::records::Splitting::records_none))]
     fn next(&mut self) -> Option<Record<'a>> {
         let length = measure(self.bytes, self.layout)?;
         let (bytes, rest) = self.bytes.split_at(length);
@@ -39,6 +40,7 @@ impl<'a> Records<'a> {
     ghost use Rattle.cache.specs.Walks.{left};
 
     // Whether sound records fill the bytes exactly.
+    #[tactic(auto, unfolding(crate::specs::Caches::sound_records, crate::specs::Caches::total, crate::specs::Caches::all_sound))]
     pub(crate) fn are_sound(mut self) -> bool
         ensures { result ≡ sound_records self.entry.layout self.entry.bytes.now }
     {
@@ -51,6 +53,7 @@ impl<'a> Records<'a> {
     }
 
     // What the records say of an automaton: the first one with its bytes.
+    #[tactic(auto, unfolding(crate::specs::Lookups::look_up))]
     pub(crate) fn look_in(self, automaton: &[u8]) -> Lookup
         ensures { result ≡ look_up self.entry.layout (left self.entry) automaton.now }
     {
@@ -63,6 +66,7 @@ impl<'a> Records<'a> {
     }
 
     // Whether neither of two automata stands in the records: one walk for both, since walking is what takes the time.
+    #[tactic(auto, unfolding(crate::specs::Lookups::neither_filed, crate::specs::Lookups::look_up, crate::specs::Lookups::is_absent, crate::specs::Records::filed_as))]
     fn neither_filed(self, a: &[u8], b: &[u8]) -> bool
         ensures { result ≡ neither_filed self.entry.layout (left self.entry) a.now b.now }
     {
@@ -84,6 +88,7 @@ impl<'a> Records<'a> {
     }
 
     // Whether no automaton stands in two of the records: two of them against all that follow, at each turn.
+    #[tactic(auto, unfolding(crate::specs::Caches::distinct, crate::specs::Lookups::look_up, crate::specs::Lookups::is_absent, crate::specs::Lookups::both_new, crate::specs::Lookups::neither_filed, crate::specs::Records::filed_as))]
     pub(crate) fn all_distinct(mut self) -> bool
         ensures { result ≡ distinct self.entry.layout (left self.entry) }
     {

@@ -1,12 +1,9 @@
--- `next` meets its contract: the record that the bytes begin with, then the rest of the bytes; or none, and they stand.
+-- `next` meets its contract: the record that the bytes begin with, then the rest of the bytes.
 use mathlib.Core.Path.{refl, sym, ap}
 use lib.ListN.{length, take-append-drop}
 use native.Mathlib.Omega.{arith}
-use Rattle.cache.proofs.records.Splitting.{records_none, records_begun}
+use Rattle.cache.proofs.records.Splitting.{records_begun}
 use Rattle.cache.proofs.records.RecordsIterator.next.Goals as goal
-
-pub returns-in_err-length-clause-steps : goal.returns-in_err-length-clause-steps
-returns-in_err-length-clause-steps c = rw c.from_residual.ensures (records_none _ _ c.in_err-length.ensures, refl)
 
 pub returns-clause-steps : goal.returns-clause-steps
 returns-clause-steps c =
