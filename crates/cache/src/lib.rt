@@ -98,6 +98,7 @@ fn look_up_form(cache: &[u8], form: &[u8]) -> Lookup
 }
 
 // What a cache says of an automaton, whose form is written first. It only reads the cache.
+#[tactic(auto, using(crate::proofs::consulting::Meeting::form_within, crate::proofs::consulting::Meeting::looks_written, crate::proofs::consulting::Meeting::looks_turned_down))]
 pub fn look_up(cache: &[u8], automaton: &[u8], form: &mut [u8]) -> Lookup
     ensures value { result ≡ look_up_in cache.now automaton.now (length form.old) }
     ensures form_after { form.new ≡ form_buffer automaton.now form.old }
@@ -169,6 +170,7 @@ fn consult_form(cache: &mut [u8], form: &[u8], store: &mut [i32]) -> Answer
 }
 
 // The verdict of an automaton: that of its form, which is written first.
+#[tactic(auto, using(crate::proofs::consulting::Meeting::form_within))]
 pub fn consult(cache: &mut [u8], automaton: &[u8], form: &mut [u8], store: &mut [i32]) -> Answer
     ensures value { result ≡ consult_answer cache.old automaton.now (length form.old) (length store.old) }
     ensures cache_after { cache.new

@@ -3,7 +3,6 @@ use mathlib.Core.Path.{subst}
 use native.Mathlib.Omega.{arith}
 use Rattle.search.specs.Given.{Given}
 use Rattle.cache.proofs.layouts.Written.{given_fits}
-use Rattle.cache.proofs.consulting.Asking.{files_found, files_refused}
 use Rattle.cache.proofs.file.Goals as goal
 
 pub append-requires-clause-fits : goal.append-requires-clause-fits
