@@ -69,7 +69,7 @@ module _ (L : Layout) (c : List ℕ) (h : header_length ≤ length c) where
 
   empty_laid : make_empty_as L c ≡ empty_header L ++ rest
   unfolding placed
-  empty_laid = sym (empty-made L c h).1 ∙ simp zero-add
+  empty_laid = sym (empty-made L c h) ∙ simp zero-add
 
   pub empty_records : records_of L (make_empty_as L c) ≡ []
   empty_records = ap (records_of L) empty_laid ∙ front_records (empty_front L) rest ∙ no_records L
