@@ -35,7 +35,7 @@ pub record Begins (L : Layout) (s : List ℕ) (n : ℕ) : Type 0 where
 unfoldable pub sound_record : Layout → List ℕ → Bool
 sound_record L r = sound_numbers (record_numbers L r) && is_canonical (record_automaton L r)
 
-unfoldable pub filed_as : Layout → List ℕ → Lookup
+abbrev pub filed_as : Layout → List ℕ → Lookup
 filed_as L r = Filed (verdict_of (record_numbers L r)) (record_zones L r)
 
 -- ---- writing

@@ -98,7 +98,7 @@ fn look_up_form(cache: &[u8], form: &[u8]) -> Lookup
 }
 
 // What a cache says of an automaton, whose form is written first. It only reads the cache.
-#[tactic(auto, using(crate::proofs::consulting::Meeting::form_within, crate::proofs::consulting::Meeting::looks_written, crate::proofs::consulting::Meeting::looks_turned_down))]
+#[tactic(auto, using(crate::proofs::consulting::Meeting::looks_written, crate::proofs::consulting::Meeting::looks_turned_down))]
 pub fn look_up(cache: &[u8], automaton: &[u8], form: &mut [u8]) -> Lookup
     ensures value { result ≡ look_up_in cache.now automaton.now (length form.old) }
     ensures form_after { form.new ≡ form_buffer automaton.now form.old }
@@ -156,7 +156,6 @@ fn search_and_file(cache: &mut [u8], layout: Layout, automaton: &[u8], store: &m
 
 // ---- consulting
 // The verdict of a form: the filed one, or the search's, which is filed.
-#[tactic(auto, unfolding(crate::specs::Consulting::consult_answer_as, crate::specs::Consulting::consult_cache_as, crate::specs::Consulting::consult_store_as, crate::specs::Consulting::searched, crate::specs::Consulting::answer_to, crate::specs::Consulting::look_up_as, crate::specs::Consulting::full, crate::specs::Lookups::is_absent, crate::specs::Caches::sound_as, crate::specs::Caches::sound_header))]
 fn consult_form(cache: &mut [u8], form: &[u8], store: &mut [i32]) -> Answer
     ensures value { result ≡ consult_answer_as version1 cache.old form.now (length store.old) }
     ensures cache_after { cache.new ≡ consult_cache_as version1 cache.old form.now (length store.old) }

@@ -63,7 +63,6 @@ impl<'a> Record<'a> {
         numbers_sound(self.numbers()) && is_canonical(self.automaton())
     }
 
-    #[tactic(auto, unfolding(crate::specs::Records::filed_as))]
     pub(crate) fn filed(self) -> Lookup
         ensures { result ≡ filed_as self.entry.layout self.entry.bytes.now }
     {

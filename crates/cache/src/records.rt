@@ -66,7 +66,7 @@ impl<'a> Records<'a> {
     }
 
     // Whether neither of two automata stands in the records: one walk for both, since walking is what takes the time.
-    #[tactic(auto, unfolding(crate::specs::Lookups::neither_filed, crate::specs::Lookups::look_up, crate::specs::Lookups::is_absent, crate::specs::Records::filed_as))]
+    #[tactic(auto, unfolding(crate::specs::Lookups::look_up))]
     fn neither_filed(self, a: &[u8], b: &[u8]) -> bool
         ensures { result ≡ neither_filed self.entry.layout (left self.entry) a.now b.now }
     {
@@ -80,7 +80,6 @@ impl<'a> Records<'a> {
     }
 
     // Whether two automata differ, and neither stands in the records.
-    #[tactic(auto, unfolding(crate::specs::Lookups::both_new))]
     fn both_new(self, a: &[u8], b: &[u8]) -> bool
         ensures { result ≡ both_new self.entry.layout (left self.entry) a.now b.now }
     {
@@ -88,7 +87,7 @@ impl<'a> Records<'a> {
     }
 
     // Whether no automaton stands in two of the records: two of them against all that follow, at each turn.
-    #[tactic(auto, unfolding(crate::specs::Caches::distinct, crate::specs::Lookups::look_up, crate::specs::Lookups::is_absent, crate::specs::Lookups::both_new, crate::specs::Lookups::neither_filed, crate::specs::Records::filed_as))]
+    #[tactic(auto, unfolding(crate::specs::Caches::distinct, crate::specs::Lookups::look_up))]
     pub(crate) fn all_distinct(mut self) -> bool
         ensures { result ≡ distinct self.entry.layout (left self.entry) }
     {

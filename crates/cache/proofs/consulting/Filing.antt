@@ -105,7 +105,6 @@ module _ (L : Layout) (c b : List ℕ) (amount : ℕ) (v : Verdict) (zones : ℕ
   filed_records = appended_records c new facts room measured_all (omega (arith, size, L.laid))
 
   pub filed-sound : is_canonical b ≡ true → sound_as L (appended c new) ≡ true
-  unfolding is_absent
   filed-sound ok =
       appended-sound c new facts room measured_all (omega (arith, size, L.laid)) (record_sound L b v zones given short ok)
       (ap (λ (x : List ℕ). is_absent (look_up L (records_of L c) x)) (written_automaton L (numbers_of v) zones b) ∙ ap is_absent a.there)
@@ -165,7 +164,6 @@ Known L c b (Refused k) = Unit {0}
 
 known_once : (L : Layout) (c b : List ℕ) (amount : ℕ) → is_canonical b ≡ true → {r : Answer} {c' : List ℕ} → Way L c b amount r c'
     → Known L c' b r
-unfolding is_absent
 known_once L c b amount ok (told v zones a f) = a
 known_once L c b amount ok (turned_down k f) = tt
 known_once L c b amount ok (stopped k a f) = tt
@@ -181,7 +179,6 @@ known_answer L c b amount ok v zones e =
 
 pub known_stays : (L : Layout) (c b x : List ℕ) (amount : ℕ) → is_canonical b ≡ true → (v : Verdict) (zones : ℕ)
     → Asked L c x (lookup.Filed v zones) → {r : Answer} {c' : List ℕ} → Way L c b amount r c' → Asked L c' x (lookup.Filed v zones)
-unfolding is_absent
 known_stays L c b x amount ok v zones h (told u n a f) = h
 known_stays L c b x amount ok v zones h (turned_down k f) = h
 known_stays L c b x amount ok v zones h (stopped k a f) = h

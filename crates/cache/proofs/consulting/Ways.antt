@@ -15,7 +15,7 @@ use Rattle.cache.specs.declared.layout.Layout.{Layout}
 use Rattle.cache.specs.declared.lookup.Lookup.{Lookup}
 use Rattle.cache.specs.declared.lookup.Lookup.TheVariants as lookup
 use Rattle.cache.specs.Records.{record_of}
-use Rattle.cache.specs.Lookups.{look_up, is_absent}
+use Rattle.cache.specs.Lookups.{look_up}
 use Rattle.cache.specs.Caches.{records_of, sound_as}
 use Rattle.cache.specs.Consulting.{look_up_as, full, appended, filing, answer_to, consult_answer_as, searched, consult_cache_as}
 use Rattle.cache.specs.Consulting.{consult_store_as}
@@ -49,22 +49,22 @@ module _ (L : Layout) (c b : List ℕ) where
   Stands r = (amount : ℕ) (s : List ℤ) → (consult_answer_as L c b amount ≡ r) × (consult_cache_as L c b amount ≡ c) × (consult_store_as L c b s ≡ s)
 
   pub told_all : (v : Verdict) (zones : ℕ) → look_up_as L c b ≡ lookup.Filed v zones → Stands (Found v zones)
-  unfolding consult_answer_as consult_cache_as consult_store_as searched answer_to is_absent
+  unfolding consult_answer_as consult_cache_as consult_store_as searched answer_to
   told_all v zones e amount s = (rw (consult_answer_as, e) refl, rw (consult_cache_as, searched, e) refl, rw (consult_store_as, searched, e) refl)
 
   pub refused_all : (k : ℕ) → look_up_as L c b ≡ lookup.Refused k → Stands (Refused k)
-  unfolding consult_answer_as consult_cache_as consult_store_as searched answer_to is_absent
+  unfolding consult_answer_as consult_cache_as consult_store_as searched answer_to
   refused_all k e amount s = (rw (consult_answer_as, e) refl, rw (consult_cache_as, searched, e) refl, rw (consult_store_as, searched, e) refl)
 
   module _ (e : look_up_as L c b ≡ lookup.Absent) where
     full_all : full c (L.head + length b) ≡ true → Stands (Refused 12)
-    unfolding consult_answer_as consult_cache_as consult_store_as searched answer_to is_absent
+    unfolding consult_answer_as consult_cache_as consult_store_as searched answer_to
     full_all f amount s =
         (rw (consult_answer_as, e, f) refl, rw (consult_cache_as, searched, e, f) refl, rw (consult_store_as, searched, e, f) refl)
 
     searched_all : full c (L.head + length b) ≡ false → (amount : ℕ)
         → (consult_answer_as L c b amount ≡ search_answer b amount) × (consult_cache_as L c b amount ≡ filing L c b (search_answer b amount))
-    unfolding consult_answer_as consult_cache_as searched answer_to is_absent
+    unfolding consult_answer_as consult_cache_as searched answer_to
     searched_all f amount = (rw (consult_answer_as, e, f) refl, rw (consult_cache_as, searched, e, f) refl)
 
 -- ---- the ways that a consulting goes, with its answer and the cache that it leaves

@@ -83,7 +83,6 @@ module _ (L : Layout) (b : List ℕ) (v : Verdict) (zones : ℕ)
   numbers = written-numbers L (numbers_of v) zones b fits
 
   pub filed-back : filed_as L (record_of L (numbers_of v) zones b) ≡ Filed v zones
-  unfolding filed_as
   filed-back = λ i. Filed ((ap verdict_of numbers ∙ numbers-back b v zones g) i) (written_zones L (numbers_of v) zones b fits i)
 
   pub record_sound : is_canonical b ≡ true → sound_record L (record_of L (numbers_of v) zones b) ≡ true

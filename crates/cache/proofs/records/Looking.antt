@@ -37,7 +37,7 @@ module _ (L : Layout) where
   First rs r b = look_up L (rs ++ (r ∷ [])) b ≡ cond (is_absent (look_up L rs b)) (look_up L (r ∷ []) b) (look_up L rs b)
 
   pub look_append : (rs : List (List ℕ)) (r b : List ℕ) → First rs r b
-  unfolding look_up is_absent filed_as
+  unfolding look_up
   look_append [] r b = refl
   look_append (x ∷ rs) r b = go (same_bytes (record_automaton L x) b) refl (look_append rs r b)
     where
@@ -48,7 +48,6 @@ module _ (L : Layout) where
   -- ---- so a new automaton at the end leaves the records distinct
   absent_rest : (x : List ℕ) (rs : List (List ℕ)) (b : List ℕ) → is_absent (look_up L (x ∷ rs) b) ≡ true
       → (same_bytes (record_automaton L x) b ≡ false) × (is_absent (look_up L rs b) ≡ true)
-  unfolding is_absent filed_as
   absent_rest x rs b h = go (same_bytes (record_automaton L x) b) refl
     where
       go : (t : Bool) → same_bytes (record_automaton L x) b ≡ t → (t ≡ false) × (is_absent (look_up L rs b) ≡ true)
@@ -57,12 +56,12 @@ module _ (L : Layout) where
 
   absent_append : (rs : List (List ℕ)) (r b : List ℕ) → is_absent (look_up L rs b) ≡ true → same_bytes (record_automaton L r) b ≡ false
       → is_absent (look_up L (rs ++ (r ∷ [])) b) ≡ true
-  unfolding look_up is_absent
+  unfolding look_up
   absent_append rs r b h e = rw (look_append rs r b, h, look_miss r [] b e)
 
   pub distinct_append : (rs : List (List ℕ)) (r : List ℕ) → distinct L rs ≡ true → is_absent (look_up L rs (record_automaton L r)) ≡ true
       → distinct L (rs ++ (r ∷ [])) ≡ true
-  unfolding distinct look_up is_absent
+  unfolding distinct look_up
   distinct_append [] r h g = refl
   distinct_append (x ∷ rs) r h g =
       let p = passes (is_absent (look_up L rs (record_automaton L x))) (distinct L rs) h in

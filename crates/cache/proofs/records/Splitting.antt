@@ -55,7 +55,8 @@ module _ (L : Layout) where
       split_same (length s) (suc (length s)) s (omega arith) (omega arith) ∙ split_more (length s) s h
       ∙ ap (λ (rs : List (List ℕ)). take (measured L s) s ∷ rs) (split_same (length s) (length rest) rest (omega arith) (omega arith))
 
-  pub records_begun : (s : List ℕ) {n : ℕ} → Begins L s n → {r rest : List ℕ} → r ≡ take n s → rest ≡ drop n s → records_in L s ≡ r ∷ records_in L rest
+  pub records_begun : (s : List ℕ) {n : ℕ} → Begins L s n → {r rest : List ℕ} → r ≡ take n s → rest ≡ drop n s
+      → records_in L s ≡ r ∷ records_in L rest
   records_begun s b e f =
       let laid = L.laid in
       rw (e, f, ← b.is) (records_more s (omega (arith, b.is, b.least, laid)))
