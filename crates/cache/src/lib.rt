@@ -111,6 +111,7 @@ pub fn look_up(cache: &[u8], automaton: &[u8], form: &mut [u8]) -> Lookup
 
 // ---- filing
 // A record behind those that are there: the free part is lent to its writer, then the used length follows.
+// Cache and layout stay two parameters here: in a struct the cache would be a `&mut` field, which these contracts would follow to its end.
 fn append(cache: &mut [u8], layout: Layout, x: Numbers, zones: u32, automaton: &[u8])
     requires room { Room cache.old (layout.head + length automaton.now) }
     requires fits { Fits layout x zones automaton.now }
