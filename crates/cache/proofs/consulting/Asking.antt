@@ -1,15 +1,16 @@
 -- Making empty where there is room, and the room for a record where there is no 12.
 -- Assumes nothing.
-use Prim.Native.Nat.{ℕ, ◌+◌, ◌≤◌}
-use mathlib.Core.Bool.{Bool, true, false, ◌||◌, true≢false}
+use Prim.Native.Nat.{ℕ, ◌≤◌}
+use mathlib.Core.Bool.{false}
 use mathlib.Core.List.{List}
 use mathlib.Core.Path.{◌≡◌, refl}
-use borrow.Author.Tests.{le-ltb, ltb-false}
-use lib.Dec.{ltb}
+use borrow.Author.Tests.{le-ltb}
 use lib.ListN.{length}
+use native.Mathlib.Omega.{arith}
+use Rattle.std.proofs.lemmas.Grind.{common_steps}
 use Rattle.cache.specs.declared.layout.Layout.{Layout}
 use Rattle.encoding.specs.Placing.{placed}
-use Rattle.cache.specs.Layouts.{header_length, longest}
+use Rattle.cache.specs.Layouts.{header_length}
 use Rattle.cache.specs.Caches.{used_of}
 use Rattle.cache.specs.Consulting.{empty_header, make_empty_as, full, Room}
 
@@ -19,12 +20,6 @@ unfolding make_empty_as
 empty-made L c h = rw (make_empty_as, le-ltb (length c) header_length h) refl
 
 -- ---- 12
-neither : (t u : Bool) → (t || u) ≡ false → (t ≡ false) × (u ≡ false)
-neither true u e = absurd (true≢false e)
-neither false u e = (refl, e)
-
 pub has_room : (c : List ℕ) (size : ℕ) → header_length ≤ used_of c → full c size ≡ false → Room c size
 unfolding full
-has_room c size h e =
-    let p = neither (ltb (length c) (used_of c + size)) _ e in
-    record { least = h; lent = ltb-false (length c) (used_of c + size) p.0; bytes = ltb-false longest (used_of c + size) p.1 }
+has_room c size h e = record { least = h; lent = grind (arith, common_steps); bytes = grind (arith, common_steps) }
