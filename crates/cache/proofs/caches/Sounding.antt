@@ -4,13 +4,12 @@ use Prim.Native.Nat.{ℕ, ◌≤◌}
 use mathlib.Core.Bool.{true}
 use mathlib.Core.List.{List}
 use mathlib.Core.Path.{◌≡◌}
-use borrow.Author.Tests.{le-leb, eq-eqb}
 use lib.ListN.{length}
 use native.Mathlib.Omega.{arith}
 use Rattle.std.proofs.lemmas.Grind.{common_steps}
 use Rattle.cache.specs.declared.layout.Layout.{Layout}
 use Rattle.cache.specs.Layouts.{header_length}
-use Rattle.cache.specs.Caches.{used_of, version_of, record_bytes, records_in, records_of, total, all_sound, sound_records, distinct, sound_header}
+use Rattle.cache.specs.Caches.{used_of, version_of, record_bytes, records_in, total, all_sound, sound_records, distinct, sound_header}
 use Rattle.cache.specs.Caches.{sound_as}
 
 -- the records that fill bytes s are sound and distinct
@@ -40,8 +39,4 @@ module _ (L : Layout) (c : List ℕ) where
 
   pub facts_sound : Sound L c → sound_as L c ≡ true
   unfolding sound_as sound_header sound_records
-  facts_sound s =
-      let f = s.fine in
-      rw (sound_as, sound_header, sound_records, le-leb header_length (length c) s.lent, le-leb header_length (used_of c) s.least)
-      (rw (le-leb (used_of c) (length c) s.most, eq-eqb (version_of c) L.version s.version)
-      (rw (eq-eqb (total (records_of L c)) (length (record_bytes c)) f.filled, f.each, f.once)))
+  facts_sound s = grind (arith, common_steps)
