@@ -12,6 +12,7 @@ use native.Mathlib.Omega.{arith}
 use Rattle.std.proofs.lemmas.Grind.{common_steps}
 use Rattle.encoding.specs.Bytes.{same_bytes}
 use Rattle.cache.specs.declared.layout.Layout.{Layout}
+use Rattle.cache.specs.declared.lookup.Lookup.TheVariants.{Absent}
 use Rattle.cache.specs.Records.{measured, sound_record, filed_as, record_automaton}
 use Rattle.cache.specs.Lookups.{look_up, neither_filed, both_new}
 use Rattle.cache.specs.Caches.{records_in, total, all_sound, sound_records, distinct}
@@ -67,14 +68,32 @@ module _ (L : Layout) (s : List ℕ) where
         rw (sound_records, records_more L s h, length-take-le (measured L s) s (measured-le L s), e)
         (sound_more (measured L s) (total (records_in L rest)) (length rest) (sound_record L first) (all_sound L (records_in L rest)))
 
-  -- none there: s is sound where it is empty
-  pub sound_end : measured L s ≡ 0 → sound_records L s ≡ eqb 0 (length s)
-  unfolding sound_records total all_sound
-  sound_end e = rw (sound_records, records_none L s e) (go (eqb 0 (length s)))
-    where
-      go : (t : Bool) → (t && true) ≡ t
-      go true = refl
-      go false = refl
+  -- none there: nothing is filed, and s is sound where it is empty
+  module _ (e : measured L s ≡ 0) where
+    pub look_end : (b : List ℕ) → look_up L (records_in L s) b ≡ Absent
+    unfolding look_up
+    look_end b = rw (records_none L s e) refl
+
+    pub neither_end : (a b : List ℕ) → neither_filed L (records_in L s) a b ≡ true
+    unfolding look_up
+    neither_end a b = rw (records_none L s e) refl
+
+    pub distinct_end : distinct L (records_in L s) ≡ true
+    unfolding distinct
+    distinct_end = rw (records_none L s e) refl
+
+    pub sound_end : sound_records L s ≡ eqb 0 (length s)
+    unfolding sound_records total all_sound
+    sound_end = rw (sound_records, records_none L s e) (go (eqb 0 (length s)))
+      where
+        go : (t : Bool) → (t && true) ≡ t
+        go true = refl
+        go false = refl
+
+-- ---- one record that s begins with, and no other
+pub distinct_last : (L : Layout) (s : List ℕ) → 0 < measured L s → measured L (rest L s) ≡ 0 → distinct L (records_in L s) ≡ true
+unfolding distinct look_up
+distinct_last L s h e = rw (records_more L s h, records_none L (rest L s) e) refl
 
 -- ---- two records that s begins with, and the rest
 module _ (L : Layout) (s : List ℕ) (h : 0 < measured L s) (g : 0 < measured L (rest L s)) where
