@@ -19,9 +19,9 @@ use Rattle.search.proofs.answers.Examples as search
 use Rattle.search.proofs.answers.Given.{promised}
 use Rattle.search.proofs.answers.Numbers.{numbers_are_sound}
 use Rattle.encoding.specs.Placing.{placed}
-use Rattle.cache.specs.Layouts.{version1}
-use Rattle.cache.specs.Records.{measured, sound_record, filed_as, number_bytes, record_of}
-use Rattle.cache.specs.Lookups.{look_up, is_absent}
+use Rattle.cache.specs.Versions.{version1}
+use Rattle.cache.specs.Records.{measured, sound_record, number_bytes, record_of}
+use Rattle.cache.specs.Lookups.{look_up}
 use Rattle.cache.specs.Caches.{split, records_in, total, all_sound, sound_records, distinct, sound_header, sound_as}
 use Rattle.cache.specs.Consulting.{look_up_as, full, appended, filing, answer_to, consult_answer_as, searched, consult_cache_as}
 use Rattle.cache.specs.Drawn.{consult_answer, consult_cache}
@@ -44,7 +44,7 @@ lowest = numbers_are_sound automaton_a (Holds (Below (record { n = 1; d = 1 })))
 pub all_right : AllRight examples
 unfolding be16_at be32_at edge_in firsts guard_of in_byte invariant_in invariant_of limits_at out_of_range_at refusal_of reset_set resets_of some
     be16 be32 same_bytes bytes_less rising insert_edge sorted edge_bytes edges_from joined in_order canonical_of form_refusal
-    holding_of numbers_of verdict_of placed measured is_canonical sound_record filed_as number_bytes record_of look_up is_absent split records_in
+    holding_of numbers_of verdict_of placed measured is_canonical sound_record number_bytes record_of look_up split records_in
     total
     all_sound sound_records distinct sound_header sound_as look_up_as full appended filing answer_to consult_answer_as searched consult_cache_as
     consult_answer consult_cache

@@ -2,7 +2,8 @@
 use Rattle.std.specs.Prelude.{ℕ, zero, suc, ◌+◌, ◌-◌, Bool, true, false, cond, ◌&&◌, List, [], ◌∷◌, leb, eqb, length, get_or, take, drop}
 use Rattle.encoding.specs.Numbers.{be32_at}
 use Rattle.cache.specs.declared.layout.Layout.{Layout}
-use Rattle.cache.specs.Layouts.{header_length, version_at, version1}
+use Rattle.cache.specs.Layouts.{header_length, version_at}
+use Rattle.cache.specs.Versions.{version1}
 use Rattle.cache.specs.Records.{measured, sound_record, record_automaton}
 use Rattle.cache.specs.Lookups.{look_up, is_absent}
 

@@ -10,7 +10,8 @@ use Rattle.cache.specs.declared.layout.Layout.{Layout}
 use Rattle.cache.specs.declared.lookup.Lookup.{Lookup}
 use Rattle.cache.specs.declared.lookup.Lookup.TheVariants as lookup
 use Rattle.encoding.specs.Placing.{placed}
-use Rattle.cache.specs.Layouts.{header_length, longest, version1}
+use Rattle.cache.specs.Layouts.{header_length, longest}
+use Rattle.cache.specs.Versions.{version1}
 use Rattle.cache.specs.Records.{record_of}
 use Rattle.cache.specs.Lookups.{look_up, is_absent}
 use Rattle.cache.specs.Caches.{used_of, records_of, sound_as}

@@ -6,7 +6,7 @@ use Rattle.search.specs.declared.verdict.Answer.{Answer}
 use Rattle.search.specs.declared.verdict.Answer.TheVariants.{Refused}
 use Rattle.cache.specs.declared.lookup.Lookup.{Lookup}
 use Rattle.cache.specs.declared.lookup.Lookup.TheVariants as lookup
-use Rattle.cache.specs.Layouts.{version1}
+use Rattle.cache.specs.Versions.{version1}
 use Rattle.cache.specs.Consulting.{look_up_as, consult_answer_as, consult_cache_as, consult_store_as}
 
 unfoldable pub look_up_in : List ℕ → List ℕ → ℕ → Lookup

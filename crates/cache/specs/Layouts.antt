@@ -1,6 +1,5 @@
--- Where everything stands in a cache: its header, and the fields of a record, as a value for each version.
+-- Where everything stands in a cache: its header, and the fields of a record.
 use Rattle.std.specs.Prelude.{ℕ, ◌+◌, ◌≡◌}
-use Rattle.cache.specs.declared.layout.Layout.{Layout}
 
 -- ---- "Header: 4 bytes used length, header included; version"
 abbrev pub version_at : ℕ
@@ -13,14 +12,10 @@ header_length = 5
 abbrev pub longest : ℕ
 longest = 4294967295
 
--- ---- "Record: 4 bytes record length (17 + card length), kind (0 reached, 1 holds), 4 bytes n, 4 bytes d, 4 bytes zone count, the card."
-abbrev pub version1 : Layout
-version1 = record { version = 1; kind = 4; n = 5; d = 9; zones = 13; head = 17 }
-
--- what all proofs know of a layout: each field stands right behind the one before, the first behind the four bytes of the record's length
-pub record Laid (L : Layout) : Type 0 where
-  pub kind_at : L.kind ≡ 4
-  pub n_at : L.n ≡ L.kind + 1
-  pub d_at : L.d ≡ L.n + 4
-  pub zones_at : L.zones ≡ L.d + 4
-  pub head_ends : L.head ≡ L.zones + 4
+-- ---- what all proofs know of a layout: each field stands right behind the one before, the first behind the four bytes of the record's length
+pub record Laid (kind n d zones head : ℕ) : Type 0 where
+  pub kind_at : kind ≡ 4
+  pub n_at : n ≡ kind + 1
+  pub d_at : d ≡ n + 4
+  pub zones_at : zones ≡ d + 4
+  pub head_ends : head ≡ zones + 4

@@ -10,14 +10,14 @@ unfoldable pub look_up : Layout → List (List ℕ) → List ℕ → Lookup
 look_up L [] b = Absent
 look_up L (r ∷ rs) b = cond (same_bytes (record_automaton L r) b) (filed_as L r) (look_up L rs b)
 
-unfoldable pub is_absent : Lookup → Bool
+abbrev pub is_absent : Lookup → Bool
 is_absent (Filed v zones) = false
 is_absent Absent = true
 is_absent (Refused k) = false
 
-unfoldable pub neither_filed : Layout → List (List ℕ) → List ℕ → List ℕ → Bool
+abbrev pub neither_filed : Layout → List (List ℕ) → List ℕ → List ℕ → Bool
 neither_filed L rs a b = is_absent (look_up L rs a) && is_absent (look_up L rs b)
 
 -- two automata that differ, and neither is filed
-unfoldable pub both_new : Layout → List (List ℕ) → List ℕ → List ℕ → Bool
+abbrev pub both_new : Layout → List (List ℕ) → List ℕ → List ℕ → Bool
 both_new L rs a b = cond (same_bytes b a) false (neither_filed L rs a b)

@@ -1,5 +1,5 @@
 -- A record's bytes, in any layout L: what is read of them, which are sound, and what is written.
-use Rattle.std.specs.Prelude.{ℕ, ◌+◌, ◌≤◌, Bool, cond, ◌&&◌, List, ◌∷◌, ◌++◌, leb, length, get_or, drop}
+use Rattle.std.specs.Prelude.{ℕ, ◌+◌, ◌≤◌, ◌≡◌, Bool, cond, ◌&&◌, List, ◌∷◌, ◌++◌, leb, length, get_or, drop}
 use Rattle.encoding.specs.Numbers.{be32_at, be32}
 use Rattle.automata.specs.Canonical.{is_canonical}
 use Rattle.search.specs.declared.verdict.Numbers.{Numbers}
@@ -24,12 +24,18 @@ record_automaton L r = drop L.head r
 unfoldable pub measured : Layout → List ℕ → ℕ
 measured L s = cond (leb L.head (be32_at s 0) && leb (be32_at s 0) (length s)) (be32_at s 0) 0
 
+-- they begin with a record of n bytes
+pub record Begins (L : Layout) (s : List ℕ) (n : ℕ) : Type 0 where
+  pub is : measured L s ≡ n
+  pub least : L.head ≤ n
+  pub most : n ≤ length s
+
 -- ---- what it says
 -- its numbers are those of a verdict, and its automaton is "free of 1 to 8" and its own form
 unfoldable pub sound_record : Layout → List ℕ → Bool
 sound_record L r = sound_numbers (record_numbers L r) && is_canonical (record_automaton L r)
 
-unfoldable pub filed_as : Layout → List ℕ → Lookup
+abbrev pub filed_as : Layout → List ℕ → Lookup
 filed_as L r = Filed (verdict_of (record_numbers L r)) (record_zones L r)
 
 -- ---- writing

@@ -1,6 +1,5 @@
 // Where everything stands in a cache: its header, and the fields of a record, as a value for each version.
-ghost use Rattle.std.specs.Prelude.{◌≡◌};
-ghost use Rattle.cache.specs.Layouts.{Laid, version1};
+ghost use Rattle.cache.specs.Layouts.{Laid};
 
 // The header: four bytes of used length, then the version.
 pub const VERSION_AT: usize = 4;
@@ -19,18 +18,23 @@ pub struct Layout {
     pub d: usize,
     pub zones: usize,
     pub head: usize,
+    pub ghost laid: { Laid kind n d zones head },
 }
 
-pub(crate) fn version_1() -> Layout
-    ensures value { result ≡ version1 }
-    ensures laid { Laid result }
-{
-    Layout {
-        version: 1,
-        kind: 4,
-        n: 5,
-        d: 9,
-        zones: 13,
-        head: 17,
+impl Layout {
+    ghost use Rattle.std.specs.Prelude.{◌≡◌};
+    ghost use Rattle.cache.specs.Versions.{version1};
+
+    pub(crate) fn version_1() -> Layout
+        ensures { result ≡ version1 }
+    {
+        Layout {
+            version: 1,
+            kind: 4,
+            n: 5,
+            d: 9,
+            zones: 13,
+            head: 17,
+        }
     }
 }

@@ -6,12 +6,14 @@ pub mod lookup;
 mod record;
 mod records;
 
-ghost use Rattle.std.specs.Prelude.{◌≡◌, ◌+◌, ◌≤◌, length};
+ghost use Rattle.std.specs.Prelude.{◌≡◌, ◌+◌, ◌≤◌, false, length, MatchOption};
 ghost use Rattle.canonical.specs.Writing.{form_buffer};
 ghost use Rattle.search.specs.Given.{Given};
-ghost use Rattle.cache.specs.Layouts.{Laid, header_length, version1};
+ghost use Rattle.cache.specs.Layouts.{header_length};
+ghost use Rattle.cache.specs.Versions.{version1};
 ghost use Rattle.cache.specs.Records.{record_of, Fits};
 ghost use Rattle.cache.specs.Caches.{used_of, sound_as, sound};
+ghost use Rattle.cache.specs.Walks.{Opened};
 ghost use Rattle.cache.specs.Consulting.{Room, Searches, appended, filing, make_empty_reply, make_empty_cache};
 ghost use Rattle.cache.specs.Consulting.{look_up_as, consult_answer_as, consult_cache_as, consult_store_as};
 ghost use Rattle.cache.specs.Drawn.{look_up_in, consult_answer, consult_cache, consult_store};
@@ -20,14 +22,15 @@ ghost use Rattle.cache.specs.Growing.{Carried};
 use canonical::reply::Reply;
 use canonical::write_canonical;
 use encoding::{be32, bytes_of, put};
-use layout::{HEADER, LONGEST, Layout, VERSION_AT, version_1};
+use layout::{HEADER, LONGEST, Layout, VERSION_AT};
 use lookup::Lookup;
 use record::write;
-use records::{all_distinct, look_in, records_sound};
+use records::Records;
 use search::search;
 use search::verdict::{Answer, Numbers, numbers_of};
 
 // An empty cache: 0, or 12 if it has no room.
+#[tactic(auto, unfolding(crate::specs::Consulting::make_empty_reply, crate::specs::Consulting::make_empty_as))]
 pub fn make_empty(cache: &mut [u8]) -> u32
     ensures value { result ≡ make_empty_reply cache.old }
     ensures cache_after { cache.new ≡ make_empty_cache cache.old }
@@ -35,55 +38,67 @@ pub fn make_empty(cache: &mut [u8]) -> u32
     if cache.len() < HEADER {
         return 12;
     }
-    let layout = version_1();
+    let layout = Layout::version_1();
     put(cache, 0, &bytes_of(HEADER as u32));
     put(cache, VERSION_AT, &[layout.version]);
     0
 }
 
 // ---- asking
-fn sound_as(cache: &[u8], layout: Layout) -> bool
-    requires { Laid layout }
-    ensures { result ≡ sound_as layout cache.now }
+// The records of a sound cache, none where it isn't sound.
+#[tactic(auto, unfolding(crate::specs::Caches::sound_as, crate::specs::Caches::sound_header))]
+fn open_as(cache: &[u8], layout: Layout) -> Option<Records<'_>>
+    ensures { MatchOption result (sound_as layout cache.now ≡ false) (Opened layout cache.now) }
 {
     if cache.len() < HEADER {
-        return false;
+        return None;
     }
     let used = be32(cache, 0) as usize;
     if used < HEADER {
-        return false;
+        return None;
     }
     if cache.len() < used {
-        return false;
+        return None;
     }
     if cache[VERSION_AT] != layout.version {
-        return false;
+        return None;
     }
-    if records_sound(&cache[HEADER..used], layout) {
-        return all_distinct(&cache[HEADER..used], layout);
+    let records = Records {
+        bytes: &cache[HEADER..used],
+        layout,
+    };
+    if records.are_sound() && records.all_distinct() {
+        return Some(records);
     }
-    false
+    None
+}
+
+fn open(cache: &[u8]) -> Option<Records<'_>>
+    ensures { MatchOption result (sound cache.now ≡ false) (Opened version1 cache.now) }
+{
+    open_as(cache, Layout::version_1())
 }
 
 // Whether the bytes are a sound cache.
 pub fn sound(cache: &[u8]) -> bool
     ensures { result ≡ sound cache.now }
 {
-    sound_as(cache, version_1())
+    open(cache).is_some()
 }
 
 // What a cache says of a form.
+#[tactic(auto, unfolding(crate::specs::Consulting::look_up_as))]
 fn look_up_form(cache: &[u8], form: &[u8]) -> Lookup
     ensures { result ≡ look_up_as version1 cache.now form.now }
 {
-    if sound(cache) {
-        let used = be32(cache, 0) as usize;
-        return look_in(&cache[HEADER..used], version_1(), form);
+    match open(cache) {
+        Some(records) => records.look_in(form),
+        None => Lookup::Refused(11),
     }
-    Lookup::Refused(11)
 }
 
 // What a cache says of an automaton, whose form is written first. It only reads the cache.
+#[tactic(auto, using(crate::proofs::consulting::Meeting::looks_written, crate::proofs::consulting::Meeting::looks_turned_down))]
 pub fn look_up(cache: &[u8], automaton: &[u8], form: &mut [u8]) -> Lookup
     ensures value { result ≡ look_up_in cache.now automaton.now (length form.old) }
     ensures form_after { form.new ≡ form_buffer automaton.now form.old }
@@ -96,8 +111,8 @@ pub fn look_up(cache: &[u8], automaton: &[u8], form: &mut [u8]) -> Lookup
 
 // ---- filing
 // A record behind those that are there: the free part is lent to its writer, then the used length follows.
+// Cache and layout stay two parameters here: in a struct the cache would be a `&mut` field, which these contracts would follow to its end.
 fn append(cache: &mut [u8], layout: Layout, x: Numbers, zones: u32, automaton: &[u8])
-    requires laid { Laid layout }
     requires room { Room cache.old (layout.head + length automaton.now) }
     requires fits { Fits layout x zones automaton.now }
     ensures { cache.new ≡ appended cache.old (record_of layout x zones automaton.now) }
@@ -109,8 +124,8 @@ fn append(cache: &mut [u8], layout: Layout, x: Numbers, zones: u32, automaton: &
 }
 
 // A verdict is filed, a refusal is not.
+#[tactic(auto, unfolding(crate::specs::Consulting::filing))]
 fn file(cache: &mut [u8], layout: Layout, automaton: &[u8], answer: Answer)
-    requires laid { Laid layout }
     requires room { Room cache.old (layout.head + length automaton.now) }
     requires given { Given automaton.now answer }
     ensures { cache.new ≡ filing layout cache.old automaton.now answer }
@@ -122,8 +137,8 @@ fn file(cache: &mut [u8], layout: Layout, automaton: &[u8], answer: Answer)
 }
 
 // The search of an automaton that is not in the sound cache, its verdict filed.
+#[tactic(auto, unfolding(crate::specs::Consulting::full))]
 fn search_and_file(cache: &mut [u8], layout: Layout, automaton: &[u8], store: &mut [i32]) -> Answer
-    requires laid { Laid layout }
     requires used_fits { (header_length ≤ used_of cache.old) × (used_of cache.old ≤ length cache.old) }
     ensures { Searches layout cache.old automaton.now store.old result cache.new store.new }
 {
@@ -149,12 +164,13 @@ fn consult_form(cache: &mut [u8], form: &[u8], store: &mut [i32]) -> Answer
 {
     match look_up_form(cache, form) {
         Lookup::Filed(v, zones) => Answer::Found(v, zones),
-        Lookup::Absent => search_and_file(cache, version_1(), form, store),
+        Lookup::Absent => search_and_file(cache, Layout::version_1(), form, store),
         Lookup::Refused(k) => Answer::Refused(k),
     }
 }
 
 // The verdict of an automaton: that of its form, which is written first.
+#[tactic(auto, using(crate::proofs::consulting::Meeting::form_within))]
 pub fn consult(cache: &mut [u8], automaton: &[u8], form: &mut [u8], store: &mut [i32]) -> Answer
     ensures value { result ≡ consult_answer cache.old automaton.now (length form.old) (length store.old) }
     ensures cache_after { cache.new

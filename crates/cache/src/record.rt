@@ -1,8 +1,8 @@
 // One record of a cache.
-ghost use Rattle.std.specs.Prelude.{◌≡◌, ◌+◌, ◌≤◌, length};
-ghost use Rattle.cache.specs.Layouts.{Laid};
+ghost use Rattle.std.specs.Prelude.{◌≡◌, ◌+◌, ◌≤◌, length, MatchOption};
 ghost use Rattle.encoding.specs.Placing.{placed};
-ghost use Rattle.cache.specs.Records.{record_numbers, measured, sound_record, filed_as, number_bytes, record_of, NumbersFit, Fits};
+ghost use Rattle.cache.specs.Records.{record_numbers, record_automaton, measured, Begins, sound_record, filed_as};
+ghost use Rattle.cache.specs.Records.{number_bytes, record_of, NumbersFit, Fits};
 
 use crate::layout::Layout;
 use crate::lookup::Lookup;
@@ -10,66 +10,71 @@ use canonical::is_canonical;
 use encoding::{be32, bytes_of, put};
 use search::verdict::{Numbers, numbers_sound, verdict_of};
 
-// The length of the record that the bytes begin with, 0 where they begin with none.
-pub(crate) fn measure(bytes: &[u8], layout: Layout) -> usize
-    requires { Laid layout }
-    ensures { result ≡ measured layout bytes.now }
+// The length of the record that the bytes begin with, none where they begin with none.
+#[tactic(auto, unfolding(crate::specs::Records::measured))]
+pub(crate) fn measure(bytes: &[u8], layout: Layout) -> Option<usize>
+    ensures { MatchOption result (measured layout bytes.now ≡ 0) (Begins layout bytes.now) }
 {
-    let head = layout.head;
-    if bytes.len() < head {
-        return 0;
+    if bytes.len() < layout.head {
+        return None;
     }
     let length = be32(bytes, 0) as usize;
-    if length < head {
-        return 0;
+    if length < layout.head {
+        return None;
     }
     if bytes.len() < length {
-        return 0;
+        return None;
     }
-    length
+    Some(length)
 }
 
 // ---- what it says
-// The numbers of its verdict.
-fn read_numbers(bytes: &[u8], layout: Layout) -> Numbers
-    requires laid { Laid layout }
-    requires head_in_bounds { layout.head ≤ length bytes.now }
-    ensures { result ≡ record_numbers layout bytes.now }
-{
-    let kind = layout.kind;
-    Numbers {
-        kind: bytes[kind],
-        n: be32(bytes, layout.n) as u64,
-        d: be32(bytes, layout.d) as u64,
-    }
+// The bytes of a record, all of them and no more, and the layout in which they are read.
+#[derive(Clone, Copy)]
+pub(crate) struct Record<'a> {
+    pub(crate) bytes: &'a [u8],
+    pub(crate) layout: Layout,
+    pub(crate) ghost has_head: { layout.head ≤ length bytes.now },
 }
 
-pub(crate) fn record_sound(bytes: &[u8], layout: Layout) -> bool
-    requires laid { Laid layout }
-    requires head_in_bounds { layout.head ≤ length bytes.now }
-    ensures { result ≡ sound_record layout bytes.now }
-{
-    let head = layout.head;
-    if numbers_sound(read_numbers(bytes, layout)) {
-        return is_canonical(&bytes[head..]);
+impl<'a> Record<'a> {
+    pub(crate) fn automaton(self) -> &'a [u8]
+        ensures { result.now ≡ record_automaton self.entry.layout self.entry.bytes.now }
+    {
+        &self.bytes[self.layout.head..]
     }
-    false
-}
 
-pub(crate) fn filed(bytes: &[u8], layout: Layout) -> Lookup
-    requires laid { Laid layout }
-    requires head_in_bounds { layout.head ≤ length bytes.now }
-    ensures { result ≡ filed_as layout bytes.now }
-{
-    Lookup::Filed(
-        verdict_of(read_numbers(bytes, layout)),
-        be32(bytes, layout.zones),
-    )
+    // The numbers of its verdict.
+    fn numbers(self) -> Numbers
+        ensures { result ≡ record_numbers self.entry.layout self.entry.bytes.now }
+    {
+        let Record { bytes, layout } = self;
+        Numbers {
+            kind: bytes[layout.kind],
+            n: be32(bytes, layout.n) as u64,
+            d: be32(bytes, layout.d) as u64,
+        }
+    }
+
+    #[tactic(auto, unfolding(crate::specs::Records::sound_record))]
+    pub(crate) fn is_sound(self) -> bool
+        ensures { result ≡ sound_record self.entry.layout self.entry.bytes.now }
+    {
+        numbers_sound(self.numbers()) && is_canonical(self.automaton())
+    }
+
+    pub(crate) fn filed(self) -> Lookup
+        ensures { result ≡ filed_as self.entry.layout self.entry.bytes.now }
+    {
+        Lookup::Filed(
+            verdict_of(self.numbers()),
+            be32(self.bytes, self.layout.zones),
+        )
+    }
 }
 
 // ---- its bytes
 fn write_numbers(free: &mut [u8], layout: Layout, x: Numbers)
-    requires laid { Laid layout }
     requires head_in_bounds { layout.head ≤ length free.old }
     requires numbers_fit { NumbersFit x }
     ensures { free.new ≡ placed layout.kind (number_bytes x) free.old }
@@ -81,7 +86,6 @@ fn write_numbers(free: &mut [u8], layout: Layout, x: Numbers)
 
 // The free part of a cache begins with a record: field after field, then the automaton.
 pub(crate) fn write(free: &mut [u8], layout: Layout, x: Numbers, zones: u32, automaton: &[u8])
-    requires laid { Laid layout }
     requires automaton_in_bounds { layout.head + length automaton.now ≤ length free.old }
     requires fits { Fits layout x zones automaton.now }
     ensures { free.new ≡ placed 0 (record_of layout x zones automaton.now) free.old }

@@ -1,120 +1,104 @@
 // The records of a cache, one after another.
-ghost use Rattle.std.specs.Prelude.{◌≡◌};
-ghost use Rattle.cache.specs.Layouts.{Laid};
-ghost use Rattle.cache.specs.Caches.{sound_records, distinct, records_in};
-ghost use Rattle.cache.specs.Lookups.{look_up, neither_filed, both_new};
-
 use crate::layout::Layout;
 use crate::lookup::Lookup;
-use crate::record::{filed, measure, record_sound};
+use crate::record::{Record, measure};
 use encoding::same;
 
-// Whether sound records fill the bytes exactly.
-pub(crate) fn records_sound(bytes: &[u8], layout: Layout) -> bool
-    requires { Laid layout }
-    ensures { result ≡ sound_records layout bytes.now }
-{
-    let mut at = 0;
-    while at < bytes.len() {
-        let length = measure(&bytes[at..], layout);
-        if length == 0 {
-            return false;
-        }
-        let next = at + length;
-        if record_sound(&bytes[at..next], layout) {
-            at = next;
-        } else {
-            return false;
-        }
-    }
-    true
+// A walk over the records that bytes begin with, up to where none begins; and the layout in which they are read.
+#[derive(Clone, Copy)]
+pub(crate) struct Records<'a> {
+    pub(crate) bytes: &'a [u8],
+    pub(crate) layout: Layout,
 }
 
-// What the records say of an automaton: the first one with its bytes.
-pub(crate) fn look_in(bytes: &[u8], layout: Layout, automaton: &[u8]) -> Lookup
-    requires { Laid layout }
-    ensures { result ≡ look_up layout (records_in layout bytes.now) automaton.now }
-{
-    let mut at = 0;
-    while at < bytes.len() {
-        let length = measure(&bytes[at..], layout);
-        if length == 0 {
-            return Lookup::Absent;
-        }
-        let own = at + layout.head;
-        let next = at + length;
-        if same(&bytes[own..next], automaton) {
-            return filed(&bytes[at..next], layout);
-        }
-        at = next;
+impl<'a> Iterator for Records<'a> {
+    ghost use Rattle.std.specs.Iterator.{item_count};
+    ghost use Rattle.cache.specs.Walks.{left, Walks};
+
+    type Item = Record<'a>;
+
+    ghost next_gives = { Walks };
+
+    ghost remaining = { item_count left };
+
+    #[tactic(auto, using(crate::proofs::records::Splitting::records_none))]
+    fn next(&mut self) -> Option<Record<'a>> {
+        let length = measure(self.bytes, self.layout)?;
+        let (bytes, rest) = self.bytes.split_at(length);
+        self.bytes = rest;
+        Some(Record {
+            bytes,
+            layout: self.layout,
+        })
     }
-    Lookup::Absent
 }
 
-// Whether neither of two automata stands in the records: one walk for both, since walking is what takes the time.
-fn neither_filed(bytes: &[u8], layout: Layout, a: &[u8], b: &[u8]) -> bool
-    requires { Laid layout }
-    ensures { result ≡ neither_filed layout (records_in layout bytes.now) a.now b.now }
-{
-    let mut at = 0;
-    while at < bytes.len() {
-        let length = measure(&bytes[at..], layout);
-        if length == 0 {
-            return true;
-        }
-        let own = at + layout.head;
-        let next = at + length;
-        if same(&bytes[own..next], a) {
-            return false;
-        }
-        if same(&bytes[own..next], b) {
-            return false;
-        }
-        at = next;
-    }
-    true
-}
+impl<'a> Records<'a> {
+    ghost use Rattle.std.specs.Prelude.{◌≡◌};
+    ghost use Rattle.cache.specs.Caches.{sound_records, distinct};
+    ghost use Rattle.cache.specs.Lookups.{look_up, neither_filed, both_new};
+    ghost use Rattle.cache.specs.Walks.{left};
 
-// Whether two automata differ, and neither stands in the records.
-fn both_new(bytes: &[u8], layout: Layout, a: &[u8], b: &[u8]) -> bool
-    requires { Laid layout }
-    ensures { result ≡ both_new layout (records_in layout bytes.now) a.now b.now }
-{
-    if same(b, a) {
-        return false;
+    // Whether sound records fill the bytes exactly.
+    #[tactic(auto, unfolding(crate::specs::Caches::sound_records, crate::specs::Caches::total, crate::specs::Caches::all_sound))]
+    pub(crate) fn are_sound(mut self) -> bool
+        ensures { result ≡ sound_records self.entry.layout self.entry.bytes.now }
+    {
+        while let Some(record) = self.next() {
+            if !record.is_sound() {
+                return false;
+            }
+        }
+        self.bytes.is_empty()
     }
-    neither_filed(bytes, layout, a, b)
-}
 
-// Whether no automaton stands in two of the records: two of them against all that follow, at each turn.
-pub(crate) fn all_distinct(bytes: &[u8], layout: Layout) -> bool
-    requires { Laid layout }
-    ensures { result ≡ distinct layout (records_in layout bytes.now) }
-{
-    let mut at = 0;
-    while at < bytes.len() {
-        let length = measure(&bytes[at..], layout);
-        if length == 0 {
-            return true;
+    // What the records say of an automaton: the first one with its bytes.
+    #[tactic(auto, unfolding(crate::specs::Lookups::look_up))]
+    pub(crate) fn look_in(self, automaton: &[u8]) -> Lookup
+        ensures { result ≡ look_up self.entry.layout (left self.entry) automaton.now }
+    {
+        for record in self {
+            if same(record.automaton(), automaton) {
+                return record.filed();
+            }
         }
-        let own = at + layout.head;
-        let second = at + length;
-        let second_length = measure(&bytes[second..], layout);
-        if second_length == 0 {
-            return true;
-        }
-        let second_own = second + layout.head;
-        let next = second + second_length;
-        if both_new(
-            &bytes[next..],
-            layout,
-            &bytes[own..second],
-            &bytes[second_own..next],
-        ) {
-            at = next;
-        } else {
-            return false;
-        }
+        Lookup::Absent
     }
-    true
+
+    // Whether neither of two automata stands in the records: one walk for both, since walking is what takes the time.
+    #[tactic(auto, unfolding(crate::specs::Lookups::look_up))]
+    fn neither_filed(self, a: &[u8], b: &[u8]) -> bool
+        ensures { result ≡ neither_filed self.entry.layout (left self.entry) a.now b.now }
+    {
+        for record in self {
+            let own = record.automaton();
+            if same(own, a) || same(own, b) {
+                return false;
+            }
+        }
+        true
+    }
+
+    // Whether two automata differ, and neither stands in the records.
+    fn both_new(self, a: &[u8], b: &[u8]) -> bool
+        ensures { result ≡ both_new self.entry.layout (left self.entry) a.now b.now }
+    {
+        !same(b, a) && self.neither_filed(a, b)
+    }
+
+    // Whether no automaton stands in two of the records: two of them against all that follow, at each turn.
+    #[tactic(auto, unfolding(crate::specs::Caches::distinct, crate::specs::Lookups::look_up))]
+    pub(crate) fn all_distinct(mut self) -> bool
+        ensures { result ≡ distinct self.entry.layout (left self.entry) }
+    {
+        while let Some(first) = self.next() {
+            let Some(second) = self.next() else {
+                return true;
+            };
+            if !self.both_new(first.automaton(), second.automaton()) {
+                return false;
+            }
+        }
+        true
+    }
 }

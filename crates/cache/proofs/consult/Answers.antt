@@ -5,12 +5,6 @@ use Rattle.cache.proofs.consulting.Meeting.{form_within, consults_written, consu
 use Rattle.cache.proofs.growing.Carried.{all_promised}
 use Rattle.cache.proofs.consult.Goals as goal
 
-pub slice_bounds-consult_form-end : goal.slice_bounds-consult_form-end
-slice_bounds-consult_form-end c =
-    let wrote = c.write_canonical in
-    let a = c.args in
-    form_within a.automaton.now a.form.now wrote.ensures.value _ c.in-Written.is wrote.auto.form
-
 pub slice_bounds-consult_form-end-in-Written : goal.slice_bounds-consult_form-end-in-Written
 slice_bounds-consult_form-end-in-Written c =
     let a = c.args in

@@ -1,27 +1,35 @@
--- `consult_form` meets its contract, by what `look_up_form` finds: filed, absent or refused.
-use Rattle.cache.proofs.consulting.Meeting.{meets-told, meets-refused, meets_absent, absent_used}
+-- `consult_form` meets its contract: the filed verdict, the search's, or 11.
+use Rattle.std.proofs.Common.{arith}
+use Rattle.std.proofs.lemmas.Grind.{common_steps}
+use Rattle.cache.specs.Caches.{sound_as, sound_header}
+use Rattle.cache.specs.Consulting.{look_up_as, answer_to, consult_answer_as, searched, consult_cache_as, consult_store_as}
 use Rattle.cache.proofs.consult_form.Goals as goal
 
+-- where the automaton is absent the cache is sound
 pub search_and_file-requires : goal.search_and_file-requires
-search_and_file-requires c =
-    let looked = c.look_up_form in
-    record {
-      laid = c.version_1.ensures.laid;
-      used_fits = absent_used _ _ c.args.store.now looked.ensures c.in-Absent.is;
-    }
+unfolding look_up_as sound_as sound_header
+search_and_file-requires c = grind (arith, common_steps)
 
 pub returns-in-Filed : goal.returns-in-Filed
-returns-in-Filed c =
-    let m = meets-told _ _ _ c.look_up_form.ensures _ _ c.in-Filed.is in
-    record { value = m.0; cache_after = m.1.0; store_after = m.1.1 }
+unfolding answer_to consult_answer_as searched consult_cache_as consult_store_as
+returns-in-Filed c = record {
+  value = grind (arith, common_steps);
+  cache_after = grind (arith, common_steps);
+  store_after = grind (arith, common_steps);
+}
 
 pub returns-in-Absent : goal.returns-in-Absent
-returns-in-Absent c =
-    let looked = c.look_up_form in
-    let m = meets_absent _ _ _ looked.ensures c.in-Absent.is c.version_1.ensures.value c.search_and_file.ensures in
-    record { value = m.0; cache_after = m.1.0; store_after = m.1.1 }
+unfolding answer_to consult_answer_as searched consult_cache_as consult_store_as
+returns-in-Absent c = record {
+  value = grind (arith, common_steps);
+  cache_after = grind (arith, common_steps);
+  store_after = grind (arith, common_steps);
+}
 
 pub returns-in-Refused : goal.returns-in-Refused
-returns-in-Refused c =
-    let m = meets-refused _ _ _ c.look_up_form.ensures _ c.in-Refused.is in
-    record { value = m.0; cache_after = m.1.0; store_after = m.1.1 }
+unfolding answer_to consult_answer_as searched consult_cache_as consult_store_as
+returns-in-Refused c = record {
+  value = grind (arith, common_steps);
+  cache_after = grind (arith, common_steps);
+  store_after = grind (arith, common_steps);
+}

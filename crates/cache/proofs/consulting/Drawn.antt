@@ -9,7 +9,7 @@ use Rattle.automata.specs.Canonical.{canonical_of}
 use Rattle.canonical.specs.Writing.{form_refusal}
 use Rattle.search.specs.declared.verdict.Answer.TheVariants.{Refused}
 use Rattle.cache.specs.declared.lookup.Lookup.TheVariants as lookup
-use Rattle.cache.specs.Layouts.{version1}
+use Rattle.cache.specs.Versions.{version1}
 use Rattle.cache.specs.Consulting.{look_up_as, consult_answer_as, consult_cache_as, consult_store_as}
 use Rattle.cache.specs.Drawn.{look_up_in, consult_answer, consult_cache, consult_store}
 

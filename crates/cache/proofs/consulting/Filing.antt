@@ -22,7 +22,7 @@ use Rattle.search.specs.Answers.{search_answer}
 use Rattle.search.proofs.answers.Given.{promised}
 use Rattle.cache.specs.declared.layout.Layout.{Layout}
 use Rattle.cache.specs.declared.lookup.Lookup.TheVariants as lookup
-use Rattle.cache.specs.Layouts.{header_length, longest, Laid}
+use Rattle.cache.specs.Layouts.{header_length, longest}
 use Rattle.encoding.specs.Placing.{placed}
 use Rattle.cache.specs.Records.{measured, record_of}
 use Rattle.cache.specs.Lookups.{look_up, is_absent}
@@ -69,7 +69,7 @@ module _ (L : Layout) (c : List ℕ) (h : header_length ≤ length c) where
 
   empty_laid : make_empty_as L c ≡ empty_header L ++ rest
   unfolding placed
-  empty_laid = sym (empty-made L c h).1 ∙ simp zero-add
+  empty_laid = sym (empty-made L c h) ∙ simp zero-add
 
   pub empty_records : records_of L (make_empty_as L c) ≡ []
   empty_records = ap (records_of L) empty_laid ∙ front_records (empty_front L) rest ∙ no_records L
@@ -78,7 +78,7 @@ module _ (L : Layout) (c : List ℕ) (h : header_length ≤ length c) where
   empty-sound = ap (sound_as L) empty_laid ∙ front_sound (empty_front L) rest (empty_fine L)
 
 -- ---- the record of a verdict that the search gave
-module _ {L : Layout} (laid : Laid L) (c b : List ℕ) (amount : ℕ) (v : Verdict) (zones : ℕ)
+module _ (L : Layout) (c b : List ℕ) (amount : ℕ) (v : Verdict) (zones : ℕ)
     (a : Asked L c b lookup.Absent) (f : full c (L.head + length b) ≡ false) (e : search_answer b amount ≡ Found v zones) where
   abbrev new : List ℕ
   new = record_of L (numbers_of v) zones b
@@ -90,7 +90,7 @@ module _ {L : Layout} (laid : Laid L) (c b : List ℕ) (amount : ℕ) (v : Verdi
   facts = sound_facts L c a.sound
 
   size : length new ≡ L.head + length b
-  size = written-length laid (numbers_of v) zones b
+  size = written-length L (numbers_of v) zones b
 
   room : Room c (length new)
   room = has_room c (length new) facts.least (ap (full c) size ∙ f)
@@ -99,16 +99,15 @@ module _ {L : Layout} (laid : Laid L) (c b : List ℕ) (amount : ℕ) (v : Verdi
   short = omega (arith, room.bytes, size)
 
   measured_all : measured L new ≡ length new
-  measured_all = written-measured laid (numbers_of v) zones b (given_fits b v zones given short)
+  measured_all = written-measured L (numbers_of v) zones b (given_fits b v zones given short)
 
   pub filed_records : records_of L (appended c new) ≡ records_of L c ++ (new ∷ [])
-  filed_records = appended_records c new facts room laid measured_all (omega (arith, size, laid))
+  filed_records = appended_records c new facts room measured_all (omega (arith, size, L.laid))
 
   pub filed-sound : is_canonical b ≡ true → sound_as L (appended c new) ≡ true
-  unfolding is_absent
   filed-sound ok =
-      appended-sound c new facts room laid measured_all (omega (arith, size, laid)) (record_sound laid b v zones given short ok)
-      (ap (λ (x : List ℕ). is_absent (look_up L (records_of L c) x)) (written_automaton laid (numbers_of v) zones b) ∙ ap is_absent a.there)
+      appended-sound c new facts room measured_all (omega (arith, size, L.laid)) (record_sound L b v zones given short ok)
+      (ap (λ (x : List ℕ). is_absent (look_up L (records_of L c) x)) (written_automaton L (numbers_of v) zones b) ∙ ap is_absent a.there)
 
   -- what is looked up there: what was there, else the new verdict of b
   pub filed_there : (x : List ℕ) → look_up L (records_of L (appended c new)) x
@@ -116,22 +115,22 @@ module _ {L : Layout} (laid : Laid L) (c b : List ℕ) (amount : ℕ) (v : Verdi
   unfolding look_up
   filed_there x =
       let old = look_up L (records_of L c) x in
-      let own = written_automaton laid (numbers_of v) zones b in
+      let own = written_automaton L (numbers_of v) zones b in
       ap (λ (rs : List (List ℕ)). look_up L rs x) filed_records ∙ look_append L (records_of L c) new x
-      ∙ (λ i. cond (is_absent old) (cond (same_bytes (own i) x) (filed-back laid b v zones given short i) lookup.Absent) old)
+      ∙ (λ i. cond (is_absent old) (cond (same_bytes (own i) x) (filed-back L b v zones given short i) lookup.Absent) old)
 
-pub sound_stays : {L : Layout} → Laid L → (c b : List ℕ) (amount : ℕ) → is_canonical b ≡ true → sound_as L c ≡ true
+pub sound_stays : (L : Layout) (c b : List ℕ) (amount : ℕ) → is_canonical b ≡ true → sound_as L c ≡ true
     → sound_as L (consult_cache_as L c b amount) ≡ true
-sound_stays {L} laid c b amount ok h = go (way L c b amount)
+sound_stays L c b amount ok h = go (way L c b amount)
   where
     go : {r : Answer} {c' : List ℕ} → Way L c b amount r c' → sound_as L c' ≡ true
     go (told v zones a f) = h
     go (turned_down k f) = h
     go (stopped k a f) = h
-    go (filed v zones a f e) = filed-sound laid c b amount v zones a f e ok
+    go (filed v zones a f e) = filed-sound L c b amount v zones a f e ok
 
 -- ---- a record is written exactly where a verdict was reached that was not there
-module _ {L : Layout} (laid : Laid L) (c b : List ℕ) (amount : ℕ) where
+module _ (L : Layout) (c b : List ℕ) (amount : ℕ) where
   -- the records that an answer to an automaton that is not there leaves
   abbrev Left : Answer → List (List ℕ) → Type 0
   Left (Found v zones) rs = rs ≡ records_of L c ++ (record_of L (numbers_of v) zones b ∷ [])
@@ -143,7 +142,7 @@ module _ {L : Layout} (laid : Laid L) (c b : List ℕ) (amount : ℕ) where
       absurd (omega arith)
   left h (turned_down k f) = refl
   left h (stopped k a f) = refl
-  left h (filed v zones a f e) = filed_records laid c b amount v zones a f e
+  left h (filed v zones a f e) = filed_records L c b amount v zones a f e
 
   pub files : (v : Verdict) (zones : ℕ) → look_up_as L c b ≡ lookup.Absent → consult_answer_as L c b amount ≡ Found v zones
       → records_of L (consult_cache_as L c b amount) ≡ records_of L c ++ (record_of L (numbers_of v) zones b ∷ [])
@@ -163,29 +162,27 @@ abbrev Known : Layout → List ℕ → List ℕ → Answer → Type 0
 Known L c b (Found v zones) = Asked L c b (lookup.Filed v zones)
 Known L c b (Refused k) = Unit {0}
 
-known_once : {L : Layout} → Laid L → (c b : List ℕ) (amount : ℕ) → is_canonical b ≡ true → {r : Answer} {c' : List ℕ} → Way L c b amount r c'
+known_once : (L : Layout) (c b : List ℕ) (amount : ℕ) → is_canonical b ≡ true → {r : Answer} {c' : List ℕ} → Way L c b amount r c'
     → Known L c' b r
-unfolding is_absent
-known_once laid c b amount ok (told v zones a f) = a
-known_once laid c b amount ok (turned_down k f) = tt
-known_once laid c b amount ok (stopped k a f) = tt
-known_once laid c b amount ok (filed v zones a f e) = record {
-  sound = filed-sound laid c b amount v zones a f e ok;
-  there = filed_there laid c b amount v zones a f e b ∙ rw (a.there, equal_same b);
+known_once L c b amount ok (told v zones a f) = a
+known_once L c b amount ok (turned_down k f) = tt
+known_once L c b amount ok (stopped k a f) = tt
+known_once L c b amount ok (filed v zones a f e) = record {
+  sound = filed-sound L c b amount v zones a f e ok;
+  there = filed_there L c b amount v zones a f e b ∙ rw (a.there, equal_same b);
 }
 
-pub known_answer : {L : Layout} → Laid L → (c b : List ℕ) (amount : ℕ) → is_canonical b ≡ true → (v : Verdict) (zones : ℕ)
+pub known_answer : (L : Layout) (c b : List ℕ) (amount : ℕ) → is_canonical b ≡ true → (v : Verdict) (zones : ℕ)
     → consult_answer_as L c b amount ≡ Found v zones → Asked L (consult_cache_as L c b amount) b (lookup.Filed v zones)
-known_answer {L} laid c b amount ok v zones e =
-    subst (Known L (consult_cache_as L c b amount) b) e (known_once laid c b amount ok (way L c b amount))
+known_answer L c b amount ok v zones e =
+    subst (Known L (consult_cache_as L c b amount) b) e (known_once L c b amount ok (way L c b amount))
 
-pub known_stays : {L : Layout} → Laid L → (c b x : List ℕ) (amount : ℕ) → is_canonical b ≡ true → (v : Verdict) (zones : ℕ)
+pub known_stays : (L : Layout) (c b x : List ℕ) (amount : ℕ) → is_canonical b ≡ true → (v : Verdict) (zones : ℕ)
     → Asked L c x (lookup.Filed v zones) → {r : Answer} {c' : List ℕ} → Way L c b amount r c' → Asked L c' x (lookup.Filed v zones)
-unfolding is_absent
-known_stays laid c b x amount ok v zones h (told u n a f) = h
-known_stays laid c b x amount ok v zones h (turned_down k f) = h
-known_stays laid c b x amount ok v zones h (stopped k a f) = h
-known_stays laid c b x amount ok v zones h (filed u n a f e) = record {
-  sound = filed-sound laid c b amount u n a f e ok;
-  there = filed_there laid c b amount u n a f e x ∙ rw h.there;
+known_stays L c b x amount ok v zones h (told u n a f) = h
+known_stays L c b x amount ok v zones h (turned_down k f) = h
+known_stays L c b x amount ok v zones h (stopped k a f) = h
+known_stays L c b x amount ok v zones h (filed u n a f e) = record {
+  sound = filed-sound L c b amount u n a f e ok;
+  there = filed_there L c b amount u n a f e x ∙ rw h.there;
 }

@@ -12,43 +12,20 @@ use Rattle.canonical.specs.declared.reply.Reply.{Reply}
 use Rattle.canonical.specs.declared.reply.Reply.TheVariants as reply
 use Rattle.canonical.proofs.Answers.{answer_says, form_fits, written_form}
 use Rattle.search.specs.declared.verdict.Answer.{Answer}
-use Rattle.search.specs.declared.verdict.Answer.TheVariants.{Found, Refused}
-use Rattle.search.specs.declared.verdict.Verdict.{Verdict}
-use Rattle.cache.specs.declared.layout.Layout.{Layout}
+use Rattle.search.specs.declared.verdict.Answer.TheVariants.{Refused}
 use Rattle.cache.specs.declared.lookup.Lookup.{Lookup}
 use Rattle.cache.specs.declared.lookup.Lookup.TheVariants as lookup
-use Rattle.cache.specs.Layouts.{header_length, version1}
-use Rattle.cache.specs.Caches.{used_of}
-use Rattle.cache.specs.Consulting.{look_up_as, Searches, consult_answer_as, consult_cache_as, consult_store_as}
+use Rattle.cache.specs.Versions.{version1}
+use Rattle.cache.specs.Consulting.{look_up_as, consult_answer_as, consult_cache_as, consult_store_as}
 use Rattle.cache.specs.Drawn.{look_up_in, consult_answer, consult_cache, consult_store}
-use Rattle.cache.proofs.caches.Sounding.{sound_facts}
-use Rattle.cache.proofs.consulting.Ways.{asked, told_all, refused_all, absent_all}
 use Rattle.cache.proofs.consulting.Drawn.{looks_form, answers_form, leaves_form, stores_form}
 use Rattle.cache.proofs.consulting.Drawn.{looks_refused, answers_refused, leaves-refused, stores_refused}
 
--- ---- `consult_form`, from what the lookup said
+-- ---- what `consult_form` promises
 module _ (c b : List ℕ) (s : List ℤ) where
   abbrev Meets : Answer → List ℕ → List ℤ → Type 0
   Meets r c' s' =
       (r ≡ consult_answer_as version1 c b (length s)) × ((c' ≡ consult_cache_as version1 c b (length s)) × (s' ≡ consult_store_as version1 c b s))
-
-  module _ {l : Lookup} (e : l ≡ look_up_as version1 c b) where
-    pub meets-told : (v : Verdict) (zones : ℕ) → l ≡ lookup.Filed v zones → Meets (Found v zones) c s
-    meets-told v zones g = let q = told_all version1 c b v zones (sym e ∙ g) (length s) s in (sym q.0, (sym q.1, sym q.2))
-
-    pub meets-refused : (k : ℕ) → l ≡ lookup.Refused k → Meets (Refused k) c s
-    meets-refused k g = let q = refused_all version1 c b k (sym e ∙ g) (length s) s in (sym q.0, (sym q.1, sym q.2))
-
-    module _ (g : l ≡ lookup.Absent) where
-      pub meets_absent : {L : Layout} → L ≡ version1 → {r : Answer} {c' : List ℕ} {s' : List ℤ} → Searches L c b s r c' s' → Meets r c' s'
-      meets_absent h x =
-          let y = rw h at x in
-          let q = absent_all version1 c b (sym e ∙ g) s in
-          (y.answer ∙ sym q.answer, (y.cache ∙ sym q.cache, y.store ∙ sym q.store))
-
-      -- `search_and_file` is called on a sound cache
-      pub absent_used : (header_length ≤ used_of c) × (used_of c ≤ length c)
-      absent_used = let f = sound_facts version1 c (asked version1 c b lookup.Absent (sym e ∙ g) tt).sound in (f.least, f.most)
 
 -- ---- what `write_canonical` left is the form, or nothing was written
 module _ (b f : List ℕ) {w : Reply} (e : w ≡ form_answer b (length f)) where

@@ -10,14 +10,14 @@ use Rattle.search.specs.declared.verdict.Answer.{Answer}
 use Rattle.search.specs.declared.verdict.Answer.TheVariants.{Found, Refused}
 use Rattle.search.specs.declared.verdict.Verdict.{Verdict}
 use Rattle.search.specs.Verdicts.{numbers_of}
-use Rattle.search.specs.Answers.{search_answer, search_store}
+use Rattle.search.specs.Answers.{search_answer}
 use Rattle.cache.specs.declared.layout.Layout.{Layout}
 use Rattle.cache.specs.declared.lookup.Lookup.{Lookup}
 use Rattle.cache.specs.declared.lookup.Lookup.TheVariants as lookup
 use Rattle.cache.specs.Records.{record_of}
-use Rattle.cache.specs.Lookups.{look_up, is_absent}
+use Rattle.cache.specs.Lookups.{look_up}
 use Rattle.cache.specs.Caches.{records_of, sound_as}
-use Rattle.cache.specs.Consulting.{look_up_as, full, appended, filing, Searches, answer_to, consult_answer_as, searched, consult_cache_as}
+use Rattle.cache.specs.Consulting.{look_up_as, full, appended, filing, answer_to, consult_answer_as, searched, consult_cache_as}
 use Rattle.cache.specs.Consulting.{consult_store_as}
 
 -- ---- a lookup that is not refused
@@ -49,36 +49,23 @@ module _ (L : Layout) (c b : List ℕ) where
   Stands r = (amount : ℕ) (s : List ℤ) → (consult_answer_as L c b amount ≡ r) × (consult_cache_as L c b amount ≡ c) × (consult_store_as L c b s ≡ s)
 
   pub told_all : (v : Verdict) (zones : ℕ) → look_up_as L c b ≡ lookup.Filed v zones → Stands (Found v zones)
-  unfolding consult_answer_as consult_cache_as consult_store_as searched answer_to is_absent
+  unfolding consult_answer_as consult_cache_as consult_store_as searched answer_to
   told_all v zones e amount s = (rw (consult_answer_as, e) refl, rw (consult_cache_as, searched, e) refl, rw (consult_store_as, searched, e) refl)
 
   pub refused_all : (k : ℕ) → look_up_as L c b ≡ lookup.Refused k → Stands (Refused k)
-  unfolding consult_answer_as consult_cache_as consult_store_as searched answer_to is_absent
+  unfolding consult_answer_as consult_cache_as consult_store_as searched answer_to
   refused_all k e amount s = (rw (consult_answer_as, e) refl, rw (consult_cache_as, searched, e) refl, rw (consult_store_as, searched, e) refl)
 
   module _ (e : look_up_as L c b ≡ lookup.Absent) where
     full_all : full c (L.head + length b) ≡ true → Stands (Refused 12)
-    unfolding consult_answer_as consult_cache_as consult_store_as searched answer_to is_absent
+    unfolding consult_answer_as consult_cache_as consult_store_as searched answer_to
     full_all f amount s =
         (rw (consult_answer_as, e, f) refl, rw (consult_cache_as, searched, e, f) refl, rw (consult_store_as, searched, e, f) refl)
 
     searched_all : full c (L.head + length b) ≡ false → (amount : ℕ)
         → (consult_answer_as L c b amount ≡ search_answer b amount) × (consult_cache_as L c b amount ≡ filing L c b (search_answer b amount))
-    unfolding consult_answer_as consult_cache_as searched answer_to is_absent
+    unfolding consult_answer_as consult_cache_as searched answer_to
     searched_all f amount = (rw (consult_answer_as, e, f) refl, rw (consult_cache_as, searched, e, f) refl)
-
-    pub absent_all : (s : List ℤ)
-        → Searches L c b s (consult_answer_as L c b (length s)) (consult_cache_as L c b (length s)) (consult_store_as L c b s)
-    unfolding consult_answer_as consult_cache_as consult_store_as searched answer_to is_absent
-    absent_all s = let t = full c (L.head + length b) in record { answer = rw (consult_answer_as, e) refl; cache = go t refl; store = stored t refl }
-      where
-        go : (t : Bool) → full c (L.head + length b) ≡ t → consult_cache_as L c b (length s) ≡ cond t c (filing L c b (search_answer b (length s)))
-        go true f = (full_all f (length s) s).1
-        go false f = (searched_all f (length s)).1
-
-        stored : (t : Bool) → full c (L.head + length b) ≡ t → consult_store_as L c b s ≡ cond t s (search_store b s)
-        stored true f = (full_all f (length s) s).2
-        stored false f = rw (consult_store_as, searched, e, f) refl
 
 -- ---- the ways that a consulting goes, with its answer and the cache that it leaves
 pub data Way (L : Layout) (c b : List ℕ) (amount : ℕ) : Answer → List ℕ → Type 0 where

@@ -13,7 +13,7 @@ use Rattle.canonical.proofs.Answers.{Writing, written, refused, writing, form_fr
 use Rattle.search.specs.declared.verdict.Answer.TheVariants.{Found}
 use Rattle.search.specs.declared.verdict.Verdict.{Verdict}
 use Rattle.cache.specs.declared.lookup.Lookup.TheVariants as lookup
-use Rattle.cache.specs.Layouts.{Laid, version1}
+use Rattle.cache.specs.Versions.{version1}
 use Rattle.cache.specs.Caches.{sound}
 use Rattle.cache.specs.Consulting.{look_up_as}
 use Rattle.cache.specs.Drawn.{consult_answer, consult_cache}
@@ -22,9 +22,6 @@ use Rattle.cache.proofs.caches.Fronts.{lent_records, lent-sound}
 use Rattle.cache.proofs.consulting.Ways.{Asked, answered, told_all, way}
 use Rattle.cache.proofs.consulting.Filing.{empty-sound, sound_stays, known_answer, known_stays}
 use Rattle.cache.proofs.consulting.Drawn.{looks_form, answers_form, leaves_form, stores_form, answers_refused, leaves-refused}
-
-pub laid : Laid version1
-laid = record { kind_at = refl; n_at = refl; d_at = refl; zones_at = refl; head_ends = refl }
 
 -- the form of an automaton is one that is filed
 form_ok : (b : List ℕ) (room : ℕ) → form_refusal b room ≡ 0 → is_canonical (canonical_of b) ≡ true
@@ -35,7 +32,7 @@ pub consult_sound : (c b : List ℕ) (room amount : ℕ) → sound c ≡ true �
 consult_sound c b room amount h = go (writing b room)
   where
     go : Writing b room → sound (consult_cache c b room amount) ≡ true
-    go (written z) = ap sound (leaves_form c b room z amount) ∙ sound_stays laid c (canonical_of b) amount (form_ok b room z) h
+    go (written z) = ap sound (leaves_form c b room z amount) ∙ sound_stays version1 c (canonical_of b) amount (form_ok b room z) h
     go (refused n) = ap sound (leaves-refused c b room n amount) ∙ h
 
 pub grown_sound : (c : List ℕ) → Grown c → sound c ≡ true
@@ -53,7 +50,7 @@ known_consulted c b x room amount v zones h = go (writing b room)
 
     go : Writing b room → Known (consult_cache c b room amount)
     go (written z) = subst Known (sym (leaves_form c b room z amount))
-        (known_stays laid c (canonical_of b) x amount (form_ok b room z) v zones h (way version1 c (canonical_of b) amount))
+        (known_stays version1 c (canonical_of b) x amount (form_ok b room z) v zones h (way version1 c (canonical_of b) amount))
     go (refused n) = subst Known (sym (leaves-refused c b room n amount)) h
 
 known_later : (c x : List ℕ) (v : Verdict) (zones : ℕ) → Asked version1 c x (lookup.Filed v zones) → {c' : List ℕ} → Later c c'
@@ -84,7 +81,7 @@ known_found c b room amount v zones e = go (writing b room)
   where
     go : Writing b room → Asked version1 (consult_cache c b room amount) (canonical_of b) (lookup.Filed v zones)
     go (written z) = subst (λ (y : List ℕ). Asked version1 y (canonical_of b) (lookup.Filed v zones)) (sym (leaves_form c b room z amount))
-        (known_answer laid c (canonical_of b) amount (form_ok b room z) v zones (sym (answers_form c b room z amount) ∙ e))
+        (known_answer version1 c (canonical_of b) amount (form_ok b room z) v zones (sym (answers_form c b room z amount) ∙ e))
     go (refused n) = let z : ◌≡◌ {A = ℕ} 0 1 = cc (sym (answers_refused c b room n amount) ∙ e) in absurd (omega arith)
 
 pub given_back : (c b : List ℕ) (room amount : ℕ) (v : Verdict) (zones : ℕ) → consult_answer c b room amount ≡ Found v zones

@@ -17,7 +17,7 @@ use Rattle.search.specs.declared.verdict.Verdict.{Verdict}
 use Rattle.search.specs.declared.verdict.Verdict.TheVariants.{Reached, Holds}
 use Rattle.search.specs.Demands.{Robust}
 use Rattle.search.specs.Given.{Lasting}
-use Rattle.cache.specs.Layouts.{version1}
+use Rattle.cache.specs.Versions.{version1}
 use Rattle.cache.specs.Consulting.{consult_answer_as}
 use Rattle.cache.specs.Drawn.{look_up_in, consult_answer, consult_cache, consult_store}
 use Rattle.cache.specs.Growing.{Grown, Carried}

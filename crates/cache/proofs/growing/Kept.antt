@@ -18,7 +18,7 @@ use Rattle.search.specs.Given.{Lasting}
 use Rattle.search.proofs.answers.Given.{lasting, promised}
 use Rattle.cache.specs.declared.lookup.Lookup.{Lookup}
 use Rattle.cache.specs.declared.lookup.Lookup.TheVariants as lookup
-use Rattle.cache.specs.Layouts.{version1}
+use Rattle.cache.specs.Versions.{version1}
 use Rattle.cache.specs.Lookups.{look_up, is_absent}
 use Rattle.cache.specs.Caches.{records_of}
 use Rattle.cache.specs.Consulting.{look_up_as}
@@ -28,7 +28,7 @@ use Rattle.cache.proofs.caches.Fronts.{lent_records}
 use Rattle.cache.proofs.consulting.Ways.{answered, Way, told, turned_down, stopped, filed, way}
 use Rattle.cache.proofs.consulting.Filing.{empty_records, filed_there}
 use Rattle.cache.proofs.consulting.Drawn.{leaves_form, leaves-refused}
-use Rattle.cache.proofs.growing.Back.{laid, grown_sound}
+use Rattle.cache.proofs.growing.Back.{grown_sound}
 
 -- ---- what is filed is the search's
 -- of a verdict; nothing of the rest
@@ -55,7 +55,7 @@ way_kept c b amount x h (filed v zones a f e) =
     let p = promised b amount in
     let old = look_up version1 (records_of version1 c) x in
     let new : Kept b (lookup.Filed v zones) = (subst (Robust b) e p.robust, subst (Lasting b) e (lasting b amount)) in
-    rw (filed_there laid c b amount v zones a f e x) (either x (is_absent old) _ old (kept_under b x v zones new (same_bytes b x) refl) h)
+    rw (filed_there version1 c b amount v zones a f e x) (either x (is_absent old) _ old (kept_under b x v zones new (same_bytes b x) refl) h)
 
 consult_kept : (c b : List ℕ) (room amount : ℕ) (x : List ℕ) → Kept x (look_up version1 (records_of version1 c) x)
     → Kept x (look_up version1 (records_of version1 (consult_cache c b room amount)) x)

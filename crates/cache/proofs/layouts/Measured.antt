@@ -4,14 +4,12 @@ use Prim.Native.Nat.{ℕ, ◌≤◌, ◌<◌}
 use mathlib.Core.Bool.{Bool, true, false, cond, ◌&&◌}
 use mathlib.Core.List.{List, [], ◌∷◌, ◌++◌}
 use mathlib.Core.Path.{◌≡◌, refl, sym, ◌∙◌}
-use borrow.Author.Tests.{leb-true, le-leb, lt-leb}
+use borrow.Author.Tests.{leb-true, le-leb}
 use lib.Dec.{leb}
 use lib.ListN.{length, length-append}
-use native.Mathlib.Decide.{dec_le}
 use native.Mathlib.Omega.{arith}
 use Rattle.encoding.specs.Numbers.{be16_at, be32_at}
 use Rattle.cache.specs.declared.layout.Layout.{Layout}
-use Rattle.cache.specs.Layouts.{Laid}
 use Rattle.cache.specs.Records.{measured}
 
 module _ (L : Layout) (s : List ℕ) where
@@ -19,20 +17,6 @@ module _ (L : Layout) (s : List ℕ) where
   pub measured_field : (n : ℕ) → be32_at s 0 ≡ n → L.head ≤ n → n ≤ length s → measured L s ≡ n
   unfolding measured
   measured_field n e h g = rw (measured, e, le-leb L.head n h, le-leb n (length s) g)
-
-  pub measured-small : be32_at s 0 < L.head → measured L s ≡ 0
-  unfolding measured
-  measured-small h = rw (measured, lt-leb L.head (be32_at s 0) h) refl
-
-  pub measured-over : length s < be32_at s 0 → measured L s ≡ 0
-  unfolding measured
-  measured-over h = elim (dec_le L.head (be32_at s 0)) [
-    | yes g ↦ rw (measured, le-leb L.head (be32_at s 0) g, lt-leb (be32_at s 0) (length s) h) refl
-    | no g ↦ measured-small (omega arith)
-  ]
-
-  pub measured-short : length s < L.head → measured L s ≡ 0
-  measured-short h = elim (dec_le L.head (be32_at s 0)) [ yes g ↦ measured-over (omega arith) | no g ↦ measured-small (omega arith) ]
 
   -- ---- what it says: m bytes of the n that are there, by a field x that leaves room for a head
   record Whole (x n m : ℕ) : Type 0 where
@@ -53,9 +37,6 @@ module _ (L : Layout) (s : List ℕ) where
   pub measured-le : measured L s ≤ length s
   measured-le = whole.short
 
-  pub measured_least : 0 < measured L s → L.head ≤ measured L s
-  measured_least = whole.least
-
 -- ---- whatever follows
 pub append-be32 : (s r : List ℕ) → 4 ≤ length s → be32_at (s ++ r) 0 ≡ be32_at s 0
 unfolding be32_at be16_at
@@ -65,8 +46,8 @@ append-be32 (a ∷ b ∷ []) r h = absurd (omega arith)
 append-be32 (a ∷ b ∷ c ∷ []) r h = absurd (omega arith)
 append-be32 (a ∷ b ∷ c ∷ d ∷ s) r h = refl
 
-pub measured-append : {L : Layout} → Laid L → (s r : List ℕ) → 0 < measured L s → measured L (s ++ r) ≡ measured L s
-measured-append {L} laid s r h =
+pub measured-append : (L : Layout) (s r : List ℕ) → 0 < measured L s → measured L (s ++ r) ≡ measured L s
+measured-append L s r h =
     let w = whole L s in
     let g : L.head ≤ measured L s = w.least h in
     measured_field L (s ++ r) (measured L s) (append-be32 s r (omega (arith, w.short)) ∙ sym (w.field h)) g

@@ -19,7 +19,7 @@ use Rattle.search.specs.Verdicts.{numbers_of, verdict_of, sound_numbers}
 use Rattle.search.proofs.answers.Numbers.{numbers-back, numbers_are_sound, numbers-short}
 use Rattle.cache.specs.declared.layout.Layout.{Layout}
 use Rattle.cache.specs.declared.lookup.Lookup.TheVariants.{Filed}
-use Rattle.cache.specs.Layouts.{Laid, longest}
+use Rattle.cache.specs.Layouts.{longest}
 use Rattle.cache.specs.Records.{record_numbers, record_zones, record_automaton, measured, sound_record, filed_as, number_bytes, record_of, Fits}
 use Rattle.cache.proofs.layouts.Measured.{measured_field}
 
@@ -33,7 +33,7 @@ be32_behind p x rest at e h =
     be32-drop at (p ++ (be32 x ++ rest)) ∙ ap (λ (s : List ℕ). be32_at s 0) (drop_at p (be32 x ++ rest) at e) ∙ be32-back x rest (omega arith)
 
 -- ---- the fields of a record: each behind those before it
-module _ {L : Layout} (laid : Laid L) (x : Numbers) (zones : ℕ) (b : List ℕ) where
+module _ (L : Layout) (x : Numbers) (zones : ℕ) (b : List ℕ) where
   abbrev whole : List ℕ
   whole = record_of L x zones b
 
@@ -42,11 +42,11 @@ module _ {L : Layout} (laid : Laid L) (x : Numbers) (zones : ℕ) (b : List ℕ)
 
   pub written-length : length whole ≡ L.head + length b
   unfolding record_of number_bytes be32
-  written-length = omega (arith, laid)
+  written-length = omega (arith, L.laid)
 
   pub written_automaton : record_automaton L whole ≡ b
   unfolding record_of number_bytes be32
-  written_automaton = drop_at (size ++ (number_bytes x ++ be32 zones)) b L.head (omega (arith, laid))
+  written_automaton = drop_at (size ++ (number_bytes x ++ be32 zones)) b L.head (omega (arith, L.laid))
 
   module _ (fits : Fits L x zones b) where
     pub written-measured : measured L whole ≡ length whole
@@ -58,14 +58,14 @@ module _ {L : Layout} (laid : Laid L) (x : Numbers) (zones : ℕ) (b : List ℕ)
     written-numbers : record_numbers L whole ≡ x
     unfolding record_of number_bytes be32
     written-numbers = λ i. record {
-      kind = get_or_at size x.kind (be32 x.n ++ (be32 x.d ++ (be32 zones ++ b))) 0 L.kind (omega (arith, laid)) i;
-      n = be32_behind (size ++ (x.kind ∷ [])) x.n (be32 x.d ++ (be32 zones ++ b)) L.n (omega (arith, laid)) fits.numbers_fit.n_fits i;
-      d = be32_behind (size ++ (x.kind ∷ be32 x.n)) x.d (be32 zones ++ b) L.d (omega (arith, laid)) fits.numbers_fit.d_fits i;
+      kind = get_or_at size x.kind (be32 x.n ++ (be32 x.d ++ (be32 zones ++ b))) 0 L.kind (omega (arith, L.laid)) i;
+      n = be32_behind (size ++ (x.kind ∷ [])) x.n (be32 x.d ++ (be32 zones ++ b)) L.n (omega (arith, L.laid)) fits.numbers_fit.n_fits i;
+      d = be32_behind (size ++ (x.kind ∷ be32 x.n)) x.d (be32 zones ++ b) L.d (omega (arith, L.laid)) fits.numbers_fit.d_fits i;
     }
 
     written_zones : record_zones L whole ≡ zones
     unfolding record_of number_bytes be32
-    written_zones = be32_behind (size ++ number_bytes x) zones b L.zones (omega (arith, laid)) fits.zones_fit
+    written_zones = be32_behind (size ++ number_bytes x) zones b L.zones (omega (arith, L.laid)) fits.zones_fit
 
 -- ---- a verdict that is given out
 pub given_fits : {L : Layout} (b : List ℕ) (v : Verdict) (zones : ℕ) → Given b (Found v zones) → L.head + length b ≤ longest
@@ -74,20 +74,19 @@ given_fits b v zones g h =
     let s = numbers-short b v zones g in
     record { size_fits = h; numbers_fit = record { n_fits = omega arith; d_fits = omega arith }; zones_fit = omega arith }
 
-module _ {L : Layout} (laid : Laid L) (b : List ℕ) (v : Verdict) (zones : ℕ)
+module _ (L : Layout) (b : List ℕ) (v : Verdict) (zones : ℕ)
     (g : Given b (Found v zones)) (short : L.head + length b ≤ longest) where
   fits : Fits L (numbers_of v) zones b
   fits = given_fits b v zones g short
 
   numbers : record_numbers L (record_of L (numbers_of v) zones b) ≡ numbers_of v
-  numbers = written-numbers laid (numbers_of v) zones b fits
+  numbers = written-numbers L (numbers_of v) zones b fits
 
   pub filed-back : filed_as L (record_of L (numbers_of v) zones b) ≡ Filed v zones
-  unfolding filed_as
-  filed-back = λ i. Filed ((ap verdict_of numbers ∙ numbers-back b v zones g) i) (written_zones laid (numbers_of v) zones b fits i)
+  filed-back = λ i. Filed ((ap verdict_of numbers ∙ numbers-back b v zones g) i) (written_zones L (numbers_of v) zones b fits i)
 
   pub record_sound : is_canonical b ≡ true → sound_record L (record_of L (numbers_of v) zones b) ≡ true
   unfolding sound_record
   record_sound ok =
-      (λ i. sound_numbers (numbers i) && is_canonical (written_automaton laid (numbers_of v) zones b i))
+      (λ i. sound_numbers (numbers i) && is_canonical (written_automaton L (numbers_of v) zones b i))
       ∙ rw (numbers_are_sound b v zones g, ok)

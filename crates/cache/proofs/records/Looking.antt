@@ -4,10 +4,12 @@ use Prim.Native.Nat.{ℕ}
 use mathlib.Core.Bool.{Bool, true, false, cond, false≢true}
 use mathlib.Core.List.{List, [], ◌∷◌, ◌++◌}
 use mathlib.Core.Path.{◌≡◌, refl, sym, ap, ◌∙◌}
+use native.Mathlib.Omega.{arith}
+use Rattle.std.proofs.lemmas.Grind.{common_steps}
 use Rattle.encoding.specs.Bytes.{same_bytes}
 use Rattle.encoding.proofs.Equality.{same_equal, equal_same}
 use Rattle.cache.specs.declared.layout.Layout.{Layout}
-use Rattle.cache.specs.Records.{record_automaton, sound_record, filed_as}
+use Rattle.cache.specs.Records.{record_automaton, sound_record}
 use Rattle.cache.specs.Lookups.{look_up, is_absent}
 use Rattle.cache.specs.Caches.{all_sound, distinct}
 
@@ -23,46 +25,29 @@ miss_both a b e = go (same_bytes b a) refl
     go false f = refl
 
 module _ (L : Layout) where
-  -- ---- one record
-  look_hit : (r : List ℕ) (rs : List (List ℕ)) (b : List ℕ) → same_bytes (record_automaton L r) b ≡ true → look_up L (r ∷ rs) b ≡ filed_as L r
-  unfolding look_up
-  look_hit r rs b e = rw (look_up, e)
-
-  look_miss : (r : List ℕ) (rs : List (List ℕ)) (b : List ℕ) → same_bytes (record_automaton L r) b ≡ false → look_up L (r ∷ rs) b ≡ look_up L rs b
-  unfolding look_up
-  look_miss r rs b e = rw (look_up, e)
-
   -- ---- the first one counts
   abbrev First : List (List ℕ) → List ℕ → List ℕ → Type 0
   First rs r b = look_up L (rs ++ (r ∷ [])) b ≡ cond (is_absent (look_up L rs b)) (look_up L (r ∷ []) b) (look_up L rs b)
 
   pub look_append : (rs : List (List ℕ)) (r b : List ℕ) → First rs r b
-  unfolding look_up is_absent filed_as
+  unfolding look_up
   look_append [] r b = refl
-  look_append (x ∷ rs) r b = go (same_bytes (record_automaton L x) b) refl (look_append rs r b)
-    where
-      go : (t : Bool) → same_bytes (record_automaton L x) b ≡ t → First rs r b → First (x ∷ rs) r b
-      go true e h = rw (look_hit x (rs ++ (r ∷ [])) b e, look_hit x rs b e)
-      go false e h = rw (look_miss x (rs ++ (r ∷ [])) b e, look_miss x rs b e) h
+  look_append (x ∷ rs) r b = grind (arith, common_steps, look_append rs r b)
 
   -- ---- so a new automaton at the end leaves the records distinct
   absent_rest : (x : List ℕ) (rs : List (List ℕ)) (b : List ℕ) → is_absent (look_up L (x ∷ rs) b) ≡ true
       → (same_bytes (record_automaton L x) b ≡ false) × (is_absent (look_up L rs b) ≡ true)
-  unfolding is_absent filed_as
-  absent_rest x rs b h = go (same_bytes (record_automaton L x) b) refl
-    where
-      go : (t : Bool) → same_bytes (record_automaton L x) b ≡ t → (t ≡ false) × (is_absent (look_up L rs b) ≡ true)
-      go true e = absurd (false≢true (rw (look_hit x rs b e) at h))
-      go false e = (refl, rw (look_miss x rs b e) at h)
+  unfolding look_up
+  absent_rest x rs b h = (grind (arith, common_steps), grind (arith, common_steps))
 
   absent_append : (rs : List (List ℕ)) (r b : List ℕ) → is_absent (look_up L rs b) ≡ true → same_bytes (record_automaton L r) b ≡ false
       → is_absent (look_up L (rs ++ (r ∷ [])) b) ≡ true
-  unfolding look_up is_absent
-  absent_append rs r b h e = rw (look_append rs r b, h, look_miss r [] b e)
+  unfolding look_up
+  absent_append rs r b h e = grind (arith, common_steps, look_append rs r b)
 
   pub distinct_append : (rs : List (List ℕ)) (r : List ℕ) → distinct L rs ≡ true → is_absent (look_up L rs (record_automaton L r)) ≡ true
       → distinct L (rs ++ (r ∷ [])) ≡ true
-  unfolding distinct look_up is_absent
+  unfolding distinct look_up
   distinct_append [] r h g = refl
   distinct_append (x ∷ rs) r h g =
       let p = passes (is_absent (look_up L rs (record_automaton L x))) (distinct L rs) h in

@@ -9,8 +9,7 @@ use lib.Seq.{length-take-le, take-length, drop-length, take-append-le, drop-appe
 use native.Mathlib.Nat.{eq-zero-or-pos}
 use native.Mathlib.Omega.{arith}
 use Rattle.cache.specs.declared.layout.Layout.{Layout}
-use Rattle.cache.specs.Layouts.{Laid}
-use Rattle.cache.specs.Records.{measured}
+use Rattle.cache.specs.Records.{measured, Begins}
 use Rattle.cache.specs.Caches.{split, records_in, total}
 use Rattle.cache.proofs.layouts.Measured.{measured-le, measured-append}
 
@@ -56,6 +55,12 @@ module _ (L : Layout) where
       split_same (length s) (suc (length s)) s (omega arith) (omega arith) ∙ split_more (length s) s h
       ∙ ap (λ (rs : List (List ℕ)). take (measured L s) s ∷ rs) (split_same (length s) (length rest) rest (omega arith) (omega arith))
 
+  pub records_begun : (s : List ℕ) {n : ℕ} → Begins L s n → {r rest : List ℕ} → r ≡ take n s → rest ≡ drop n s
+      → records_in L s ≡ r ∷ records_in L rest
+  records_begun s b e f =
+      let laid = L.laid in
+      rw (e, f, ← b.is) (records_more s (omega (arith, b.is, b.least, laid)))
+
   total_more : (s : List ℕ) → 0 < measured L s → total (records_in L s) ≡ measured L s + total (records_in L (drop (measured L s) s))
   unfolding total
   total_more s h =
@@ -63,7 +68,7 @@ module _ (L : Layout) where
       ∙ ap (λ (n : ℕ). n + total (records_in L (drop (measured L s) s))) (length-take-le (measured L s) s (measured-le L s))
 
 -- ---- one more at the end: of bytes that records fill
-module _ {L : Layout} (laid : Laid L) (r : List ℕ) (e : measured L r ≡ length r) (h : 0 < length r) where
+module _ (L : Layout) (r : List ℕ) (e : measured L r ≡ length r) (h : 0 < length r) where
   records_one : records_in L r ≡ r ∷ []
   records_one =
       records_more L r (omega arith)
@@ -84,7 +89,7 @@ module _ {L : Layout} (laid : Laid L) (r : List ℕ) (e : measured L r ≡ lengt
   append_more : (s : List ℕ) → 0 < measured L s → records_in L (drop (measured L s) s ++ r) ≡ records_in L (drop (measured L s) s) ++ (r ∷ [])
       → records_in L (s ++ r) ≡ records_in L s ++ (r ∷ [])
   append_more s p rest =
-      let k : measured L (s ++ r) ≡ measured L s = measured-append laid s r p in
+      let k : measured L (s ++ r) ≡ measured L s = measured-append L s r p in
       records_more L (s ++ r) (omega arith)
       ∙ (λ i. take (k i) (s ++ r) ∷ records_in L (drop (k i) (s ++ r)))
       ∙ (λ i. take-append-le (measured L s) s r (measured-le L s) i ∷ records_in L (drop-append-le (measured L s) s r (measured-le L s) i))

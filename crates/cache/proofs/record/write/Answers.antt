@@ -12,7 +12,7 @@ use Rattle.cache.proofs.record.write.Goals as goal
 pub returns : goal.returns
 unfolding record_of number_bytes be32
 returns c =
-    let laid = c.requires.laid in
+    let laid = c.args.layout.laid in
     let L = c.args.layout in
     let x = c.args.x in
     let z = c.args.zones in

@@ -9,7 +9,7 @@ use Rattle.cache.proofs.record.write_numbers.Goals as goal
 pub returns : goal.returns
 unfolding number_bytes be32
 returns c =
-    let laid = c.requires.laid in
+    let laid = c.args.layout.laid in
     let room = c.requires.head_in_bounds in
     let L = c.args.layout in
     let x = c.args.x in
