@@ -4,7 +4,7 @@ ghost use Rattle.zones.specs.Ranges.{Fits32};
 ghost use Rattle.search.specs.Outcomes.{outcome_of, has_ended, Few, most_offers, dropped_with, emptied_by, contained_by, refused_by};
 
 use slots::slot::Origin;
-use zones::fraction::{Fraction, after_lowering};
+use zones::fraction::Fraction;
 
 // A search that goes on, or has stopped: at the target, by a zone of the origin told, or by the number of a refusal. One that goes on when
 // no zone is left to take holds.
@@ -69,7 +69,7 @@ impl Turn {
         requires { Fits32 self.safe × Fits32 below }
         ensures { result ≡ emptied_by self exact below }
     {
-        let safe = after_lowering(self.safe, below);
+        let safe = self.safe.lowered(below);
         let dropped = self.dropped;
         Turn {
             count: self.count,
@@ -85,8 +85,8 @@ impl Turn {
         requires { Fits32 exact × Fits32 self.safe × Fits32 below × Few most_offers self.dropped }
         ensures { result ≡ contained_by self exact below equal }
     {
-        let lowered = after_lowering(exact, below);
-        let safe = after_lowering(self.safe, below);
+        let lowered = exact.lowered(below);
+        let safe = self.safe.lowered(below);
         let dropped = self.dropped.with(equal);
         Turn {
             count: self.count,

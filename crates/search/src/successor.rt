@@ -35,13 +35,13 @@ fn meet(automaton: &[u8], at: usize, c: usize, w: Work, settled: bool) -> Met
     let mut x = 1;
     while x <= c {
         let limits = limits_of(automaton, at, x);
-        let hi = limits.hi;
+        let hi = (limits.hi != NO_UPPER).then_some(limits.hi);
         let there = Bounds {
             upper: work.zone[x * 9],
             lower: work.zone[x],
             fraction: work.fraction,
         };
-        let met = there.meet(limits.lo, hi, hi == NO_UPPER);
+        let met = there.meet(limits.lo, hi);
         if met.is_below(there) {
             same = false;
         }

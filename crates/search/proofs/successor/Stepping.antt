@@ -21,7 +21,8 @@ use Rattle.zones.specs.Reductions.{reduce_steps, reduce_of}
 use Rattle.zones.specs.Moves.{Shaped}
 use Rattle.zones.specs.Settled.{Settled, Lifted, Begun}
 use Rattle.zones.specs.Successors.{and_then, meet_of, enter_of, follow_of}
-use Rattle.zones.specs.Zones.{pair_at, bounds_met, bounds_below, meet_limits, raise_limits, set_of, reset_of}
+use Rattle.std.specs.Prelude.{Option}
+use Rattle.zones.specs.Zones.{pair_at, bounds_met, upper_of, bounds_below, meet_limits, raise_limits, set_of, reset_of}
 use Rattle.zones.proofs.ranges.Bounding.{safe_fits, sized_more, sized_ready, sized_limits, sized_meet, sized_reset, sized_raise, sized_reduce}
 use Rattle.zones.proofs.places.Limits.{met_unlowered, limits_more}
 use Rattle.zones.proofs.sets.Meeting.{meet_shaped}
@@ -49,25 +50,23 @@ module _ (L : Limits) (n : ℕ) (w u : Work) (n≤ : n ≤ 8) (o : OnScale scale
   sized : Sized step_counts (suc n) u
   sized = rw e (sized_meet step_counts (suc n) (omega arith) (omega arith) (omega arith) w r n (omega arith) L o (x - 1) (omega arith))
 
-  pub turn_ready : {lo hi : ℕ} {absent : Bool} → lo ≡ L.lo x → hi ≡ L.hi x → absent ≡ L.absent x →
-      LimitsReady (entries u.zone x u.fraction) lo hi absent
-  turn_ready f g h =
-      rw (f, g, h, ← entries_at u.zone x u.fraction)
+  pub turn_ready : {lo : ℕ} {hi : Option ℕ} → lo ≡ L.lo x → hi ≡ upper_of L x → LimitsReady (entries u.zone x u.fraction) lo hi
+  turn_ready f g =
+      rw (f, g, ← entries_at u.zone x u.fraction)
       (sized_limits step_counts (suc n) (omega arith) (omega arith) (omega arith) u sized n (omega arith) L o x px (omega arith))
 
-  pub turn_met : {lo hi : ℕ} {absent : Bool} {b : Bounds} → lo ≡ L.lo x → hi ≡ L.hi x → absent ≡ L.absent x →
-      b ≡ bounds_met lo hi absent (entries u.zone x u.fraction) →
+  pub turn_met : {lo : ℕ} {hi : Option ℕ} {b : Bounds} → lo ≡ L.lo x → hi ≡ upper_of L x → b ≡ bounds_met lo hi (entries u.zone x u.fraction) →
       record { zone = set (set u.zone (x * 9) b.upper) x b.lower; fraction = b.fraction } ≡ meet_limits L (x + 1 - 1) w
-  turn_met f g h k =
+  turn_met f g k =
       limits_more L x w u px (omega arith) sized.ranged.size e
-      (k ∙ (λ i. bounds_met (f i) (g i) (h i) (sym (entries_at u.zone x u.fraction) i)))
+      (k ∙ (λ i. bounds_met (f i) (g i) (sym (entries_at u.zone x u.fraction) i)))
 
 -- a clock's limits that lower neither entry leave the square as it is
-pub turn_same : (z : List Pair) (x : ℕ) (f : Fraction) (lo hi : ℕ) (absent : Bool) {b : Bounds} → b ≡ bounds_met lo hi absent (entries z x f) →
+pub turn_same : (z : List Pair) (x : ℕ) (f : Fraction) (lo : ℕ) (hi : Option ℕ) {b : Bounds} → b ≡ bounds_met lo hi (entries z x f) →
     bounds_below b (entries z x f) ≡ false →
     set (set z (x * 9) b.upper) x b.lower ≡ z
-turn_same z x f lo hi absent e h =
-    let m = met_unlowered lo hi absent (entries z x f) (rw e at h) in
+turn_same z x f lo hi e h =
+    let m = met_unlowered lo hi (entries z x f) (rw e at h) in
     rw (e, m.0, m.1, set-get_or z (x * 9) zero_pair) (set-get_or z x zero_pair)
 
 -- ---- what comes after r₀, empty or not

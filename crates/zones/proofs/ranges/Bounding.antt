@@ -16,7 +16,8 @@ use Rattle.zones.specs.declared.zone.Work.{Work}
 use Rattle.zones.proofs.pairs.Integers.{int, abs_law, neg_law}
 use Rattle.zones.specs.Pairs.{zero_pair, at_most, at_least}
 use Rattle.runs.specs.Limits.{Limits, scale}
-use Rattle.zones.specs.Zones.{entry, home, first_work, lower_at, meet_limits, raise_limits, reset_of}
+use Rattle.std.specs.Prelude.{true, cond, None, Some, IfSome}
+use Rattle.zones.specs.Zones.{upper_of, entry, home, first_work, lower_at, meet_limits, raise_limits, reset_of}
 use Rattle.zones.specs.Reductions.{reduce_of}
 use Rattle.zones.specs.Ranges.{Bounded, Narrow, Suffices, Ranged, InRange, OnScale, Sized, Ready, LimitsReady, Fits32, step_counts, widest}
 use Rattle.zones.proofs.pairs.Choices.{not_less_shows, smaller_cases}
@@ -209,7 +210,7 @@ module _ (P n : ℕ) (P> : 0 < P) (P≤ : P ≤ step_counts) (n≤ : n ≤ 9) (w
   }
 
   pub sized_limits : (c : ℕ) → c < n → (L : Limits) → OnScale scale c L → (x : ℕ) → 0 < x → x < suc c →
-      LimitsReady (record { upper = entry w x 0; lower = entry w 0 x; fraction = w.fraction }) (L.lo x) (L.hi x) (L.absent x)
+      LimitsReady (record { upper = entry w x 0; lower = entry w 0 x; fraction = w.fraction }) (L.lo x) (upper_of L x)
   sized_limits c c< L o x px hx =
       let h = sized_ready.bounded in
       record {
@@ -217,8 +218,12 @@ module _ (P n : ℕ) (P> : 0 < P) (P≤ : P ≤ step_counts) (n≤ : n ≤ 9) (w
         lower = h 0 x (omega arith) (omega arith);
         fraction = r.narrow;
         lo≤ = o.lo x px hx;
-        hi≤ = o.hi x px hx;
+        hi≤ = go (L.absent x) refl;
       }
+    where
+      go : (t : Bool) → L.absent x ≡ t → IfSome (cond t None (Some (L.hi x))) (λ h. h ≤ scale)
+      go true e = tt
+      go false e = o.hi x px hx e
 
   pub sized_meet : (c : ℕ) → c < n → (L : Limits) → OnScale scale c L → (x : ℕ) → x ≤ c → Sized P n (meet_limits L x w)
   sized_meet c c< L o = meet_ranged widest widest scale P n (fewer_suffice P P> P≤) n≤ c c< L o w r

@@ -19,7 +19,8 @@ use Rattle.zones.specs.Integers.{up, down}
 use Rattle.zones.proofs.pairs.Integers.{int, one_side, lt_z_true, abs_law, abs_gap, neg_law}
 use Rattle.zones.specs.Fractions.{lowered_by}
 use Rattle.zones.specs.Pairs.{zero_pair, at_most, at_least, sum_of, smaller_of, threshold_of}
-use Rattle.zones.specs.Zones.{entry, lower_at, upper_met}
+use Rattle.zones.specs.Zones.{entry, lower_at, upper_met, upper_met_if}
+use Rattle.std.specs.Prelude.{Option, None, Some}
 use Rattle.zones.specs.Reductions.{relaxed, row_steps, round_steps, empty_below, after_middle, reduce_steps}
 use Rattle.zones.specs.Ranges.{Bounded, Narrow, Small, Fits32, Spread, Suffices, step_counts, last_counts, widest}
 use Rattle.zones.specs.Ranges.{Ready, RoundReady, DiagonalReady, LimitsReady}
@@ -244,16 +245,18 @@ most_bounded hi h = record { m = omega (arith, abs_law (pos hi)); p = omega arit
 pub least_bounded : (lo : ℕ) → lo ≤ scale → Bounded scale step_counts (at_least lo)
 least_bounded lo h = record { m = omega (arith, abs_law (neg_ℤ (pos lo)), neg_law (pos lo)); p = omega arith }
 
-pub upper_ready : (b : Bounds) (lo hi : ℕ) (absent : Bool) → LimitsReady b lo hi absent → absent ≡ false → LimitsReady (upper_met hi b) lo 0 false
-unfolding upper_met
-upper_ready b lo hi absent r e = record {
-  upper = smaller_bounded scale step_counts b.upper (at_most hi) r.upper (most_bounded hi (r.hi≤ e));
-  lower = r.lower;
-  fraction = lowered_narrow widest widest _ _ r.fraction
-      (both_narrow widest widest scale step_counts here b.upper (at_most hi) r.upper (most_bounded hi (r.hi≤ e)));
-  lo≤ = r.lo≤;
-  hi≤ = λ z. omega arith;
-}
+pub upper_ready : (b : Bounds) (lo : ℕ) (hi : Option ℕ) → LimitsReady b lo hi → LimitsReady (upper_met_if hi b) lo None
+unfolding upper_met_if upper_met
+upper_ready b lo None r = r
+upper_ready b lo (Some hi) r =
+    let q = most_bounded hi r.hi≤ in
+    record {
+      upper = smaller_bounded scale step_counts b.upper (at_most hi) r.upper q;
+      lower = r.lower;
+      fraction = lowered_narrow widest widest _ _ r.fraction (both_narrow widest widest scale step_counts here b.upper (at_most hi) r.upper q);
+      lo≤ = r.lo≤;
+      hi≤ = tt;
+    }
 
 -- as the code counts: v is the zone after k middle indices
 module _ (n : ℕ) (w : Work) (size : length w.zone ≡ 81) (r : Ready w n) where

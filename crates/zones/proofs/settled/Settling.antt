@@ -9,7 +9,7 @@ use native.Mathlib.Omega.{arith}
 use Rattle.zones.specs.declared.pair.Pair.{Pair}
 use Rattle.zones.specs.declared.zone.Work.{Work}
 use Rattle.zones.proofs.pairs.Integers.{int}
-use Rattle.zones.specs.Pairs.{zero_pair, sum_of, compare_of, is_below, is_less}
+use Rattle.zones.specs.Pairs.{zero_pair, sum_of, is_less}
 use Rattle.runs.specs.Limits.{Limits}
 use Rattle.zones.specs.Zones.{entry, first_work, home, meet_limits, reset_of}
 use Rattle.zones.specs.Reductions.{reduce_steps}
@@ -56,7 +56,7 @@ reset_settled n n≤ R w h =
 
 -- ---- the first zone
 none : is_less (sum_of zero_pair zero_pair) zero_pair ≡ false
-unfolding compare_of is_below is_less sum_of
+unfolding is_less sum_of
 none = refl
 
 pub first_settled : (n : ℕ) → n ≤ 9 → Settled n first_work

@@ -11,20 +11,17 @@ pub loop-t-init : goal.loop-t-init
 unfolding every_pair
 loop-t-init c = (omega arith, refl)
 
-pub returns-then-not-is_at_most : goal.returns-then-not-is_at_most
-returns-then-not-is_at_most c =
+pub returns-then-not-is_le : goal.returns-then-not-is_le
+returns-then-not-is_le c =
     stops _ c.loop-t.t _ (omega arith)
-    (sym (c.is_at_most.ensures ∙ ap is_at_most c.compare_at.ensures) ∙ c.if-not-is_at_most.true)
+    (sym (c.is_le.ensures ∙ ap is_at_most c.compare_at.ensures) ∙ c.if-not-is_le.true)
 
 pub loop-t-preserved : goal.loop-t-preserved
 loop-t-preserved c =
-    let passed = sym (c.is_at_most.ensures ∙ ap is_at_most c.compare_at.ensures) ∙ c.if-not-is_at_most.false in
+    let passed = sym (c.is_le.ensures ∙ ap is_at_most c.compare_at.ensures) ∙ c.if-not-is_le.false in
     (omega arith, goes _ c.loop-t.t passed c.loop-t.invariant.1)
 
 pub returns : goal.returns
 returns c =
     let e : c.loop-t.t ≡ c.args.pairs = omega arith in
     sym (rw e at c.loop-t.invariant.1)
-
-pub is_at_most-requires : goal.is_at_most-requires
-is_at_most-requires c = tt

@@ -7,8 +7,8 @@ pub returns : goal.returns
 returns c =
     λ i. record {
       count = c.args.self.count;
-      exact = c.after_lowering-lowered.ensures i;
-      safe = c.after_lowering-safe.ensures i;
+      exact = c.lowered-lowered.ensures i;
+      safe = c.lowered-safe.ensures i;
       dropped = c.with-dropped.ensures i;
       outcome = Going;
     }

@@ -8,7 +8,7 @@ returns c =
     λ i. record {
       count = c.args.self.count;
       exact = c.args.exact;
-      safe = c.after_lowering-safe.ensures i;
+      safe = c.lowered-safe.ensures i;
       dropped = c.args.self.dropped;
       outcome = Going;
     }

@@ -22,15 +22,15 @@ threshold-requires c =
     let l = lt_z_true c.args.q.m (pos 0) (rw (to_z-of_z (fits (goal.at.threshold-requires c).Start)) at c.if-m-lt0.true) in
     (diagonal_small c.requires.spread, record { m = omega arith; p = omega arith }, omega (arith, int))
 
-pub after_lowering-safe-requires : goal.after_lowering-safe-requires
-after_lowering-safe-requires c =
-    let l = lt_z_true c.args.q.m (pos 0) (rw (to_z-of_z (fits (goal.at.after_lowering-safe-requires c).Start)) at c.if-m-lt0.true) in
+pub lowered-safe-requires : goal.lowered-safe-requires
+lowered-safe-requires c =
+    let l = lt_z_true c.args.q.m (pos 0) (rw (to_z-of_z (fits (goal.at.lowered-safe-requires c).Start)) at c.if-m-lt0.true) in
     (c.requires.safe, rw c.threshold.ensures (diagonal_narrow widest widest scale step_counts here _ c.requires.spread (omega (arith, int))))
 
 pub returns-then-m-lt0 : goal.returns-then-m-lt0
 returns-then-m-lt0 c =
     seen_below _ _ (rw (to_z-of_z (fits (goal.at.returns-then-m-lt0 c).Start)) at c.if-m-lt0.true)
-    c.threshold.ensures c.after_lowering-safe.ensures
+    c.threshold.ensures c.lowered-safe.ensures
 
 pub returns : goal.returns
 returns c = seen_above _ _ (rw (to_z-of_z (fits (goal.at.returns c).Start)) at c.if-m-lt0.false)

@@ -7,6 +7,7 @@ use native.Mathlib.Omega.{arith}
 use lib.ListN.{length}
 use borrow.Author.Tests.{not-true, not-false}
 use Rattle.zones.specs.declared.zone.Work.{Work}
+use Rattle.zones.specs.Pairs.{is_less}
 use Rattle.zones.specs.Zones.{pair_at}
 use Rattle.zones.specs.Ranges.{Fits32}
 use Rattle.zones.specs.Reductions.{relaxed, row_steps, round_steps, seen_with}
@@ -14,7 +15,7 @@ use Rattle.zones.proofs.ranges.Ranges.{TurnReady, spread_small, sum-small, turn_
 use Rattle.zones.proofs.reductions.Rounds.{relaxed_is, relaxed_stays, row_next, row_all, round_all}
 use Rattle.zones.proofs.reductions.Progress.{seen_in, seen_first, seen_next, seen_live, reduced_next, reduced_stop, reduced_end}
 use Rattle.zones.proofs.zone.Work.reduce_from.Goals as goal
-use Rattle.zones.proofs.zone.Work.reduce_from.Goals.{After-smaller-choice, In-loop-j, then-is_less, else-is_less, then-i-k+else-loop-j-test, else-i-k}
+use Rattle.zones.proofs.zone.Work.reduce_from.Goals.{After-smaller-choice, In-loop-j, then-lt, else-lt, then-i-k+else-loop-j-test, else-i-k}
 use Rattle.zones.proofs.zone.Work.reduce_from.Goals.{then-loop-k-test+else-not-seen, else-loop-k-test}
 
 pub loop-k-init : goal.loop-k-init
@@ -56,22 +57,22 @@ lowering c =
     c.loop-k.invariant.2 (not-true _ c.if-not-seen.true) _ _ (omega arith) (omega arith) _ _ c.loop-i.invariant.3 c.loop-j.invariant.4 in
     (t.fraction, rw (c.smaller-choice.ensures, c.sum.ensures) (turn_narrow _ _ _ _ t))
 
-pub after_lowering-work-requires : goal.after_lowering-work-requires
-after_lowering-work-requires c = lowering (goal.at.after_lowering-work-requires c).After-smaller-choice
+pub lower-requires : goal.lower-requires
+lower-requires c = lowering (goal.at.lower-requires c).After-smaller-choice
 
-pub after_lowering-work-requires-else-is_less : goal.after_lowering-work-requires-else-is_less
-after_lowering-work-requires-else-is_less c = lowering (goal.at.after_lowering-work-requires-else-is_less c).After-smaller-choice
+pub lower-requires-else-lt : goal.lower-requires-else-lt
+lower-requires-else-lt c = lowering (goal.at.lower-requires-else-lt c).After-smaller-choice
 
 pub loop-j-preserved : goal.loop-j-preserved
-unfolding pair_at
+unfolding pair_at is_less
 loop-j-preserved c =
     let now : Work = c.loop-j.work in
     let sum = c.sum.ensures in
-    let less = c.is_less.ensures in
-    let step : c.if-is_less.work ≡ relaxed c.loop-k.k c.loop-i.i c.loop-j.j now = elim c.if-is_less.branch [
-      | then-is_less w ↦ w.work-is ∙ relaxed_is now _ _ _ _ _ _ sum c.smaller-choice.ensures w.after_lowering-work.ensures
-      | else-is_less w ↦ w.work-is ∙ relaxed_stays now _ _ _ _ _ sum _ c.smaller-choice.ensures w.after_lowering-work-else-is_less.ensures
-          (sym less ∙ w.if-is_less.false)
+    let less = c.lt.ensures in
+    let step : c.if-lt.work ≡ relaxed c.loop-k.k c.loop-i.i c.loop-j.j now = elim c.if-lt.branch [
+      | then-lt w ↦ w.work-is ∙ relaxed_is now _ _ _ _ _ _ sum c.smaller-choice.ensures w.lower.ensures
+      | else-lt w ↦ w.work-is ∙ relaxed_stays now _ _ _ _ _ sum _ c.smaller-choice.ensures w.lower-else-lt.ensures
+          (sym less ∙ w.if-lt.false)
     ] in
     (omega arith, omega arith, omega arith, omega arith, step ∙ ap (relaxed _ _ _) c.loop-j.invariant.4 ∙ row_next _ _ _ _)
 

@@ -54,10 +54,10 @@ smaller-choice-requires c =
     let t = turn (goal.at.smaller-choice-requires c).In-loop-i in
     (spread_small t.at, rw c.sum.ensures (sum-small _ _ t.to t.from))
 
-pub after_lowering-f-requires : goal.after_lowering-f-requires
+pub lower-requires : goal.lower-requires
 unfolding pair_at
-after_lowering-f-requires c =
-    let t = turn (goal.at.after_lowering-f-requires c).In-loop-i in
+lower-requires c =
+    let t = turn (goal.at.lower-requires c).In-loop-i in
     let fits : Fits32 c.smaller-choice.result.threshold =
     rw (c.smaller-choice.ensures, c.sum.ensures) (turn_narrow _ _ _ _ t) in
     search rules
@@ -68,7 +68,7 @@ loop-i-preserved c =
     let i< = c.loop-i-test.true in
     let d = c.requires.1 in
     let now : Work = record { zone = c.loop-i.z; fraction = c.loop-i.f } in
-    let step = relaxed_is now _ _ _ _ _ _ c.sum.ensures c.smaller-choice.ensures c.after_lowering-f.ensures in
+    let step = relaxed_is now _ _ _ _ _ _ c.sum.ensures c.smaller-choice.ensures c.lower.ensures in
     let was = c.loop-k.invariant.4 d.base d.settled d.raised in
     let o = c.loop-i.invariant.5 d.base d.settled was in (
       omega arith,
