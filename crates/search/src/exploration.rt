@@ -127,8 +127,7 @@ fn offer(
 {
     let work = r.work;
     let exact = work.fraction;
-    if r.empty {
-        let safe = r.safe;
+    if let Some(safe) = r.emptied {
         return turn.emptied(exact, safe);
     }
     if l == target(automaton) {
@@ -186,10 +185,9 @@ fn follow(
     let counts = counts_of(automaton);
     let at = counts.edge_at(i) + 3;
     let met = narrow(automaton, at, counts.clocks, w, false);
-    if met.empty {
+    if let Some(safe) = met.emptied {
         let work = met.work;
         let exact = work.fraction;
-        let safe = met.safe;
         return turn.emptied(exact, safe);
     }
     let resets = edge.resets;

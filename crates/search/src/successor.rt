@@ -99,7 +99,7 @@ pub(crate) fn enter(automaton: &[u8], l: usize, w: Work, resets: [bool; 9]) -> R
     let at = counts.invariant_at(l);
     let cleared = w.reset(c + 1, resets);
     let met = narrow(automaton, at, c, cleared, true);
-    if met.empty {
+    if met.emptied.is_some() {
         return met;
     }
     let raised = raise(automaton, at, c, met.work);

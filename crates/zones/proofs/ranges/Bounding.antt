@@ -1,6 +1,8 @@
 -- How large the numbers get through the three reductions of one step. With |m| ≤ C and p ≤ P before, a zone that is not empty has |m| ≤ C
 -- after each reduction, and p at most ten times what it was; and each threshold is within N and D.
 -- Assumes nothing.
+use Rattle.zones.specs.Reductions.{safe_of}
+use Rattle.zones.specs.Reductions.{is_empty}
 use Prim.Native.Nat.{ℕ, suc, ◌+◌, ◌*◌, ◌<◌, ◌≤◌}
 use mathlib.Core.Path.{◌≡◌, refl, ap, ◌∙◌}
 use mathlib.Core.Bool.{Bool, false}
@@ -144,10 +146,10 @@ module _ (N D C P n : ℕ) (enough : Suffices N D C P) (n≤ : n ≤ 9) (n> : 0 
   reduced_narrow = reduce_narrow N D C P enough n w n≤ alive r.ranged.bounded r.narrow n (omega arith)
 
   -- and so is what the safe one is lowered by
-  pub reduced_safe : Narrow N D (reduce_of n w).safe
+  pub reduced_safe : Narrow N D (safe_of (reduce_of n w))
   reduced_safe = reduce_safe N D C P enough n w n≤ alive r.ranged.bounded n (omega arith)
 
-  pub reduced_ranged : (reduce_of n w).empty ≡ false → Ranged C (10 * P) n (reduce_of n w).work
+  pub reduced_ranged : is_empty (reduce_of n w) ≡ false → Ranged C (10 * P) n (reduce_of n w).work
   reduced_ranged live = record {
     size = reduce_size 1 0 (omega arith) n n≤ w r.ranged.size;
     bounded = λ a b ha hb. record { m = small a b ha hb; p = few a b ha hb };
@@ -237,8 +239,8 @@ module _ (P n : ℕ) (P> : 0 < P) (P≤ : P ≤ step_counts) (n≤ : n ≤ 9) (w
   pub reduced_fits : 0 < n → Fits32 (reduce_of n w).work.fraction
   reduced_fits n> = reduced_narrow widest widest scale P n (fewer_suffice P P> P≤) n≤ n> w r
 
-  pub safe_fits : 0 < n → Fits32 (reduce_of n w).safe
+  pub safe_fits : 0 < n → Fits32 (safe_of (reduce_of n w))
   safe_fits n> = reduced_safe widest widest scale P n (fewer_suffice P P> P≤) n≤ n> w r
 
-  pub sized_reduce : 0 < n → (reduce_of n w).empty ≡ false → Sized (10 * P) n (reduce_of n w).work
+  pub sized_reduce : 0 < n → is_empty (reduce_of n w) ≡ false → Sized (10 * P) n (reduce_of n w).work
   sized_reduce n> live = record { ranged = reduced_ranged widest widest scale P n (fewer_suffice P P> P≤) n≤ n> w r live; narrow = reduced_fits n> }
