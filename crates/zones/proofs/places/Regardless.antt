@@ -16,7 +16,7 @@ use Rattle.zones.specs.declared.zone.Work.{Work}
 use Rattle.runs.specs.Limits.{Limits}
 use Rattle.zones.specs.Pairs.{at_most, smaller_of, sum_of}
 use Rattle.zones.specs.Zones.{pair_at, lower_at, meet_upper, meet_clock, meet_limits, raise_limits, reset_places, reset_of}
-use Rattle.zones.specs.Reductions.{relaxed, row_steps, round_steps, empty_in, empty_below, after_middle, reduce_steps}
+use Rattle.zones.specs.Reductions.{relaxed, row_steps, round_steps, empty_in, after_middle, reduce_steps}
 use Rattle.zones.specs.Successors.{and_then, meet_of, enter_of, follow_of}
 
 -- ---- works with the same square, whatever their fractions

@@ -31,7 +31,7 @@ use Rattle.runs.specs.Limits.{scale}
 use Rattle.zones.proofs.pairs.Choices.{less_shows, not_less_shows, threshold_cases, smaller_cases, lowered_cases}
 use Rattle.zones.proofs.reductions.Rounds.{chosen, RowDone, row_done, reads_at, reads_to, reads_from, RoundDone, round_done}
 use Rattle.zones.proofs.reductions.Rounds.{middle, still, row_skip}
-use Rattle.zones.proofs.reductions.Progress.{Alive, along, seen_in, leaves, after_live, after_empty}
+use Rattle.zones.proofs.reductions.Progress.{Alive, along, seen_in, after_live, after_empty}
 use Rattle.zones.proofs.pairs.Order.{sum_p}
 use Rattle.zones.proofs.ranges.Size.{sum-up, sum-down, reduce_spread}
 

@@ -1,10 +1,8 @@
 -- `Work::reduce_from` meets its contract: what is done is the definition's middle indices, of this one its rows, and of this row its columns.
 use Prim.Native.Nat.{ℕ, ◌+◌}
 use mathlib.Core.Path.{◌≡◌, refl, sym, ap, ◌∙◌}
-use mathlib.Core.Bool.{false}
 use native.Mathlib.Numerals.{add-one}
 use native.Mathlib.Omega.{arith}
-use lib.ListN.{length}
 use Rattle.zones.specs.declared.zone.Work.{Work}
 use Rattle.zones.specs.Pairs.{is_less}
 use Rattle.zones.specs.Zones.{pair_at}
