@@ -1,4 +1,5 @@
 -- What the functions of the search ask and give. A search in progress is a state of the definition; the code has it as a turn and the store.
+use Rattle.zones.specs.Reductions.{is_empty, safe_of}
 use Rattle.std.specs.Prelude.{ℕ, suc, ◌*◌, ◌≤◌, ◌<◌, ◌≡◌, Bool, false, true, List, ℤ, pos, length, get_or, drop}
 use Rattle.zones.specs.declared.pair.Pair.{Pair}
 use Rattle.zones.specs.declared.reduction.Reduced.{Reduced}
@@ -45,9 +46,9 @@ pub record SoundState (b : List ℕ) (slots : ℕ) (q : ZoneState) : Type 0 wher
 -- what has entered a location
 pub record SoundResult (b : List ℕ) (r : Reduced) : Type 0 where
   pub fraction : Fits32 r.work.fraction
-  pub safe : Fits32 r.safe
-  pub sized : r.empty ≡ false → Sized last_counts (suc (clocks b)) r.work
-  pub framed : r.empty ≡ false → Framed (suc (clocks b)) r.work.zone
+  pub safe : Fits32 (safe_of r)
+  pub sized : is_empty r ≡ false → Sized last_counts (suc (clocks b)) r.work
+  pub framed : is_empty r ≡ false → Framed (suc (clocks b)) r.work.zone
 
 -- ---- the store s and the turn t show the state q: its kept zones, and past them what s₀ had
 pub record Shown (n : ℕ) (s₀ : List ℤ) (q : ZoneState) (s : List ℤ) (t : Turn) : Type 0 where

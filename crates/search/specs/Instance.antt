@@ -1,4 +1,5 @@
 -- The search of document 01: the general search over the zones of an automaton's bytes.
+use Rattle.zones.specs.Reductions.{is_empty, safe_of}
 use Rattle.std.specs.Prelude.{ℕ, suc, ◌≤◌, Bool, cond, List, ◌≡◌, ltb, length}
 use Rattle.zones.specs.declared.fraction.Fraction.{Fraction}
 use Rattle.zones.specs.declared.pair.Pair.{Pair}
@@ -33,7 +34,7 @@ fractions_of exact safe = record { exact = exact; safe = safe }
 -- containment tests that hold"
 unfoldable pub result_of : Fraction → Reduced → Result (List Pair) Fractions
 result_of safe r =
-    cond r.empty (empty (fractions_of r.work.fraction (lowered_by safe r.safe)))
+    cond (is_empty r) (empty (fractions_of r.work.fraction (lowered_by safe (safe_of r))))
     (zone r.work.zone (fractions_of r.work.fraction safe))
 
 -- "The first zone .. enters the start."

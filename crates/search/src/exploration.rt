@@ -119,8 +119,7 @@ fn offer(
 {
     let work = r.work;
     let exact = work.fraction;
-    if r.empty {
-        let safe = r.safe;
+    if let Some(safe) = r.emptied {
         return turn.emptied(exact, safe);
     }
     if l == automaton.target() {
@@ -173,10 +172,9 @@ fn follow(
 {
     let at = automaton.edge_at(i) + 3;
     let met = narrow(automaton, at, automaton.clocks, w, false);
-    if met.empty {
+    if let Some(safe) = met.emptied {
         let work = met.work;
         let exact = work.fraction;
-        let safe = met.safe;
         return turn.emptied(exact, safe);
     }
     let resets = edge.resets;

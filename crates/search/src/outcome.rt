@@ -5,7 +5,7 @@ ghost use Rattle.search.specs.Outcomes.{outcome_of, has_ended, Few, most_offers,
 
 use automata::refusals::Refusal;
 use slots::slot::Origin;
-use zones::fraction::{Fraction, after_lowering};
+use zones::fraction::Fraction;
 
 // A search that goes on, or has stopped: at the target, by a zone of the origin told, or by the number of a refusal. One that goes on when
 // no zone is left to take holds.
@@ -71,7 +71,7 @@ impl Turn {
     {
         Turn {
             exact,
-            safe: after_lowering(self.safe, below),
+            safe: self.safe.lowered(below),
             outcome: Outcome::Going,
             ..self
         }
@@ -83,8 +83,8 @@ impl Turn {
         ensures { result ≡ contained_by self exact below equal }
     {
         Turn {
-            exact: after_lowering(exact, below),
-            safe: after_lowering(self.safe, below),
+            exact: exact.lowered(below),
+            safe: self.safe.lowered(below),
             dropped: self.dropped.with(equal),
             outcome: Outcome::Going,
             ..self

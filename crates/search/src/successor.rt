@@ -9,7 +9,6 @@ ghost use Rattle.automata.specs.Automata.{clocks, locations, limits_at};
 ghost use Rattle.search.specs.Exploring.{arrival_of};
 ghost use Rattle.search.specs.Meeting.{MetBy};
 
-use automata::fields::NO_UPPER;
 use automata::opened::Automaton;
 use zones::pair::Pair;
 use zones::reduction::Reduced;
@@ -32,13 +31,12 @@ fn meet(automaton: &Automaton, at: usize, c: usize, w: Work, settled: bool) -> M
     let mut same = settled;
     for x in 1..c + 1 {
         let limits = automaton.limits(at, x);
-        let hi = limits.hi;
         let there = Bounds {
             upper: work.zone[x * 9],
             lower: work.zone[x],
             fraction: work.fraction,
         };
-        let met = there.meet(limits.lo, hi, hi == NO_UPPER);
+        let met = there.meet(limits.lo, limits.upper());
         if met.is_below(there) {
             same = false;
         }
@@ -90,7 +88,7 @@ pub(crate) fn enter(automaton: &Automaton, l: usize, w: Work, resets: [bool; 9])
     let at = automaton.invariant_at(l);
     let cleared = w.reset(c + 1, resets);
     let met = narrow(automaton, at, c, cleared, true);
-    if met.empty {
+    if met.emptied.is_some() {
         return met;
     }
     let raised = raise(automaton, at, c, met.work);

@@ -1,9 +1,8 @@
 -- Two slots compared, on their numbers, and the largest error count of one: of their first t pairs each. Last, what the code asks.
 use Rattle.std.specs.Prelude.{ℕ, zero, suc, ◌<◌, ◌≤◌, ◌≡◌, Bool, true, false, cond, List, length, get_or, ℤ, pos, ◌≤ℤ◌}
-use Rattle.std.specs.Int.Signed.{lt_z}
 use Rattle.zones.specs.declared.fraction.Fraction.{Fraction}
-use Rattle.zones.specs.declared.pair.Comparison.{Comparison}
-use Rattle.zones.specs.declared.pair.Comparison.TheVariants.{Below, Equal, Above}
+use Rattle.std.specs.declared.cmp.Ordering.{Ordering}
+use Rattle.std.specs.Ordering.{ordering_then, int_cmp}
 use Rattle.zones.specs.Containment.{larger}
 use Rattle.zones.specs.Fractions.{no_limit, lowered_by}
 use Rattle.zones.specs.Pairs.{compare_of, is_at_most, is_equal, threshold_of}
@@ -13,12 +12,10 @@ use Rattle.slots.specs.declared.containment.Inside.{Inside}
 use Rattle.slots.specs.Slots.{m_at, p_at, slot_pair}
 
 -- how pair t of `new` stands to that of `old`: the comparison of pairs, on their numbers
-unfoldable pub compare_numbers : List ℤ → List ℤ → ℕ → Comparison
+unfoldable pub compare_numbers : List ℤ → List ℤ → ℕ → Ordering
 compare_numbers new old t =
-    cond (lt_z (get_or new (m_at t) (pos 0)) (get_or old (m_at t) (pos 0))) Below
-    (cond (lt_z (get_or old (m_at t) (pos 0)) (get_or new (m_at t) (pos 0))) Above
-    (cond (lt_z (get_or new (p_at t) (pos 0)) (get_or old (p_at t) (pos 0))) Below
-    (cond (lt_z (get_or old (p_at t) (pos 0)) (get_or new (p_at t) (pos 0))) Above Equal)))
+    ordering_then (int_cmp (get_or new (m_at t) (pos 0)) (get_or old (m_at t) (pos 0)))
+    (int_cmp (get_or new (p_at t) (pos 0)) (get_or old (p_at t) (pos 0)))
 
 -- each of the first t pairs passes
 unfoldable pub every_pair : ℕ → (ℕ → Bool) → Bool

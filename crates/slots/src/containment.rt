@@ -4,29 +4,29 @@ ghost use Rattle.slots.specs.Slots.{m_at, p_at};
 ghost use Rattle.slots.specs.Containing.{compare_numbers, within_slots, inside_of, largest_slot, Readable, ComparableSlots};
 
 use crate::slot::{FIRST_M, FIRST_P, get_pair};
+use std::cmp::Ordering;
 use zones::fraction::Fraction;
-use zones::pair::Comparison;
 
 // How pair t of the new slot stands to that of the old one: the comparison of pairs, on their numbers.
-fn compare_at(new: &[i32], old: &[i32], t: usize) -> Comparison
+fn compare_at(new: &[i32], old: &[i32], t: usize) -> Ordering
     requires { (p_at t < length new.now) × (p_at t < length old.now) }
     ensures { result ≡ compare_numbers new.now old.now t }
 {
     let m = FIRST_M + 2 * t;
     let p = FIRST_P + 2 * t;
     if old[m] < new[m] {
-        return Comparison::Above;
+        return Ordering::Greater;
     }
     if old[m] != new[m] {
-        return Comparison::Below;
+        return Ordering::Less;
     }
     if old[p] < new[p] {
-        return Comparison::Above;
+        return Ordering::Greater;
     }
     if old[p] != new[p] {
-        return Comparison::Below;
+        return Ordering::Less;
     }
-    Comparison::Equal
+    Ordering::Equal
 }
 
 // Whether each of the new slot's pairs is the smaller or equal beside the old one's. The search
@@ -35,7 +35,7 @@ pub fn is_within(new: &[i32], old: &[i32], pairs: usize) -> bool
     requires { (m_at pairs ≤ length new.now) × (m_at pairs ≤ length old.now) }
     ensures { result ≡ within_slots new.now old.now pairs }
 {
-    (0..pairs).all(|t| compare_at(new, old, t).is_at_most())
+    (0..pairs).all(|t| compare_at(new, old, t).is_le())
 }
 
 // How a new slot lies inside an old one, by a test that holds: its lowest threshold, and whether every pair equals the old one's.
@@ -56,7 +56,7 @@ pub fn inside_of(new: &[i32], old: &[i32], pairs: usize) -> Inside
         let a = get_pair(new, t);
         let b = get_pair(old, t);
         below = below.after_choice(a, b);
-        if !a.compare(b).is_equal() {
+        if a != b {
             equal = false;
         }
     }

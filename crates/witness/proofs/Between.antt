@@ -1,5 +1,6 @@
 -- The two zones on the way of a step that some state of w takes, at s = 1, e = 0: neither is empty, both are reduced, and their states come from w.
 -- Assumes nothing.
+use Rattle.zones.specs.Reductions.{is_empty}
 use Prim.Native.Nat.{ℕ, suc, ◌≤◌, ◌<◌}
 use mathlib.Core.Path.{◌≡◌, refl, sym, ap, subst}
 use mathlib.Core.Bool.{Bool, false}
@@ -51,7 +52,7 @@ module _ (c : ℕ) (n≤ : suc c ≤ 9) (w : Work) (shaped : Shaped c w) (closed
   below_g : Below 1 0 g.work.fraction
   below_g = proper_below g.work.fraction (in_g.proper proper)
 
-  live_g : g.empty ≡ false
+  live_g : is_empty g ≡ false
   live_g = in_g.live (in_g.tighter below_g) old old has (refl, f.guard)
 
   out_g : Exact 1 0 c (λ x y. (y ≡ x) × Within 1 0 c G x) w g
@@ -88,7 +89,7 @@ module _ (c : ℕ) (n≤ : suc c ≤ 9) (w : Work) (shaped : Shaped c w) (closed
   below_a : Below 1 0 a.work.fraction
   below_a = proper_below a.work.fraction (in_a.proper proper_r)
 
-  live_a : a.empty ≡ false
+  live_a : is_empty a ≡ false
   live_a = in_a.live (in_a.tighter below_a) f.after f.after after_r (refl, f.enters.arrived)
 
   out_a : Exact 1 0 c (λ x y. (y ≡ x) × Within 1 0 c I x) r a

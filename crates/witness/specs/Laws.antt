@@ -1,5 +1,6 @@
 -- What a step back means: at s = 1, e = 0 it makes a step of a run, from a state of the zone w along an edge with the guard G that resets R, into
 -- a location with the invariant I. There are c clocks.
+use Rattle.zones.specs.Reductions.{is_empty}
 use Rattle.std.specs.Prelude.{ℕ, suc, ◌≡◌, Bool, false, List}
 use Rattle.runs.specs.Limits.{Limits, Within}
 use Rattle.zones.specs.declared.reduction.Reduced.{Reduced}
@@ -19,8 +20,8 @@ arrived c G R I w = meet_of c I (reset_of (suc c) R (guard_met c G w).work)
 
 -- neither of the two is empty
 pub record BothLive (c : ℕ) (G : Limits) (R : ℕ → Bool) (I : Limits) (w : Work) : Type 0 where
-  pub guarded : (guard_met c G w).empty ≡ false
-  pub entered : (arrived c G R I w).empty ≡ false
+  pub guarded : is_empty (guard_met c G w) ≡ false
+  pub entered : is_empty (arrived c G R I w) ≡ false
 
 -- r is a step back from the state s: its state is in w and within the guard, reset it is within the invariant, and waiting makes it s
 pub record SteppedBack (c : ℕ) (G : Limits) (R : ℕ → Bool) (I : Limits) (w : Work) (s : List ℕ) (r : Back) : Type 0 where

@@ -3,7 +3,7 @@
 -- There are n indices: 0 and the clocks. A place k of a square is row k / 9 and column k % 9; it counts if its column is below n.
 use Rattle.std.specs.Prelude.{ℕ, zero, suc, ◌*◌, ◌%◌, Bool, true, false, cond, List, ltb, get_or}
 use Rattle.zones.specs.declared.fraction.Fraction.{Fraction}
-use Rattle.zones.specs.declared.pair.Comparison.{Comparison}
+use Rattle.std.specs.declared.cmp.Ordering.{Ordering}
 use Rattle.zones.specs.declared.pair.Pair.{Pair}
 use Rattle.zones.specs.Fractions.{no_limit, lowered_by}
 use Rattle.zones.specs.Pairs.{zero_pair, compare_of, is_at_most, is_equal, threshold_of}
@@ -17,7 +17,7 @@ every_to n zero passes = true
 every_to n (suc k) passes = cond (ltb (k % 9) n) (cond (passes k) (every_to n k passes) false) (every_to n k passes)
 
 -- how the pair of z at place k stands to y's
-abbrev pub compare_at : List Pair → List Pair → ℕ → Comparison
+abbrev pub compare_at : List Pair → List Pair → ℕ → Ordering
 compare_at z y k = compare_of (place_of z k) (place_of y k)
 
 -- each pair of z is the smaller or equal beside y's

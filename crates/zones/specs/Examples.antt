@@ -2,6 +2,8 @@
 -- In the notes (a, b) is an entry, and k, i, j are middle index, row and column. A comparison is written `new vs there`; "thr" is the threshold
 -- that it yields. Comparisons with i = k or j = k are left out of the notes: the pair added is (0, 0), so that both are equal and the one there
 -- stays.
+use Rattle.std.specs.Prelude.{Some}
+use Rattle.std.specs.Prelude.{None}
 use Rattle.std.specs.Prelude.{ℕ, zero, suc, ◌+◌, ◌-◌, ◌*◌, ◌/◌, ◌%◌, Bool, true, false, cond, List, [], ◌∷◌, ◌++◌, ◌≡◌, eqb, ltb, pos, neg_ℤ, get_or}
 use Rattle.zones.specs.declared.fraction.Fraction.{Fraction}
 use Rattle.zones.specs.declared.pair.Pair.{Pair}
@@ -62,11 +64,11 @@ abbrev work : ℕ → List Pair → Fraction → Work
 work n z f = record { zone = square n z; fraction = f }
 
 abbrev live : ℕ → List Pair → Fraction → Result
-live n z f = reduced (record { work = work n z f; empty = false; safe = no_limit })
+live n z f = reduced (record { work = work n z f; emptied = None })
 
 -- with what the safe fraction is lowered by
 abbrev empty : ℕ → List Pair → Fraction → Fraction → Result
-empty n z f safe = reduced (record { work = work n z f; empty = true; safe = safe })
+empty n z f safe = reduced (record { work = work n z f; emptied = Some safe })
 
 -- limits: the lower ones by clock, and the upper ones
 abbrev no_upper : ℕ

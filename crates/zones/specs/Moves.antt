@@ -1,5 +1,6 @@
 -- What it is for an operation on zones to stand for a step of valuations S. The two inclusions stand apart.
 -- There are n indices, and c clocks.
+use Rattle.zones.specs.Reductions.{is_empty, safe_of}
 use Rattle.std.specs.Prelude.{ℕ, suc, ◌+◌, ◌≤◌, ◌<◌, ◌≡◌, false, length, ℤ, pos, ◌≤ℤ◌}
 use Rattle.zones.specs.declared.reduction.Reduced.{Reduced}
 use Rattle.zones.specs.declared.zone.Work.{Work}
@@ -34,13 +35,13 @@ pub record Shaped (c : ℕ) (w : Work) : Type 0 where
 pub record Includes (s e c : ℕ) (S : (ℕ → ℕ) → (ℕ → ℕ) → Type 0) (w : Work) (r : Reduced) : Type 0 where
   pub before : Below s e r.work.fraction → Below s e w.fraction
   pub proper : 0 < w.fraction.n → 0 < r.work.fraction.n
-  pub shaped : r.empty ≡ false → Shaped c r.work
-  pub into : r.empty ≡ false → (v v' : ℕ → ℕ) → Has s e c w v → S v v' → Has s e c r.work v'
-  pub live : Below s e r.safe → (v v' : ℕ → ℕ) → Has s e c w v → S v v' → r.empty ≡ false
-  pub tighter : Below s e r.work.fraction → Below s e r.safe
-  pub some : 0 < r.safe.n
+  pub shaped : is_empty r ≡ false → Shaped c r.work
+  pub into : is_empty r ≡ false → (v v' : ℕ → ℕ) → Has s e c w v → S v v' → Has s e c r.work v'
+  pub live : Below s e (safe_of r) → (v v' : ℕ → ℕ) → Has s e c w v → S v v' → is_empty r ≡ false
+  pub tighter : Below s e r.work.fraction → Below s e (safe_of r)
+  pub some : 0 < (safe_of r).n
 
 -- Out of the zone: below the running fraction every state of r is one that S gives from a state of w, and r is reduced
 pub record Exact (s e c : ℕ) (S : (ℕ → ℕ) → (ℕ → ℕ) → Type 0) (w : Work) (r : Reduced) : Type 0 where
-  pub closed : r.empty ≡ false → Below s e r.work.fraction → Closed (suc c) (square_of s e r.work)
-  pub from : r.empty ≡ false → Below s e r.work.fraction → (v' : ℕ → ℕ) → Has s e c r.work v' → (v : ℕ → ℕ) × Has s e c w v × S v v'
+  pub closed : is_empty r ≡ false → Below s e r.work.fraction → Closed (suc c) (square_of s e r.work)
+  pub from : is_empty r ≡ false → Below s e r.work.fraction → (v' : ℕ → ℕ) → Has s e c r.work v' → (v : ℕ → ℕ) × Has s e c w v × S v v'

@@ -1,11 +1,10 @@
 -- "A pair (m, p) stands for m + p × error, p never negative."
-use Rattle.std.specs.Prelude.{ℕ, ◌+◌, ◌-◌, Bool, true, false, cond, ltb, pos, neg_ℤ, ◌+ℤ◌, ◌-ℤ◌, nat_abs}
-use Rattle.std.specs.Int.Signed.{lt_z}
+use Rattle.std.specs.Prelude.{ℕ, ◌+◌, ◌-◌, Bool, cond, ltb, pos, neg_ℤ, ◌+ℤ◌, ◌-ℤ◌, nat_abs}
 use Rattle.zones.specs.declared.fraction.Fraction.{Fraction}
 use Rattle.zones.specs.declared.pair.Pair.{Pair}
 use Rattle.zones.specs.declared.pair.Choice.{Choice}
-use Rattle.zones.specs.declared.pair.Comparison.{Comparison}
-use Rattle.zones.specs.declared.pair.Comparison.TheVariants.{Below, Equal, Above}
+use Rattle.std.specs.declared.cmp.Ordering.{Ordering}
+use Rattle.std.specs.Ordering.{on, then_cmp, int_cmp, nat_cmp, is_lt, is_eq, is_le}
 use Rattle.zones.specs.Fractions.{no_limit}
 
 -- "The first zone has all pairs (0, 0)"
@@ -24,25 +23,18 @@ unfoldable pub sum_of : Pair → Pair → Pair
 sum_of a b = record { m = a.m +ℤ b.m; p = a.p + b.p }
 
 -- "Of two pairs the smaller has the smaller m; at equal m, the smaller p"; document 02: "Comparing two pairs must now say below, equal or above":
--- how a stands to b
-unfoldable pub compare_of : Pair → Pair → Comparison
-compare_of a b =
-    cond (lt_z a.m b.m) Below (cond (lt_z b.m a.m) Above (cond (ltb a.p b.p) Below (cond (ltb b.p a.p) Above Equal)))
+-- how a stands to b, `Less` being below. Pair's derived order is this one (`cmp_is` of proofs/pairs/Derived)
+abbrev pub compare_of : Pair → Pair → Ordering
+compare_of = then_cmp (on (λ a. a.m) int_cmp) (on (λ a. a.p) nat_cmp)
 
-unfoldable pub is_below : Comparison → Bool
-is_below Below = true
-is_below Equal = false
-is_below Above = false
+abbrev pub is_below : Ordering → Bool
+is_below = is_lt
 
-unfoldable pub is_equal : Comparison → Bool
-is_equal Below = false
-is_equal Equal = true
-is_equal Above = false
+abbrev pub is_equal : Ordering → Bool
+is_equal = is_eq
 
-unfoldable pub is_at_most : Comparison → Bool
-is_at_most Below = true
-is_at_most Equal = true
-is_at_most Above = false
+abbrev pub is_at_most : Ordering → Bool
+is_at_most = is_le
 
 -- a is the smaller of the two
 unfoldable pub is_less : Pair → Pair → Bool

@@ -1,12 +1,13 @@
 -- How large the numbers get, with the bounds as parameters: document 01's and those of a later scale differ only in `scale`, `counts` and `widest`.
 -- C bounds |m| and P the error counts, N and D the fraction. There are n indices, and c clocks.
-use Rattle.std.specs.Prelude.{ℕ, suc, ◌*◌, ◌≤◌, ◌<◌, ◌^◌, ◌≡◌, Bool, false, List, length, pos, nat_abs, ◌≤ℤ◌}
+use Rattle.std.specs.Prelude.{ℕ, suc, ◌*◌, ◌≤◌, ◌<◌, ◌^◌, ◌≡◌, false, List, length, pos, nat_abs, ◌≤ℤ◌, Option, IfSome}
 use Rattle.zones.specs.declared.fraction.Fraction.{Fraction}
 use Rattle.zones.specs.declared.pair.Pair.{Pair}
-use Rattle.zones.specs.declared.reduction.Diagonal.{Diagonal}
 use Rattle.zones.specs.declared.zone.Bounds.{Bounds}
 use Rattle.zones.specs.declared.zone.Work.{Work}
 use Rattle.zones.specs.Integers.{up, down}
+use Rattle.std.specs.Option.{unwrap_or}
+use Rattle.zones.specs.Fractions.{no_limit}
 use Rattle.zones.specs.Pairs.{zero_pair}
 use Rattle.runs.specs.Limits.{Limits, scale}
 use Rattle.zones.specs.Zones.{pair_at, entry}
@@ -89,17 +90,17 @@ pub record RoundReady (w : Work) (n k : ℕ) : Type 0 where
   pub diagonal : pos 0 ≤ℤ (entry w k k).m
 
 -- a pair of the diagonal after a round, and what the diagonal has shown before it
-pub record DiagonalReady (s : Diagonal) (q : Pair) : Type 0 where
-  pub safe : Fits32 s.safe
+pub record DiagonalReady (s : Option Fraction) (q : Pair) : Type 0 where
+  pub safe : Fits32 (unwrap_or s no_limit)
   pub spread : Spread scale step_counts 18 q
 
 -- a clock's limits to be met
-pub record LimitsReady (b : Bounds) (lo hi : ℕ) (absent : Bool) : Type 0 where
+pub record LimitsReady (b : Bounds) (lo : ℕ) (hi : Option ℕ) : Type 0 where
   pub upper : Bounded scale step_counts b.upper
   pub lower : Bounded scale step_counts b.lower
   pub fraction : Fits32 b.fraction
   pub lo≤ : lo ≤ scale
-  pub hi≤ : absent ≡ false → hi ≤ scale
+  pub hi≤ : IfSome hi (λ h. h ≤ scale)
 
 -- the error counts after a step's last reduction
 abbrev pub last_counts : ℕ

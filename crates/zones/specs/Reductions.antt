@@ -1,11 +1,11 @@
 -- "Reduction: middle index outermost, then row, then column, in clock order from 0. Each entry becomes the smaller of itself and row-to-middle plus
 -- middle-to-column."
 -- There are `n` indices: 0 and the clocks.
-use Rattle.std.specs.Prelude.{ℕ, zero, suc, Bool, true, false, cond, pos}
+use Rattle.std.specs.Prelude.{ℕ, zero, suc, Bool, true, false, cond, pos, Option, None, Some, is_some}
+use Rattle.std.specs.Option.{unwrap_or}
 use Rattle.std.specs.Int.Signed.{lt_z}
 use Rattle.zones.specs.declared.fraction.Fraction.{Fraction}
 use Rattle.zones.specs.declared.pair.Pair.{Pair}
-use Rattle.zones.specs.declared.reduction.Diagonal.{Diagonal}
 use Rattle.zones.specs.declared.reduction.Reduced.{Reduced}
 use Rattle.zones.specs.declared.zone.Work.{Work}
 use Rattle.zones.specs.Fractions.{no_limit, lowered_by}
@@ -38,21 +38,28 @@ empty_below zero w = no_limit
 empty_below (suc i) w =
     cond (lt_z (entry w i i).m (pos 0)) (lowered_by (empty_below i w) (threshold_of (entry w i i) zero_pair)) (empty_below i w)
 
--- both, as the code has them: what a diagonal shows with one pair more
-unfoldable pub seen_with : Pair → Diagonal → Diagonal
-seen_with q s = cond (lt_z q.m (pos 0)) (record { empty = true; safe = lowered_by s.safe (threshold_of q zero_pair) }) s
+-- as the code has both: what a diagonal shows with one pair more, None where no pair had m below 0
+unfoldable pub seen_with : Pair → Option Fraction → Option Fraction
+seen_with q s = cond (lt_z q.m (pos 0)) (Some (lowered_by (unwrap_or s no_limit) (threshold_of q zero_pair))) s
 
 -- a zone that is not empty
 abbrev pub non_empty : Work → Reduced
-non_empty w = record { work = w; empty = false; safe = no_limit }
+non_empty w = record { work = w; emptied = None }
+
+-- whether the zone is empty, and what the safe fraction is lowered by: nothing, if it is not
+abbrev pub is_empty : Reduced → Bool
+is_empty r = is_some r.emptied
+
+abbrev pub safe_of : Reduced → Fraction
+safe_of r = unwrap_or r.emptied no_limit
 
 -- "After each middle index, if a diagonal entry has m below 0, the zone is empty and work on it stops."
 unfoldable pub after_middle : ℕ → ℕ → Reduced → Reduced
 after_middle n k r =
-    cond r.empty r (record {
+    cond (is_empty r) r (record {
       work = round_steps n k n r.work;
-      empty = empty_in n (round_steps n k n r.work);
-      safe = empty_below n (round_steps n k n r.work);
+      emptied = cond (empty_in n (round_steps n k n r.work))
+          (Some (empty_below n (round_steps n k n r.work))) None;
     })
 
 -- the first k middle indices

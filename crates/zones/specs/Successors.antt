@@ -1,4 +1,5 @@
 -- How a zone goes from location to location. There are c clocks, and one index more.
+use Rattle.zones.specs.Reductions.{is_empty}
 use Rattle.std.specs.Prelude.{ℕ, suc, Bool, cond}
 use Rattle.zones.specs.declared.reduction.Reduced.{Reduced}
 use Rattle.zones.specs.declared.zone.Work.{Work}
@@ -8,7 +9,7 @@ use Rattle.zones.specs.Reductions.{reduce_of}
 
 -- "An empty zone is dropped at any point."
 unfoldable pub and_then : Reduced → (Work → Reduced) → Reduced
-and_then r f = cond r.empty r (f r.work)
+and_then r f = cond (is_empty r) r (f r.work)
 
 -- meet limits and reduce
 unfoldable pub meet_of : ℕ → Limits → Work → Reduced

@@ -1,6 +1,6 @@
 -- "A zone has a pair for each (a, b) among 0 and the clocks, bounding a − b." A zone at work is the square, nine pairs to a row, with the
 -- running fraction. There are c clocks.
-use Rattle.std.specs.Prelude.{ℕ, zero, suc, ◌+◌, ◌*◌, ◌/◌, ◌%◌, Bool, true, false, cond, List, get_or, set, replicate}
+use Rattle.std.specs.Prelude.{ℕ, zero, suc, ◌+◌, ◌*◌, ◌/◌, ◌%◌, Bool, true, false, cond, List, get_or, set, replicate, Option, None, Some}
 use Rattle.runs.specs.Limits.{Limits}
 use Rattle.zones.specs.declared.pair.Pair.{Pair}
 use Rattle.zones.specs.declared.zone.Bounds.{Bounds}
@@ -54,8 +54,16 @@ lower_met lo b =
       fraction = lowered_by b.fraction (smaller_of b.lower (at_least lo)).threshold;
     }
 
-unfoldable pub bounds_met : ℕ → ℕ → Bool → Bounds → Bounds
-bounds_met lo hi absent b = lower_met lo (cond absent b (upper_met hi b))
+unfoldable pub upper_met_if : Option ℕ → Bounds → Bounds
+upper_met_if None b = b
+upper_met_if (Some hi) b = upper_met hi b
+
+unfoldable pub bounds_met : ℕ → Option ℕ → Bounds → Bounds
+bounds_met lo hi b = lower_met lo (upper_met_if hi b)
+
+-- the hi of clock x, where it is not absent
+abbrev pub upper_of : Limits → ℕ → Option ℕ
+upper_of L x = cond (L.absent x) None (Some (L.hi x))
 
 -- one of the two entries of a is below b's
 unfoldable pub bounds_below : Bounds → Bounds → Bool

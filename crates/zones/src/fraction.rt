@@ -12,7 +12,7 @@ pub struct Fraction {
 
 impl Fraction {
     // The lower of the two; on equality the one that is there.
-    pub(crate) fn lowered(self, o: Fraction) -> Fraction
+    pub fn lowered(self, o: Fraction) -> Fraction
         requires { Fits32 self × Fits32 o }
         ensures { result ≡ lowered_by self o }
     {
@@ -40,21 +40,11 @@ impl Fraction {
 }
 
 // The fraction is lowered where it stands.
-pub(crate) fn lower(f: &mut Fraction, o: Fraction)
+pub fn lower(f: &mut Fraction, o: Fraction)
     requires { Fits32 f.old × Fits32 o }
     ensures { f.new ≡ lowered_by f.old o }
 {
     *f = f.lowered(o);
-}
-
-// What f is after it was lent to be lowered.
-pub fn after_lowering(f: Fraction, o: Fraction) -> Fraction
-    requires { Fits32 f × Fits32 o }
-    ensures { result ≡ lowered_by f o }
-{
-    let mut g = f;
-    lower(&mut g, o);
-    g
 }
 
 // The greatest common divisor, by Euclid's algorithm; that of x and 0 is x.

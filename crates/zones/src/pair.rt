@@ -1,55 +1,57 @@
 // Pairs, how one stands to another, and the threshold of a comparison.
 ghost use Rattle.std.specs.Prelude.{◌≡◌, ◌≤ℤ◌};
+ghost use Rattle.std.proofs.Common.{rules};
+ghost use Rattle.std.specs.Cmp.{partial_order_from_own_ties};
+ghost use Rattle.std.specs.Cmp.Rules.{comparing};
+ghost use Rattle.std.specs.Ordering.{as_partial_cmp};
 ghost use Rattle.zones.specs.Fractions.{lowered_by};
-ghost use Rattle.zones.specs.Pairs.{at_most, at_least, sum_of, is_below, is_equal, is_at_most, compare_of, is_less, threshold_of, smaller_of};
+ghost use Rattle.zones.specs.Pairs.{compare_of, at_most, at_least, sum_of, threshold_of, smaller_of};
 ghost use Rattle.zones.specs.Ranges.{Small, Fits32, ChoiceReady};
 
-use crate::fraction::{Fraction, after_lowering};
+use crate::fraction::Fraction;
+use std::cmp::Ordering;
 
-// A pair stands for m + p × error.
-#[derive(Clone, Copy)]
+// A pair stands for m + p × error. Of two pairs the smaller has the smaller m; at equal m, the smaller p.
+#[derive(Clone, Copy, PartialEq, Eq)]
 pub struct Pair {
     pub m: i64,
     pub p: u64,
 }
 
-// How a pair stands to another.
-#[derive(Clone, Copy)]
-pub enum Comparison {
-    Below,
-    Equal,
-    Above,
+// Written out, as a derived order would cost a reduction two thirds more time.
+impl Ord for Pair {
+    ghost cmp = { compare_of };
+
+    ghost total = { Prim.search (comparing, rules) };
+
+    ghost matches_partial_cmp = { Prim.search (comparing, rules) };
+
+    ghost matches_eq = { Prim.search (comparing, rules) };
+
+    fn cmp(&self, other: &Pair) -> Ordering {
+        if self.m < other.m {
+            return Ordering::Less;
+        }
+        if other.m < self.m {
+            return Ordering::Greater;
+        }
+        if self.p < other.p {
+            return Ordering::Less;
+        }
+        if other.p < self.p {
+            return Ordering::Greater;
+        }
+        Ordering::Equal
+    }
 }
 
-impl Comparison {
-    pub(crate) fn is_below(self) -> bool
-        ensures { result ≡ is_below self }
-    {
-        match self {
-            Comparison::Below => true,
-            Comparison::Equal => false,
-            Comparison::Above => false,
-        }
-    }
+impl PartialOrd for Pair {
+    ghost partial_cmp = { as_partial_cmp compare_of };
 
-    pub fn is_equal(self) -> bool
-        ensures { result ≡ is_equal self }
-    {
-        match self {
-            Comparison::Below => false,
-            Comparison::Equal => true,
-            Comparison::Above => false,
-        }
-    }
+    ghost laws = { partial_order_from_own_ties (Prim.search (comparing, rules)) (Prim.search (comparing, rules)) };
 
-    pub fn is_at_most(self) -> bool
-        ensures { result ≡ is_at_most self }
-    {
-        match self {
-            Comparison::Below => true,
-            Comparison::Equal => true,
-            Comparison::Above => false,
-        }
+    fn partial_cmp(&self, other: &Pair) -> Option<Ordering> {
+        Some(self.cmp(other))
     }
 }
 
@@ -65,72 +67,44 @@ impl Pair {
     pub fn at_most(hi: u32) -> Pair
         ensures { result ≡ at_most hi }
     {
-        Pair { m: hi as i64, p: 1 }
+        Pair {
+            m: i64::from(hi),
+            p: 1,
+        }
     }
 
     // A lower limit lo, as a bound on 0 less the clock.
     pub(crate) fn at_least(lo: u32) -> Pair
         ensures { result ≡ at_least lo }
     {
-        let m = 0 - (lo as i64);
-        Pair { m, p: 1 }
+        Pair {
+            m: -i64::from(lo),
+            p: 1,
+        }
     }
 
     // Entry by entry.
+    #[tactic(auto, unfolding(crate::specs::Pairs::sum_of))]
     pub(crate) fn sum(self, o: Pair) -> Pair
         requires { Small self × Small o }
         ensures { result ≡ sum_of self o }
     {
-        let a = self.m;
-        let b = o.m;
-        let p = self.p;
-        let r = o.p;
-        Pair { m: a + b, p: p + r }
-    }
-
-    // How this pair stands to o: the smaller m is below, and at equal m the smaller p.
-    pub fn compare(self, o: Pair) -> Comparison
-        ensures { result ≡ compare_of self o }
-    {
-        let a = self.m;
-        let b = o.m;
-        let p = self.p;
-        let q = o.p;
-        if a < b {
-            return Comparison::Below;
+        Pair {
+            m: self.m + o.m,
+            p: self.p + o.p,
         }
-        if b < a {
-            return Comparison::Above;
-        }
-        if p < q {
-            return Comparison::Below;
-        }
-        if q < p {
-            return Comparison::Above;
-        }
-        Comparison::Equal
-    }
-
-    // Whether this pair is the smaller.
-    pub(crate) fn is_less(self, o: Pair) -> bool
-        ensures { result ≡ is_less self o }
-    {
-        self.compare(o).is_below()
     }
 
     // The threshold of a comparison in which this pair was chosen and o was not.
+    #[tactic(auto, unfolding(crate::specs::Pairs::threshold_of))]
     pub(crate) fn threshold(self, o: Pair) -> Fraction
         requires { Small self × Small o × (self.m ≤ℤ o.m) }
         ensures { result ≡ threshold_of self o }
     {
-        let a = self.m;
-        let b = o.m;
-        let p = self.p;
-        let r = o.p;
-        if r < p {
+        if o.p < self.p {
             Fraction {
-                n: (b - a) as u64,
-                d: p - r,
+                n: (o.m - self.m) as u64,
+                d: self.p - o.p,
             }
         } else {
             Fraction { n: 1, d: 0 }
@@ -142,7 +116,7 @@ impl Pair {
         requires { Small self × Small o }
         ensures { result ≡ smaller_of self o }
     {
-        if o.is_less(self) {
+        if o < self {
             Choice {
                 pair: o,
                 threshold: o.threshold(self),
@@ -162,6 +136,6 @@ impl Fraction {
         requires { Fits32 self × ChoiceReady chosen other }
         ensures { result ≡ lowered_by self (threshold_of chosen other) }
     {
-        after_lowering(self, chosen.threshold(other))
+        self.lowered(chosen.threshold(other))
     }
 }

@@ -4,39 +4,28 @@ ghost use Rattle.zones.specs.Ranges.{Ready, DiagonalReady};
 ghost use Rattle.zones.specs.Reductions.{reduce_of, seen_with};
 ghost use Rattle.zones.specs.Settled.{Lifted, Begun};
 
-use crate::fraction::{Fraction, after_lowering};
+use crate::fraction::{Fraction, lower};
 use crate::pair::Pair;
 use crate::zone::Work;
 
-// What a reduction leaves; of an empty zone, where work on it stopped. Below `safe`, which the safe fraction is lowered by, an empty
-// zone has no valuation; it is 1/0 of one that is not empty.
+// What a reduction leaves; of an empty zone, where work on it stopped. Such a zone has no valuation below `emptied`, which the safe
+// fraction is lowered by.
 #[derive(Clone, Copy)]
 pub struct Reduced {
     pub work: Work,
-    pub empty: bool,
-    pub safe: Fraction,
+    pub emptied: Option<Fraction>,
 }
 
-// What the pairs of a diagonal show: whether one has m below 0, and the lowest of the thresholds of such pairs against (0, 0).
-#[derive(Clone, Copy)]
-pub(crate) struct Diagonal {
-    pub empty: bool,
-    pub safe: Fraction,
-}
-
-impl Diagonal {
-    // The same with one pair more.
-    fn with(self, q: Pair) -> Diagonal
-        requires { DiagonalReady self q }
-        ensures { result ≡ seen_with q self }
-    {
-        let m = q.m;
-        if m < 0 {
-            let safe = after_lowering(self.safe, q.threshold(Pair { m: 0, p: 0 }));
-            return Diagonal { empty: true, safe };
-        }
-        self
+// What the pairs of a diagonal show, with one more: the lowest of the thresholds of those with m below 0 against (0, 0), if there are any.
+fn seen_with(seen: Option<Fraction>, q: Pair) -> Option<Fraction>
+    requires { DiagonalReady seen q }
+    ensures { result ≡ seen_with q seen }
+{
+    if q.m < 0 {
+        let before = seen.unwrap_or(Fraction { n: 1, d: 0 });
+        return Some(before.lowered(q.threshold(Pair { m: 0, p: 0 })));
     }
+    seen
 }
 
 impl Work {
@@ -55,43 +44,32 @@ impl Work {
         ensures { result ≡ reduce_of size self }
     {
         let mut work = self;
-        let mut seen = Diagonal {
-            empty: false,
-            safe: Fraction { n: 1, d: 0 },
-        };
-        let mut k = first;
-        while k < size && !seen.empty {
-            let mut i = 0;
-            while i < size {
+        let mut emptied = None;
+        for k in first..size {
+            for i in 0..size {
                 if i != k {
-                    let mut j = 0;
-                    while j < size {
+                    for j in 0..size {
                         let there = work.zone[i * 9 + j];
                         let choice = there.smaller(work.zone[i * 9 + k].sum(work.zone[k * 9 + j]));
                         let pair = choice.pair;
                         // Lowered in either branch: a common end would cost a tenth of the time.
-                        if pair.is_less(there) {
+                        if pair < there {
                             work.zone[i * 9 + j] = pair;
-                            work.fraction = after_lowering(work.fraction, choice.threshold);
+                            lower(&mut work.fraction, choice.threshold);
                         } else {
-                            work.fraction = after_lowering(work.fraction, choice.threshold);
+                            lower(&mut work.fraction, choice.threshold);
                         }
-                        j += 1;
                     }
                 }
-                i += 1;
             }
             for d in 0..size {
-                seen = seen.with(work.zone[d * 9 + d]);
+                emptied = seen_with(emptied, work.zone[d * 9 + d]);
             }
-            k += 1;
+            if emptied.is_some() {
+                break;
+            }
         }
-        let safe = seen.safe;
-        Reduced {
-            work,
-            empty: seen.empty,
-            safe,
-        }
+        Reduced { work, emptied }
     }
 
     // The same where column 0 of a settled zone was raised: no comparison changes anything else, and the zone is not empty.
@@ -99,30 +77,19 @@ impl Work {
         requires { Ready self size × Lifted size self }
         ensures { result ≡ reduce_of size self }
     {
-        let mut z = self.zone;
-        let mut f = self.fraction;
+        let mut work = self;
         let j = 0;
-        let mut k = 1;
-        while k < size {
-            let mut i = 1;
-            while i < size {
-                let there = z[i * 9 + j];
-                let choice = there.smaller(z[i * 9 + k].sum(z[k * 9 + j]));
-                let pair = choice.pair;
-                z[i * 9 + j] = pair;
-                f = after_lowering(f, choice.threshold);
-                i += 1;
+        for k in 1..size {
+            for i in 1..size {
+                let there = work.zone[i * 9 + j];
+                let choice = there.smaller(work.zone[i * 9 + k].sum(work.zone[k * 9 + j]));
+                work.zone[i * 9 + j] = choice.pair;
+                lower(&mut work.fraction, choice.threshold);
             }
-            k += 1;
         }
-        let work = Work {
-            zone: z,
-            fraction: f,
-        };
         Reduced {
             work,
-            empty: false,
-            safe: Fraction { n: 1, d: 0 },
+            emptied: None,
         }
     }
 }

@@ -1,9 +1,9 @@
 // A zone at work: the first one, reset, and a clock's limits met.
-ghost use Rattle.std.specs.Prelude.{◌≡◌, false, ◌≤◌};
-ghost use Rattle.zones.specs.Zones.{first_work, upper_met, lower_met, bounds_met, bounds_below, set_of, reset_of};
+ghost use Rattle.std.specs.Prelude.{◌≡◌, ◌≤◌};
+ghost use Rattle.zones.specs.Zones.{first_work, bounds_met, bounds_below, set_of, reset_of};
 ghost use Rattle.zones.specs.Ranges.{LimitsReady};
 
-use crate::fraction::{Fraction, after_lowering};
+use crate::fraction::{Fraction, lower};
 use crate::pair::Pair;
 
 // A square of pairs, nine to a row, and the running fraction.
@@ -57,54 +57,27 @@ pub struct Bounds {
 }
 
 impl Bounds {
-    // The limits lo and hi of the clock are met; hi is left out where it is absent.
-    pub fn meet(self, lo: u32, hi: u32, absent: bool) -> Bounds
-        requires { LimitsReady self lo hi absent }
-        ensures { result ≡ bounds_met lo hi absent self }
+    // The limits lo and hi of the clock are met; where there is no hi, lo alone.
+    pub fn meet(self, lo: u32, hi: Option<u32>) -> Bounds
+        requires { LimitsReady self lo hi }
+        ensures { result ≡ bounds_met lo hi self }
     {
-        if absent {
-            return self.meet_lower(lo);
+        let mut met = self;
+        if let Some(hi) = hi {
+            let choice = met.upper.smaller(Pair::at_most(hi));
+            met.upper = choice.pair;
+            lower(&mut met.fraction, choice.threshold);
         }
-        self.meet_upper(hi).meet_lower(lo)
+        let choice = met.lower.smaller(Pair::at_least(lo));
+        met.lower = choice.pair;
+        lower(&mut met.fraction, choice.threshold);
+        met
     }
 
     // Whether one of the two entries is below the other's.
     pub fn is_below(self, o: Bounds) -> bool
         ensures { result ≡ bounds_below self o }
     {
-        if self.upper.is_less(o.upper) {
-            return true;
-        }
-        self.lower.is_less(o.lower)
-    }
-
-    // The smaller of (x, 0) and (hi, 1).
-    fn meet_upper(self, hi: u32) -> Bounds
-        requires { LimitsReady self 0 hi false }
-        ensures { result ≡ upper_met hi self }
-    {
-        let choice = self.upper.smaller(Pair::at_most(hi));
-        let upper = choice.pair;
-        let lower = self.lower;
-        Bounds {
-            upper,
-            lower,
-            fraction: after_lowering(self.fraction, choice.threshold),
-        }
-    }
-
-    // The smaller of (0, x) and (−lo, 1).
-    fn meet_lower(self, lo: u32) -> Bounds
-        requires { LimitsReady self lo 0 false }
-        ensures { result ≡ lower_met lo self }
-    {
-        let choice = self.lower.smaller(Pair::at_least(lo));
-        let upper = self.upper;
-        let lower = choice.pair;
-        Bounds {
-            upper,
-            lower,
-            fraction: after_lowering(self.fraction, choice.threshold),
-        }
+        self.upper < o.upper || self.lower < o.lower
     }
 }

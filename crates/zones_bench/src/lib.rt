@@ -29,10 +29,8 @@ fn total(size: usize, times: u64) -> u64
 {
     let z = square();
     let mut sum: u64 = 0;
-    let mut t: u64 = 0;
-    while t < times {
+    for t in 0..times {
         sum = (sum + once(z, size, t)) % 1000003;
-        t += 1;
     }
     sum
 }
@@ -79,10 +77,8 @@ fn square() -> [Pair; 81]
 {
     let first = Work::first();
     let mut z = first.zone;
-    let mut at = 0;
-    while at < 81 {
+    for at in 0..81 {
         z[at] = pair_of(at);
-        at += 1;
     }
     z
 }

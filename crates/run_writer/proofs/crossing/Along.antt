@@ -1,5 +1,6 @@
 -- A kept zone on its way along an edge that it crosses: it stays in range, and the states that a step back gives are on the scale.
 -- Assumes nothing.
+use Rattle.zones.specs.Reductions.{is_empty}
 use Prim.Native.Nat.{ℕ, suc, ◌*◌, ◌<◌, ◌≤◌}
 use mathlib.Core.Path.{◌≡◌, refl, ap, ◌∙◌}
 use mathlib.Core.Bool.{false}
@@ -63,8 +64,8 @@ module _ (b : List ℕ) (a : Accepted b) (i : ℕ) (z : List Pair) (x : Crosses 
 
   -- ---- the zone that met the guard, and the edge, as they were fetched
   module _ {edge : Edge} (f : edge ≡ edge_of b i) {r : Reduced} (e : r ≡ guarded_by b i z) where
-    live : r.empty ≡ false
-    live = ap (λ (y : Reduced). y.empty) e ∙ x.live.guarded
+    live : is_empty r ≡ false
+    live = ap is_empty e ∙ x.live.guarded
 
     pub arrived_asks : (Accepted b × (edge.to < locations b)) × (Sized (10 * counts) (suc (clocks b)) r.work × Settled (suc (clocks b)) r.work)
     arrived_asks = (

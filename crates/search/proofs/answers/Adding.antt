@@ -1,5 +1,6 @@
 -- Where the automaton holds, the zones kept and those dropped are those that have entered and are not empty.
 -- Assumes nothing.
+use Rattle.zones.specs.Reductions.{is_empty}
 use Prim.Native.Nat.{ℕ, suc}
 use mathlib.Core.Path.{◌≡◌, refl, sym, ap, ◌∙◌}
 use mathlib.Core.Bool.{Bool, true, false, cond}
@@ -19,11 +20,11 @@ use Rattle.search.specs.Store.{capacity_of}
 use Rattle.search.proofs.answers.Answers.{by_refusal}
 
 -- ---- whether a successor is empty does not depend on the fractions
-live_result : (safe : Fraction) (r : Reduced) → one_if_live (result_of safe r) ≡ cond r.empty 0 1
+live_result : (safe : Fraction) (r : Reduced) → one_if_live (result_of safe r) ≡ cond (is_empty r) 0 1
 unfolding result_of
-live_result safe r = go r.empty refl
+live_result safe r = go (is_empty r) refl
   where
-    go : (t : Bool) → r.empty ≡ t → one_if_live (result_of safe r) ≡ cond r.empty 0 1
+    go : (t : Bool) → is_empty r ≡ t → one_if_live (result_of safe r) ≡ cond (is_empty r) 0 1
     go true e = rw (result_of, e) refl
     go false e = rw (result_of, e) refl
 

@@ -3,7 +3,7 @@
 use mathlib.Core.Path.{◌≡◌, refl}
 use Rattle.zones.specs.Containment.{count_to, larger, inside_to, every_to}
 use Rattle.zones.specs.Fractions.{lowered_by, euclid, gcd_of, lowest_terms}
-use Rattle.zones.specs.Pairs.{sum_of, compare_of, is_below, is_equal, is_at_most, is_less, threshold_of, smaller_of}
+use Rattle.zones.specs.Pairs.{sum_of, is_less, threshold_of, smaller_of}
 use Rattle.zones.specs.Zones.{pair_at, first_work, lower_at, meet_upper, meet_clock, meet_limits, raise_limits, home, reset_places, reset_of}
 use Rattle.zones.specs.Reductions.{relaxed, row_steps, round_steps, empty_in, empty_below, after_middle, reduce_steps}
 use Rattle.zones.specs.Successors.{and_then, meet_of, enter_of, follow_of}
@@ -23,7 +23,7 @@ r : {A B : Type 0} {x : A} {y : B} → (x ≡ x) × (y ≡ y)
 r = (refl, refl)
 
 pub all_right : AllRight examples
-unfolding count_to larger inside_to every_to lowered_by euclid gcd_of lowest_terms sum_of compare_of is_below is_equal is_at_most is_less threshold_of
+unfolding count_to larger inside_to every_to lowered_by euclid gcd_of lowest_terms sum_of is_less threshold_of
     smaller_of
     pair_at first_work lower_at meet_upper meet_clock meet_limits raise_limits home reset_places reset_of
     relaxed row_steps round_steps empty_in empty_below after_middle reduce_steps and_then meet_of enter_of follow_of

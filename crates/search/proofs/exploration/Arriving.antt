@@ -1,6 +1,7 @@
 -- What a taken zone comes to along an edge: empty after the guard, or reset, entered and judged. Either way the definition's successor is
 -- what is offered.
 -- Assumes nothing.
+use Rattle.zones.specs.Reductions.{is_empty, safe_of}
 use Prim.Native.Nat.{ℕ, suc, ◌*◌, ◌<◌}
 use mathlib.Core.Path.{◌≡◌, refl, sym, ap, ◌∙◌, subst}
 use mathlib.Core.Bool.{true, false}
@@ -37,18 +38,18 @@ module _ (b : List ℕ) (a : Accepted b) (i : ℕ) (hi : i < edges b) (w : Work)
   -- r is what the guard leaves
   module _ {r : Reduced} (e : r ≡ meet_of (clocks b) (guard_of b i) w) where
     -- what the safe fraction is then lowered by is in range
-    pub emptied_fits : Fits32 r.safe
+    pub emptied_fits : Fits32 (safe_of r)
     emptied_fits =
         met_safe (clocks b) a.complete.clocks≤ w refl counts (omega arith) (omega arith) (guard_of b i) (guard_scale b a i hi) taken_sized e
 
-    pub follows_none : r.empty ≡ true → (capacity : ℕ) (s : List ℤ) (turn : Turn) (o : Origin) → {t : Turn} →
-        t ≡ emptied_by turn r.work.fraction r.safe → Offers b capacity s turn (to b i) o (successor_of b i w) s t
+    pub follows_none : is_empty r ≡ true → (capacity : ℕ) (s : List ℤ) (turn : Turn) (o : Origin) → {t : Turn} →
+        t ≡ emptied_by turn r.work.fraction (safe_of r) → Offers b capacity s turn (to b i) o (successor_of b i w) s t
     follows_none f capacity s turn o {t} g =
         gives_of b capacity s turn s t refl
         (followed_none (clocks b) a.complete.clocks≤ w refl (guard_of b i) (resets_of b i) (invariant_of b (to b i)) e f)
         (λ p. gives_empty b capacity s turn (to b i) r p f g)
 
-    module _ (live : r.empty ≡ false) where
+    module _ (live : is_empty r ≡ false) where
       pub arrives : Sized (10 * counts) (suc (clocks b)) r.work × Settled (suc (clocks b)) r.work
       arrives = (
         met_sized (clocks b) a.complete.clocks≤ w refl counts (omega arith) (omega arith) (guard_of b i) (guard_scale b a i hi) taken_sized e live,

@@ -1,5 +1,9 @@
 -- A zone that has entered a location, judged on the store: what each branch of the code shows is what the definition's offer comes to.
 -- Assumes nothing.
+use Rattle.reachability.specs.Search.{Result}
+use Rattle.reachability.specs.Search.{zone}
+use Rattle.zones.specs.declared.pair.Pair.{Pair}
+use Rattle.zones.specs.Reductions.{is_empty, safe_of}
 use Prim.Native.Nat.{ℕ, zero, suc, ◌+◌, ◌-◌, ◌*◌, ◌<◌, ◌≤◌}
 use mathlib.Core.Path.{◌≡◌, refl, sym, ap, ◌∙◌, subst}
 use mathlib.Core.Bool.{Bool, true, false}
@@ -15,7 +19,9 @@ use Rattle.zones.specs.declared.fraction.Fraction.{Fraction}
 use Rattle.zones.specs.declared.reduction.Reduced.{Reduced}
 use Rattle.zones.specs.declared.zone.Work.{Work}
 use Rattle.zones.specs.Containment.{equal, inside_below, largest_count}
-use Rattle.zones.specs.Fractions.{lowered_by}
+use Rattle.zones.specs.Fractions.{no_limit, lowered_by}
+use Rattle.std.specs.Prelude.{Option, Some}
+use Rattle.std.specs.Option.{unwrap_or}
 use Rattle.zones.specs.Ranges.{AllBounded, Sized, Fits32, counts, last_counts}
 use Rattle.runs.specs.Limits.{scale}
 use Rattle.search.specs.declared.outcome.Outcome.TheVariants.{Reached}
@@ -358,11 +364,16 @@ module _ {b : List ℕ} {l : ℕ} {o : Origin} {w : Work} {capacity : ℕ} {turn
           }
 
 -- ---- the whole offer
+-- an empty zone's fraction, as the code has it
+pub lowers : (turn : Turn) (exact : Fraction) {safe : Fraction} {o : Option Fraction} → o ≡ Some safe →
+    emptied_by turn exact safe ≡ emptied_by turn exact (unwrap_or o no_limit)
+lowers turn exact e = ap (λ (o : Option Fraction). emptied_by turn exact (unwrap_or o no_limit)) (sym e)
+
 module _ (b : List ℕ) (capacity : ℕ) (s : List ℤ) (turn : Turn) (l : ℕ) {o : Origin} (r : Reduced) (p : Led o) where
   abbrev offers : ZoneState → ZoneState
   offers q = offer (system_of b) (zones_of b) capacity q (node_at l p.came p.path) (result_of turn.safe r)
 
-  pub gives_empty : r.empty ≡ true → {t : Turn} → t ≡ emptied_by turn r.work.fraction r.safe → Continues b capacity s turn offers s t
+  pub gives_empty : is_empty r ≡ true → {t : Turn} → t ≡ emptied_by turn r.work.fraction (safe_of r) → Continues b capacity s turn offers s t
   unfolding result_of offer outcome_of
   gives_empty e f = record {
     shows = λ s₀ q d. rw (e, f) (record {
@@ -377,7 +388,7 @@ module _ (b : List ℕ) (capacity : ℕ) (s : List ℤ) (turn : Turn) (l : ℕ) 
     });
   }
 
-  pub gives_target : r.empty ≡ false → l ≡ target b → Continues b capacity s turn offers s (reached_by turn r.work.fraction o)
+  pub gives_target : is_empty r ≡ false → l ≡ target b → Continues b capacity s turn offers s (reached_by turn r.work.fraction o)
   unfolding result_of offer outcome_of
   gives_target e g = record {
     shows =
@@ -396,10 +407,13 @@ module _ (b : List ℕ) (capacity : ℕ) (s : List ℤ) (turn : Turn) (l : ℕ) 
         }));
   }
 
-  pub gives_judged : r.empty ≡ false → {s' : List ℤ} {t : Turn} →
+  pub gives_judged : is_empty r ≡ false → {s' : List ℤ} {t : Turn} →
       ((p : Led o) → Continues b capacity s turn
       (λ q. judge (system_of b) (zones_of b) capacity q (node_at l p.came p.path r.work.zone)
       (fractions_of r.work.fraction turn.safe)) s' t) →
       Continues b capacity s turn offers s' t
   unfolding result_of offer
-  gives_judged e h = rw e (h p)
+  gives_judged e {s'} {t} h =
+      let live : zone r.work.zone (fractions_of r.work.fraction turn.safe) ≡ result_of turn.safe r = rw e refl in
+      subst (λ (x : Result (List Pair) Fractions). Continues b capacity s turn
+      (λ q. offer (system_of b) (zones_of b) capacity q (node_at l p.came p.path) x) s' t) live (h p)

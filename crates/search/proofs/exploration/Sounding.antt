@@ -1,5 +1,7 @@
 -- What has entered a location is in range, and so is every state of the search: no number of a step overflows.
 -- Assumes nothing.
+use Rattle.zones.specs.Reductions.{safe_of}
+use Rattle.zones.specs.Reductions.{is_empty}
 use Prim.Native.Nat.{ℕ, suc, ◌*◌, ◌<◌, ◌≤◌}
 use mathlib.Core.Path.{◌≡◌, refl, sym, ◌∙◌, subst}
 use mathlib.Core.Bool.{Bool, true, false}
@@ -45,13 +47,13 @@ record Fit (P n : ℕ) (w : Work) : Type 0 where
 
 record Left (P n : ℕ) (r : Reduced) : Type 0 where
   fraction : Fits32 r.work.fraction
-  safe : Fits32 r.safe
-  fit : r.empty ≡ false → Fit P n r.work
+  safe : Fits32 (safe_of r)
+  fit : is_empty r ≡ false → Fit P n r.work
 
 left_then : (P Q n : ℕ) (r : Reduced) (f : Work → Reduced) → Left P n r → (Fit P n r.work → Left Q n (f r.work)) → Left Q n (and_then r f)
-left_then P Q n r f l k = go r.empty refl
+left_then P Q n r f l k = go (is_empty r) refl
   where
-    go : (t : Bool) → r.empty ≡ t → Left Q n (and_then r f)
+    go : (t : Bool) → is_empty r ≡ t → Left Q n (and_then r f)
     go true e = rw (then_empty r f e) (record { fraction = l.fraction; safe = l.safe; fit = λ g. true_false (sym e ∙ g) })
     go false e = rw (then_live r f e) (k (l.fit e))
 
@@ -199,7 +201,7 @@ module _ (b : List ℕ) (a : Accepted b) where
           all_snoc q.kept (node_at l c p z) sound.nodes (kept-sound l hl z f.exact c p o.0 o.1 small));
       most = offer_room (system_of b) (zones_of b) capacity q (node_at l c p) made sound.most;
       exact = offer_fits (λ f. f.exact) (λ z y f. refl) (subst Fits32 (sym (result_exact safe r)) h.fraction);
-      safe = offer_fits (λ f. f.safe) (λ z y f. refl) (result_safe safe r Fits32 fits (lowered_narrow widest widest safe r.safe fits h.safe));
+      safe = offer_fits (λ f. f.safe) (λ z y f. refl) (result_safe safe r Fits32 fits (lowered_narrow widest widest safe (safe_of r) fits h.safe));
     }
 
   -- ---- the states that a search begins with

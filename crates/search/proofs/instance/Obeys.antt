@@ -1,5 +1,6 @@
 -- The zones of an accepted automaton obey the laws that the search rests on.
 -- Assumes nothing.
+use Rattle.zones.specs.Reductions.{safe_of}
 use Prim.Native.Nat.{ℕ, suc, ◌<◌, ◌≤◌}
 use mathlib.Core.Path.{◌≡◌, sym, ◌∙◌, subst}
 use mathlib.Core.Bool.{Bool, false}
@@ -55,7 +56,7 @@ module _ {c s e : ℕ} {S : (ℕ → ℕ) → (ℕ → ℕ) → Type 0} {w : Wor
   step_none : 0 < s → {g : Fractions} → result_of safe r ≡ empty g → Below s e g.safe → (v v' : ℕ → ℕ) → Has s e c w v → S v v' → ⊥
   step_none s> j p v v' h n =
       let k = was_empty safe r j in
-      let l = lowered_sound s e safe r.safe s> i.some (subst (Below s e) (sym k.lowered) p) in
+      let l = lowered_sound s e safe (safe_of r) s> i.some (subst (Below s e) (sym k.lowered) p) in
       true_false (sym k.none ∙ i.live l.1 v v' h n)
 
 -- what is below the exact fraction is below the safe one, after a step as before it
@@ -67,7 +68,7 @@ step_tight : {c : ℕ} {S : ℕ → ℕ → (ℕ → ℕ) → (ℕ → ℕ) → 
 step_tight {r = r} safe i h s e s> b =
     let q = subst (Below s e) (result_exact safe r) b in
     let o = h s e s> ((i s e s>).before q) in
-    result_safe safe r (Below s e) o (lowered_below s e safe r.safe o ((i s e s>).tighter q))
+    result_safe safe r (Below s e) o (lowered_below s e safe (safe_of r) o ((i s e s>).tighter q))
 
 module _ {c s e : ℕ} {S : (ℕ → ℕ) → (ℕ → ℕ) → Type 0} {w : Work} {r : Reduced} (safe : Fraction) (x : Exact s e c S w r)
     {z : List Pair} {g : Fractions} (j : result_of safe r ≡ zone z g) (p : Below s e g.exact) where
@@ -180,7 +181,7 @@ module _ (b : List ℕ) (a : Accepted b) where
   }
 
   safe_before : (s e : ℕ) → 0 < s → (safe : Fraction) (r : Reduced) → Below s e (frac_of (result_of safe r)).safe → Below s e safe
-  safe_before s e s> safe r = result_safe safe r (λ f. Below s e f → Below s e safe) (λ p. p) (lowered_before s e safe r.safe s>)
+  safe_before s e s> safe r = result_safe safe r (λ f. Below s e f → Below s e safe) (λ p. p) (lowered_before s e safe (safe_of r) s>)
 
   safe_falls : (s e : ℕ) → Falls (zones_of b) (λ f. (1 ≤ s) × Below s e f.safe)
   unfolding entering following lowered_inside

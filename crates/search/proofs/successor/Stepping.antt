@@ -1,6 +1,8 @@
 -- A step of a zone, as the code takes it: a turn of the loop over the clocks, on the two entries that it reads and sets; then what each operation
 -- gives, and what each asks.
 -- Assumes nothing.
+use Rattle.zones.specs.Reductions.{is_empty}
+use Rattle.zones.specs.Reductions.{safe_of}
 use Prim.Native.Nat.{ℕ, zero, suc, ◌+◌, ◌-◌, ◌*◌, ◌<◌, ◌≤◌}
 use mathlib.Core.Path.{◌≡◌, refl, sym, ap, ◌∙◌}
 use mathlib.Core.Bool.{Bool, true, false}
@@ -21,7 +23,8 @@ use Rattle.zones.specs.Reductions.{reduce_steps, reduce_of}
 use Rattle.zones.specs.Moves.{Shaped}
 use Rattle.zones.specs.Settled.{Settled, Lifted, Begun}
 use Rattle.zones.specs.Successors.{and_then, meet_of, enter_of, follow_of}
-use Rattle.zones.specs.Zones.{pair_at, bounds_met, bounds_below, meet_limits, raise_limits, set_of, reset_of}
+use Rattle.std.specs.Prelude.{Option}
+use Rattle.zones.specs.Zones.{pair_at, bounds_met, upper_of, bounds_below, meet_limits, raise_limits, set_of, reset_of}
 use Rattle.zones.proofs.ranges.Bounding.{safe_fits, sized_more, sized_ready, sized_limits, sized_meet, sized_reset, sized_raise, sized_reduce}
 use Rattle.zones.proofs.places.Limits.{met_unlowered, limits_more}
 use Rattle.zones.proofs.sets.Meeting.{meet_shaped}
@@ -49,33 +52,31 @@ module _ (L : Limits) (n : ℕ) (w u : Work) (n≤ : n ≤ 8) (o : OnScale scale
   sized : Sized step_counts (suc n) u
   sized = rw e (sized_meet step_counts (suc n) (omega arith) (omega arith) (omega arith) w r n (omega arith) L o (x - 1) (omega arith))
 
-  pub turn_ready : {lo hi : ℕ} {absent : Bool} → lo ≡ L.lo x → hi ≡ L.hi x → absent ≡ L.absent x →
-      LimitsReady (entries u.zone x u.fraction) lo hi absent
-  turn_ready f g h =
-      rw (f, g, h, ← entries_at u.zone x u.fraction)
+  pub turn_ready : {lo : ℕ} {hi : Option ℕ} → lo ≡ L.lo x → hi ≡ upper_of L x → LimitsReady (entries u.zone x u.fraction) lo hi
+  turn_ready f g =
+      rw (f, g, ← entries_at u.zone x u.fraction)
       (sized_limits step_counts (suc n) (omega arith) (omega arith) (omega arith) u sized n (omega arith) L o x px (omega arith))
 
-  pub turn_met : {lo hi : ℕ} {absent : Bool} {b : Bounds} → lo ≡ L.lo x → hi ≡ L.hi x → absent ≡ L.absent x →
-      b ≡ bounds_met lo hi absent (entries u.zone x u.fraction) →
+  pub turn_met : {lo : ℕ} {hi : Option ℕ} {b : Bounds} → lo ≡ L.lo x → hi ≡ upper_of L x → b ≡ bounds_met lo hi (entries u.zone x u.fraction) →
       record { zone = set (set u.zone (x * 9) b.upper) x b.lower; fraction = b.fraction } ≡ meet_limits L (x + 1 - 1) w
-  turn_met f g h k =
+  turn_met f g k =
       limits_more L x w u px (omega arith) sized.ranged.size e
-      (k ∙ (λ i. bounds_met (f i) (g i) (h i) (sym (entries_at u.zone x u.fraction) i)))
+      (k ∙ (λ i. bounds_met (f i) (g i) (sym (entries_at u.zone x u.fraction) i)))
 
 -- a clock's limits that lower neither entry leave the square as it is
-pub turn_same : (z : List Pair) (x : ℕ) (f : Fraction) (lo hi : ℕ) (absent : Bool) {b : Bounds} → b ≡ bounds_met lo hi absent (entries z x f) →
+pub turn_same : (z : List Pair) (x : ℕ) (f : Fraction) (lo : ℕ) (hi : Option ℕ) {b : Bounds} → b ≡ bounds_met lo hi (entries z x f) →
     bounds_below b (entries z x f) ≡ false →
     set (set z (x * 9) b.upper) x b.lower ≡ z
-turn_same z x f lo hi absent e h =
-    let m = met_unlowered lo hi absent (entries z x f) (rw e at h) in
+turn_same z x f lo hi e h =
+    let m = met_unlowered lo hi (entries z x f) (rw e at h) in
     rw (e, m.0, m.1, set-get_or z (x * 9) zero_pair) (set-get_or z x zero_pair)
 
 -- ---- what comes after r₀, empty or not
 module _ {r r₀ : Reduced} (e : r ≡ r₀) (f : Work → Reduced) where
-  then_none : r.empty ≡ true → r ≡ and_then r₀ f
+  then_none : is_empty r ≡ true → r ≡ and_then r₀ f
   then_none h = e ∙ sym (then_empty r₀ f (rw e at h))
 
-  then_some : r.empty ≡ false → f r.work ≡ and_then r₀ f
+  then_some : is_empty r ≡ false → f r.work ≡ and_then r₀ f
   then_some h = rw e (sym (then_live r₀ f (rw e at h)))
 
 -- ---- the operations of a step, as the code makes them; k is the number of indices
@@ -84,20 +85,20 @@ module _ (c : ℕ) (c≤ : c ≤ 8) (w : Work) {k : ℕ} (k≡ : k ≡ suc c) wh
   unfolding meet_of
   met_is L e f = f ∙ (λ i. reduce_of (k≡ i) (e i))
 
-  pub entered_none : (I : Limits) {r : Reduced} → r ≡ meet_of c I w → r.empty ≡ true → r ≡ enter_of c I w
+  pub entered_none : (I : Limits) {r : Reduced} → r ≡ meet_of c I w → is_empty r ≡ true → r ≡ enter_of c I w
   unfolding enter_of
   entered_none I e f = then_none e (λ v. reduce_of (suc c) (raise_limits I c v)) f
 
-  pub entered : (I : Limits) {r v : Reduced} {u : Work} → r ≡ meet_of c I w → r.empty ≡ false → u ≡ raise_limits I c r.work → v ≡ reduce_of k u →
+  pub entered : (I : Limits) {r v : Reduced} {u : Work} → r ≡ meet_of c I w → is_empty r ≡ false → u ≡ raise_limits I c r.work → v ≡ reduce_of k u →
       v ≡ enter_of c I w
   unfolding enter_of
   entered I e f g h = h ∙ (λ i. reduce_of (k≡ i) (g i)) ∙ then_some e (λ v. reduce_of (suc c) (raise_limits I c v)) f
 
-  pub followed_none : (G : Limits) (R : ℕ → Bool) (I : Limits) {r : Reduced} → r ≡ meet_of c G w → r.empty ≡ true → r ≡ follow_of c G R I w
+  pub followed_none : (G : Limits) (R : ℕ → Bool) (I : Limits) {r : Reduced} → r ≡ meet_of c G w → is_empty r ≡ true → r ≡ follow_of c G R I w
   unfolding follow_of
   followed_none G R I e f = then_none e (λ v. enter_of c I (reset_of (suc c) R v)) f
 
-  pub followed : (G : Limits) (R : ℕ → Bool) (I : Limits) {r : Reduced} → r ≡ meet_of c G w → r.empty ≡ false →
+  pub followed : (G : Limits) (R : ℕ → Bool) (I : Limits) {r : Reduced} → r ≡ meet_of c G w → is_empty r ≡ false →
       enter_of c I (reset_of (suc c) R r.work) ≡ follow_of c G R I w
   unfolding follow_of
   followed G R I e f = then_some e (λ v. enter_of c I (reset_of (suc c) R v)) f
@@ -123,7 +124,7 @@ module _ (c : ℕ) (c≤ : c ≤ 8) (w : Work) {k : ℕ} (k≡ : k ≡ suc c) wh
 
   -- what lowers the safe fraction is in range, too
   pub met_safe : (P : ℕ) → 0 < P → P ≤ 10 * counts → (L : Limits) → OnScale scale c L → Sized P (suc c) w → {m : Reduced} → m ≡ meet_of c L w →
-      Fits32 m.safe
+      Fits32 (safe_of m)
   unfolding meet_of
   met_safe P P> P≤ L o r e =
       rw e (safe_fits P (suc c) P> (omega arith) (omega arith) (meet_limits L c w)
@@ -131,7 +132,7 @@ module _ (c : ℕ) (c≤ : c ≤ 8) (w : Work) {k : ℕ} (k≡ : k ≡ suc c) wh
 
   -- after the guard or the invariant, error counts are ten times larger
   module _ (P : ℕ) (P> : 0 < P) (P≤ : P ≤ 10 * counts) (L : Limits) (o : OnScale scale c L)
-      (r : Sized P (suc c) w) {m : Reduced} (e : m ≡ meet_of c L w) (live : m.empty ≡ false) where
+      (r : Sized P (suc c) w) {m : Reduced} (e : m ≡ meet_of c L w) (live : is_empty m ≡ false) where
     pub met_sized : Sized (10 * P) (suc c) m.work
     unfolding meet_of
     met_sized =

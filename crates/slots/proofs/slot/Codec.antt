@@ -19,6 +19,13 @@ use Rattle.zones.specs.Containment.{place_of, compare_at, every_to, within, equa
 use Rattle.zones.specs.Integers.{up}
 use Rattle.zones.proofs.pairs.Integers.{le_make}
 use Rattle.zones.specs.Fractions.{lowered_by}
+use Rattle.std.specs.Ordering.{MatchOrdering, ordering_then, int_cmp, nat_cmp}
+use Rattle.std.proofs.lemmas.Cmp.{ranked}
+use Rattle.zones.proofs.pairs.Integers.{int}
+use Rattle.std.specs.declared.cmp.Ordering.{Ordering}
+use Rattle.std.specs.declared.cmp.Ordering.TheVariants.{Less, Equal, Greater}
+use lib.Signed.{◌<ℤ◌}
+use Rattle.std.specs.Cmp.{int_cmp_is}
 use Rattle.zones.specs.Pairs.{zero_pair, compare_of, is_at_most, is_equal, threshold_of}
 use Rattle.zones.specs.Ranges.{AllBounded, Bounded}
 use Rattle.zones.proofs.places.Inside.{bounded_place}
@@ -264,6 +271,14 @@ module _ (n : ℕ) (hd : List ℤ) (hd≡ : length hd ≡ fields) (z : List Pair
       ext_get_or zero_pair (square_to n (n * 9) slot) z (long ∙ sym size) (λ i h. back_at i (omega arith) (dec_lt i (n * 9)) (dec_lt (i % 9) n))
 
 -- ---- two slots compared are their zones compared
+same_cmp : (x y : ℕ) → int_cmp (pos x) (pos y) ≡ nat_cmp x y
+same_cmp x y = sym (int_cmp_is (pos x) (pos y) _ (go (nat_cmp x y) (ranked x y _ refl)))
+  where
+    go : (o : Ordering) → MatchOrdering o (x < y) (x ≡ y) (y < x) → MatchOrdering o (pos x <ℤ pos y) (pos x ≡ pos y) (pos y <ℤ pos x)
+    go Less h = omega (arith, int)
+    go Equal h = ap pos h
+    go Greater h = omega (arith, int)
+
 module _ (n : ℕ) (hd : List ℤ) (hd≡ : length hd ≡ fields) (z : List Pair) (rest : List ℤ) (hd' : List ℤ) (hd'≡ : length hd' ≡ fields)
     (y : List Pair) (rest' : List ℤ) where
   abbrev new : List ℤ
@@ -274,9 +289,10 @@ module _ (n : ℕ) (hd : List ℤ) (hd≡ : length hd ≡ fields) (z : List Pair
 
   -- one comparison: that of the numbers is that of the pairs
   pub compare_slots : (k : ℕ) → k < n * 9 → k % 9 < n → compare_numbers new old (counted n k) ≡ compare_at z y k
-  unfolding compare_of compare_numbers
+  unfolding compare_numbers
   compare_slots k h c =
       rw (slot_m n hd hd≡ z rest k h c, slot_m n hd' hd'≡ y rest' k h c, slot_p n hd hd≡ z rest k h c, slot_p n hd' hd'≡ y rest' k h c)
+      (ap (ordering_then _) (same_cmp (place_of z k).p (place_of y k).p))
 
   every_slots : (there here : ℕ → Bool) → ((k : ℕ) → k < n * 9 → k % 9 < n → there (counted n k) ≡ here k) → n ≤ 9 →
       every_pair (n * n) there ≡ every_to n (n * 9) here

@@ -20,8 +20,9 @@ use native.Mathlib.Nat.{zero-add, mul-le-mul}
 use native.Mathlib.Numerals.{add-one}
 use native.Mathlib.Omega.{arith}
 use Rattle.zones.specs.declared.fraction.Fraction.{Fraction}
-use Rattle.zones.specs.declared.pair.Comparison.{Comparison}
-use Rattle.zones.specs.declared.pair.Comparison.TheVariants.{Below, Equal, Above}
+use Rattle.std.specs.declared.cmp.Ordering.TheVariants.{Less, Equal, Greater}
+use Rattle.zones.specs.contracts.pair.PairOrd.TheImpl.Laws.{matches_eq-law}
+use Rattle.zones.specs.contracts.pair.PairPartialEq.TheImpl as pair_eq
 use Rattle.zones.specs.declared.pair.Pair.{Pair}
 use Rattle.zones.proofs.pairs.Integers.{int, le_read, le_make, lt_read, eq_make, lt_z_true, lt_z_false, le_lt_z}
 use Rattle.zones.specs.Containment.{place_of, larger}
@@ -73,22 +74,22 @@ module _ (new old : List ℤ) (t : ℕ) where
   new_p = get_or new (p_at t) (pos 0)
 
   module _ (ho : SFits w32 old_m) (hn : SFits w32 new_m) where
-    pub tells_higher : lt_z (to_z w32 (of_z w32 old_m)) (to_z w32 (of_z w32 new_m)) ≡ true → Above ≡ compare_numbers new old t
+    pub tells_higher : lt_z (to_z w32 (of_z w32 old_m)) (to_z w32 (of_z w32 new_m)) ≡ true → Greater ≡ compare_numbers new old t
     unfolding compare_numbers
     tells_higher e = rw (not_below new_m old_m (tested ho hn true e), tested ho hn true e)
 
     pub tells_lower : lt_z (to_z w32 (of_z w32 old_m)) (to_z w32 (of_z w32 new_m)) ≡ false → (of_z w32 old_m ≡ of_z w32 new_m → ⊥) →
-        Below ≡ compare_numbers new old t
+        Less ≡ compare_numbers new old t
     unfolding compare_numbers
     tells_lower e d = rw (below new_m old_m (tested ho hn false e) d)
 
     module _ (m : of_z w32 old_m ≡ of_z w32 new_m) (po : SFits w32 old_p) (pn : SFits w32 new_p) where
-      pub tells_more : lt_z (to_z w32 (of_z w32 old_p)) (to_z w32 (of_z w32 new_p)) ≡ true → Above ≡ compare_numbers new old t
+      pub tells_more : lt_z (to_z w32 (of_z w32 old_p)) (to_z w32 (of_z w32 new_p)) ≡ true → Greater ≡ compare_numbers new old t
       unfolding compare_numbers
       tells_more e = rw (same_bits ho hn m, irreflexive new_m, not_below new_p old_p (tested po pn true e), tested po pn true e)
 
       pub tells_fewer : lt_z (to_z w32 (of_z w32 old_p)) (to_z w32 (of_z w32 new_p)) ≡ false → (of_z w32 old_p ≡ of_z w32 new_p → ⊥) →
-          Below ≡ compare_numbers new old t
+          Less ≡ compare_numbers new old t
       unfolding compare_numbers
       tells_fewer e d = rw (same_bits ho hn m, irreflexive new_m, below new_p old_p (tested po pn false e) d)
 
@@ -138,7 +139,7 @@ module _ (passes : ℕ → Bool) where
 -- ---- `inside_of`: where the test holds, the new pair's m is not above the old one's
 module _ (new old : List ℤ) (t : ℕ) where
   not_above : (pairs : ℕ) → t < pairs → within_slots new old pairs ≡ true → new_m new old t ≤ℤ old_m new old t
-  unfolding compare_numbers is_at_most
+  unfolding compare_numbers
   not_above pairs h w = go (lt_z (old_m new old t) (new_m new old t)) refl
     where
       go : (b : Bool) → lt_z (old_m new old t) (new_m new old t) ≡ b → new_m new old t ≤ℤ old_m new old t
@@ -150,8 +151,8 @@ module _ (new old : List ℤ) (t : ℕ) where
   -- a turn, x and y being the pairs that it read
   module _ {x y : Pair} (ex : x ≡ slot_pair new t) (ey : y ≡ slot_pair old t) where
     -- whether the two are equal is as the comparison says
-    pub turn_equal : {c : Comparison} {b : Bool} → c ≡ compare_of x y → b ≡ is_equal c → is_equal (compare_of (slot_pair new t) (slot_pair old t)) ≡ b
-    turn_equal e f = sym (f ∙ ap is_equal (e ∙ (λ i. compare_of (ex i) (ey i))))
+    pub turn_equal : is_equal (compare_of (slot_pair new t) (slot_pair old t)) ≡ (pair_eq.ghosts).eq x y
+    turn_equal = sym (matches_eq-law x y ∙ (λ i. is_equal (compare_of (ex i) (ey i))))
 
     pub turn_lowers : {f : Fraction} → f ≡ inside_slots new old t → lowered_by f (threshold_of x y) ≡ inside_slots new old (t + 1)
     unfolding inside_slots

@@ -1,5 +1,6 @@
 -- The running fraction alone: what each comparison does to it, every operation does, whatever the square.
 -- Assumes nothing.
+use Rattle.zones.specs.Reductions.{is_empty}
 use Prim.Native.Nat.{ℕ, zero, suc, ◌<◌}
 use mathlib.Core.Path.{◌≡◌, refl, sym, subst}
 use mathlib.Core.Bool.{Bool, true, false}
@@ -39,9 +40,9 @@ module _ (R : Fraction → Fraction → Type 0) (same : (f : Fraction) → R f f
   round n k (suc i) w = trans w.fraction (round_steps n k i w).fraction _ (round n k i w) (row k i n (round_steps n k i w))
 
   middle : (n k : ℕ) (r : Reduced) → R r.work.fraction (after_middle n k r).work.fraction
-  middle n k r = go r.empty refl
+  middle n k r = go (is_empty r) refl
     where
-      go : (t : Bool) → r.empty ≡ t → R r.work.fraction (after_middle n k r).work.fraction
+      go : (t : Bool) → is_empty r ≡ t → R r.work.fraction (after_middle n k r).work.fraction
       go true e = subst (λ (x : Reduced). R r.work.fraction x.work.fraction) (sym (after_empty n k r e)) (same r.work.fraction)
       go false e = subst (λ (x : Reduced). R r.work.fraction x.work.fraction) (sym (after_live n k r e)) (round n k n r.work)
 
@@ -70,9 +71,9 @@ module _ (R : Fraction → Fraction → Type 0) (same : (f : Fraction) → R f f
 
   next : (w : Work) (r : Reduced) (f : Work → Reduced) → R w.fraction r.work.fraction → R r.work.fraction (f r.work).work.fraction →
       R w.fraction (and_then r f).work.fraction
-  next w r f a b = go r.empty refl
+  next w r f a b = go (is_empty r) refl
     where
-      go : (t : Bool) → r.empty ≡ t → R w.fraction (and_then r f).work.fraction
+      go : (t : Bool) → is_empty r ≡ t → R w.fraction (and_then r f).work.fraction
       go true e = subst (λ (x : Reduced). R w.fraction x.work.fraction) (sym (then_empty r f e)) a
       go false e = subst (λ (x : Reduced). R w.fraction x.work.fraction) (sym (then_live r f e)) (trans _ _ _ a b)
 

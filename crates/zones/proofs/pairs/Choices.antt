@@ -6,15 +6,17 @@ use mathlib.Core.Bool.{Bool, true, false, cond}
 use borrow.Author.Tests.{lt-ltb, le-ltb, ltb-true, ltb-false}
 use lib.Dec.{ltb}
 use lib.IntN.{ℤ, ◌+ℤ◌, ◌-ℤ◌, nat_abs}
-use lib.Signed.{◌≤ℤ◌, ◌<ℤ◌, lt_z}
+use lib.Signed.{◌≤ℤ◌, ◌<ℤ◌}
 use native.Mathlib.Omega.{arith}
 use Rattle.runs.proofs.Contradictions.{true_false}
 use Rattle.zones.specs.declared.fraction.Fraction.{Fraction}
 use Rattle.zones.specs.declared.pair.Pair.{Pair}
 use Rattle.zones.specs.declared.pair.Choice.{Choice}
-use Rattle.zones.specs.declared.pair.Comparison.{Comparison}
-use Rattle.zones.specs.declared.pair.Comparison.TheVariants.{Below, Equal, Above}
-use Rattle.zones.proofs.pairs.Integers.{int, lt_z_true, lt_z_false}
+use Rattle.std.specs.declared.cmp.Ordering.{Ordering}
+use Rattle.std.specs.declared.cmp.Ordering.TheVariants.{Less, Equal, Greater}
+use Rattle.std.specs.Ordering.{MatchOrdering, ordering_then, int_cmp, nat_cmp}
+use Rattle.std.proofs.lemmas.Cmp.{ranked, int_ranked}
+use Rattle.zones.proofs.pairs.Integers.{int}
 use Rattle.zones.specs.Fractions.{no_limit, lowered_by}
 use Rattle.zones.specs.Pairs.{sum_of, is_below, is_equal, is_at_most, compare_of, is_less, threshold_of, smaller_of}
 
@@ -25,55 +27,26 @@ pub sum_is : (a b : Pair) (z : ℤ) → z ≡ a.m +ℤ b.m → record { m = z; p
 unfolding sum_of
 sum_is a b z e = λ i. record { m = e i; p = a.p + b.p }
 
--- ---- how two pairs stand to each other
-pub compare_lower : (a b : Pair) → lt_z a.m b.m ≡ true → Below ≡ compare_of a b
-unfolding compare_of
-compare_lower a b e = rw e
-
-pub compare_higher : (a b : Pair) → lt_z a.m b.m ≡ false → lt_z b.m a.m ≡ true → Above ≡ compare_of a b
-unfolding compare_of
-compare_higher a b e f = rw (e, f)
-
-module _ (a b : Pair) (e : lt_z a.m b.m ≡ false) (f : lt_z b.m a.m ≡ false) where
-  pub compare_fewer : a.p < b.p → Below ≡ compare_of a b
-  unfolding compare_of
-  compare_fewer h = rw (e, f, lt-ltb a.p b.p h)
-
-  pub compare_more : b.p < a.p → Above ≡ compare_of a b
-  unfolding compare_of
-  compare_more h = rw (e, f, le-ltb a.p b.p (omega arith), lt-ltb b.p a.p h)
-
-  pub compare_same : a.p ≡ b.p → Equal ≡ compare_of a b
-  unfolding compare_of
-  compare_same h = rw (e, f, le-ltb a.p b.p (omega arith), le-ltb b.p a.p (omega arith))
-
--- by its cases: m decides, or p where the m are the same
-pub compare_cases : (a b : Pair) (P : Comparison → Type 0) → (a.m <ℤ b.m → P Below) → (b.m <ℤ a.m → P Above) →
-    (a.m ≡ b.m → a.p < b.p → P Below) → (a.m ≡ b.m → b.p < a.p → P Above) → (a.m ≡ b.m → a.p ≡ b.p → P Equal) → P (compare_of a b)
-unfolding compare_of
-compare_cases a b P lower higher fewer more same =
-    go (lt_z a.m b.m) (lt_z b.m a.m) refl refl (ltb a.p b.p) (ltb b.p a.p) refl refl
+-- ---- how two pairs stand to each other, by its cases: m decides, or p where the m are the same
+pub compare_cases : (a b : Pair) (P : Ordering → Type 0) → (a.m <ℤ b.m → P Less) → (b.m <ℤ a.m → P Greater) →
+    (a.m ≡ b.m → a.p < b.p → P Less) → (a.m ≡ b.m → b.p < a.p → P Greater) → (a.m ≡ b.m → a.p ≡ b.p → P Equal) → P (compare_of a b)
+compare_cases a b P lower higher fewer more same = go (int_cmp a.m b.m) (nat_cmp a.p b.p) (int_ranked a.m b.m _ refl) (ranked a.p b.p _ refl)
   where
-    there : lt_z a.m b.m ≡ false → lt_z b.m a.m ≡ false → a.m ≡ b.m
-    there e f = let x = lt_z_false a.m b.m e in let y = lt_z_false b.m a.m f in omega (arith, int)
-
-    go : (s t : Bool) → lt_z a.m b.m ≡ s → lt_z b.m a.m ≡ t → (u v : Bool) → ltb a.p b.p ≡ u → ltb b.p a.p ≡ v →
-        P (cond s Below (cond t Above (cond u Below (cond v Above Equal))))
-    go true t e f u v x y = lower (lt_z_true a.m b.m e)
-    go false true e f u v x y = higher (lt_z_true b.m a.m f)
-    go false false e f true v x y = fewer (there e f) (ltb-true a.p b.p x)
-    go false false e f false true x y = more (there e f) (ltb-true b.p a.p y)
-    go false false e f false false x y = same (there e f) (omega (arith, ltb-false a.p b.p x, ltb-false b.p a.p y))
+    go : (r s : Ordering) → MatchOrdering r (a.m <ℤ b.m) (a.m ≡ b.m) (b.m <ℤ a.m) → MatchOrdering s (a.p < b.p) (a.p ≡ b.p) (b.p < a.p) →
+        P (ordering_then r s)
+    go Less s h k = lower h
+    go Greater s h k = higher h
+    go Equal Less h k = fewer h k
+    go Equal Equal h k = same h k
+    go Equal Greater h k = more h k
 
 -- equal are only a pair and itself
 pub equal_shows : (a b : Pair) → is_equal (compare_of a b) ≡ true → a ≡ b
-unfolding is_equal
 equal_shows a b =
     compare_cases a b (λ c. is_equal c ≡ true → a ≡ b) (λ h e. true_false (sym e)) (λ h e. true_false (sym e)) (λ h k e. true_false (sym e))
     (λ h k e. true_false (sym e)) (λ h k e i. record { m = h i; p = k i })
 
 pub equal_itself : (a : Pair) → is_equal (compare_of a a) ≡ true
-unfolding is_equal
 equal_itself a =
     compare_cases a a (λ c. is_equal c ≡ true) (λ h. absurd (omega (arith, int))) (λ h. absurd (omega (arith, int))) (λ e h. absurd (omega arith))
     (λ e h. absurd (omega arith)) (λ e h. refl)
@@ -81,13 +54,12 @@ equal_itself a =
 -- ---- the smaller of two pairs, by its cases
 pub less_cases : (a b : Pair) (P : Bool → Type 0) → (a.m <ℤ b.m → P true) → (b.m <ℤ a.m → P false) → (a.m ≡ b.m → a.p < b.p → P true) →
     (a.m ≡ b.m → b.p ≤ a.p → P false) → P (is_less a b)
-unfolding is_less is_below
+unfolding is_less
 less_cases a b P lower higher fewer rest =
     compare_cases a b (λ c. P (is_below c)) lower higher fewer (λ e h. rest e (omega arith)) (λ e h. rest e (omega arith))
 
 -- a pair is the smaller or equal where the other is not the smaller
 pub at_most_shows : (a b : Pair) → is_at_most (compare_of a b) ≡ true → is_less b a ≡ false
-unfolding is_at_most
 at_most_shows a b =
     compare_cases a b (λ c. is_at_most c ≡ true → is_less b a ≡ false)
     (λ h e. less_cases b a (λ t. t ≡ false) (λ k. absurd (omega (arith, int))) (λ k. refl) (λ d k. absurd (omega (arith, int))) (λ d k. refl))

@@ -4,6 +4,7 @@ use Prim.Native.Nat.{ℕ, zero, suc, ◌+◌, ◌-◌, ◌*◌, ◌<◌}
 use mathlib.Core.Path.{◌≡◌, refl, sym, ap, ◌∙◌}
 use mathlib.Core.Bool.{Bool, true, false, cond}
 use mathlib.Core.List.{List}
+use Rattle.std.specs.Prelude.{Option, None, Some}
 use lib.ListN.{length, get_or, set}
 use lib.Seq.{set-get_or}
 use native.Mathlib.Omega.{arith}
@@ -19,7 +20,7 @@ use Rattle.runs.proofs.Contradictions.{true_false}
 use Rattle.zones.proofs.pairs.Choices.{smaller_same}
 use Rattle.zones.proofs.places.Places.{lower_off}
 use Rattle.runs.specs.Limits.{Limits}
-use Rattle.zones.specs.Zones.{pair_at, entry, lower_at, meet_limits, raise_limits, meet_upper, meet_clock, upper_met, lower_met, bounds_met}
+use Rattle.zones.specs.Zones.{pair_at, entry, lower_at, meet_limits, raise_limits, meet_upper, meet_clock, upper_met, upper_met_if, lower_met, bounds_met, upper_of}
 use Rattle.zones.specs.Zones.{bounds_below}
 
 -- ---- as the code makes them
@@ -41,14 +42,6 @@ lower_met_lem lo b e g h =
     let h' = h ∙ ap (λ (c : Choice). lowered_by b.fraction c.threshold) e' in
     λ i. record { upper = b.upper; lower = (e' i).pair; fraction = h' i }
 
-pub met_absent : (lo hi : ℕ) (absent : Bool) (b : Bounds) → absent ≡ true → lower_met lo b ≡ bounds_met lo hi absent b
-unfolding bounds_met
-met_absent lo hi absent b e = rw e
-
-pub met_present : (lo hi : ℕ) (absent : Bool) (b : Bounds) → absent ≡ false → lower_met lo (upper_met hi b) ≡ bounds_met lo hi absent b
-unfolding bounds_met
-met_present lo hi absent b e = rw e
-
 -- ---- limits that lower neither entry leave both as they are
 pub below_yes : (a b : Bounds) → is_less a.upper b.upper ≡ true → true ≡ bounds_below a b
 unfolding bounds_below
@@ -67,12 +60,12 @@ not_below a b h = go (is_less a.upper b.upper) refl h
     go true e g = true_false g
     go false e g = (e, g)
 
-pub met_unlowered : (lo hi : ℕ) (absent : Bool) (b : Bounds) → bounds_below (bounds_met lo hi absent b) b ≡ false →
-    ((bounds_met lo hi absent b).upper ≡ b.upper) × ((bounds_met lo hi absent b).lower ≡ b.lower)
-unfolding bounds_met lower_met upper_met
-met_unlowered lo hi true b h = (refl, smaller_same b.lower (at_least lo) (not_below (bounds_met lo hi true b) b h).1)
-met_unlowered lo hi false b h =
-    let o = not_below (bounds_met lo hi false b) b h in
+pub met_unlowered : (lo : ℕ) (hi : Option ℕ) (b : Bounds) → bounds_below (bounds_met lo hi b) b ≡ false →
+    ((bounds_met lo hi b).upper ≡ b.upper) × ((bounds_met lo hi b).lower ≡ b.lower)
+unfolding bounds_met upper_met_if lower_met upper_met
+met_unlowered lo None b h = (refl, smaller_same b.lower (at_least lo) (not_below (bounds_met lo None b) b h).1)
+met_unlowered lo (Some hi) b h =
+    let o = not_below (bounds_met lo (Some hi) b) b h in
     (smaller_same b.upper (at_most hi) o.0, smaller_same b.lower (at_least lo) o.1)
 
 -- ---- on the square: a clock's two entries are set
@@ -103,9 +96,9 @@ upper_same x w =
     ap (λ (i : ℕ). set w.zone (x * 9) (get_or w.zone i zero_pair)) k ∙ set-get_or w.zone (x * 9) zero_pair
 
 pub clock_met : (x lo hi : ℕ) (absent : Bool) (w : Work) {b : Bounds} → 0 < x → x < 9 → length w.zone ≡ 81 →
-    b ≡ bounds_met lo hi absent (record { upper = entry w x 0; lower = entry w 0 x; fraction = w.fraction }) →
+    b ≡ bounds_met lo (cond absent None (Some hi)) (record { upper = entry w x 0; lower = entry w 0 x; fraction = w.fraction }) →
     record { zone = set (set w.zone (x * 9) b.upper) x b.lower; fraction = b.fraction } ≡ meet_clock x lo hi absent w
-unfolding meet_clock meet_upper bounds_met lower_met upper_met
+unfolding meet_clock meet_upper bounds_met upper_met_if lower_met upper_met
 clock_met x lo hi absent w px hx size e = (λ i. put (e i)) ∙ go absent
   where
     put : Bounds → Work
@@ -114,7 +107,7 @@ clock_met x lo hi absent w px hx size e = (λ i. put (e i)) ∙ go absent
     b₀ : Bounds
     b₀ = record { upper = entry w x 0; lower = entry w 0 x; fraction = w.fraction }
 
-    go : (t : Bool) → put (lower_met lo (cond t b₀ (upper_met hi b₀))) ≡ lower_at 0 x (at_least lo) (cond t w (lower_at x 0 (at_most hi) w))
+    go : (t : Bool) → put (bounds_met lo (cond t None (Some hi)) b₀) ≡ lower_at 0 x (at_least lo) (cond t w (lower_at x 0 (at_most hi) w))
     go true =
         ap (λ (z : List Pair). record { zone = set z x (lower_met lo b₀).lower; fraction = (lower_met lo b₀).fraction }) (upper_same x w)
         ∙ lower_put x lo w b₀ refl refl
@@ -169,7 +162,7 @@ limits_all L n w e f = f ∙ ap (λ (y : ℕ). meet_limits L y w) e
 
 -- the limits of clock x, met on its two entries after those of the clocks before it
 pub limits_more : (L : Limits) (x : ℕ) (w u : Work) {b : Bounds} → 0 < x → x < 9 → length u.zone ≡ 81 → u ≡ meet_limits L (x - 1) w →
-    b ≡ bounds_met (L.lo x) (L.hi x) (L.absent x) (record { upper = entry u x 0; lower = entry u 0 x; fraction = u.fraction }) →
+    b ≡ bounds_met (L.lo x) (upper_of L x) (record { upper = entry u x 0; lower = entry u 0 x; fraction = u.fraction }) →
     record { zone = set (set u.zone (x * 9) b.upper) x b.lower; fraction = b.fraction } ≡ meet_limits L (x + 1 - 1) w
 limits_more L x w u px hx size e f =
     let k : x ≡ x + 1 - 1 = omega arith in

@@ -1,7 +1,9 @@
 -- The square that each operation leaves, and whether it is empty, do not depend on the running fraction.
 -- Assumes nothing.
+use Rattle.zones.proofs.reductions.Progress.{leaves, seen_in, seen_empty}
+use Rattle.zones.specs.Reductions.{is_empty}
 use Prim.Native.Nat.{ℕ, zero, suc, ◌+◌, ◌*◌}
-use mathlib.Core.Path.{◌≡◌, refl, sym, subst}
+use mathlib.Core.Path.{◌∙◌, ◌≡◌, refl, sym, subst}
 use mathlib.Core.Bool.{Bool, true, false, cond}
 use mathlib.Core.List.{List}
 use lib.IntN.{pos}
@@ -14,7 +16,7 @@ use Rattle.zones.specs.declared.zone.Work.{Work}
 use Rattle.runs.specs.Limits.{Limits}
 use Rattle.zones.specs.Pairs.{at_most, smaller_of, sum_of}
 use Rattle.zones.specs.Zones.{pair_at, lower_at, meet_upper, meet_clock, meet_limits, raise_limits, reset_places, reset_of}
-use Rattle.zones.specs.Reductions.{relaxed, row_steps, round_steps, empty_in, empty_below, after_middle, reduce_steps}
+use Rattle.zones.specs.Reductions.{relaxed, row_steps, round_steps, empty_in, after_middle, reduce_steps}
 use Rattle.zones.specs.Successors.{and_then, meet_of, enter_of, follow_of}
 
 -- ---- works with the same square, whatever their fractions
@@ -61,12 +63,12 @@ empty_same (suc i) s = λ t. cond (lt_z (pair_at (s.zone t) i i).m (pos 0)) true
 
 -- ---- results that are alike but for their fractions
 record Alike (r t : Reduced) : Type 0 where
-  empty : r.empty ≡ t.empty
+  empty : is_empty r ≡ is_empty t
   work : Same r.work t.work
 
 then_alike : {r t : Reduced} (f : Work → Reduced) → ((w v : Work) → Same w v → Alike (f w) (f v)) → Alike r t → Alike (and_then r f) (and_then t f)
 unfolding and_then
-then_alike {r} {t} f k a = subst (λ (b : Bool). Alike (cond b r (f r.work)) (and_then t f)) (sym a.empty) (go t.empty)
+then_alike {r} {t} f k a = subst (λ (b : Bool). Alike (cond b r (f r.work)) (and_then t f)) (sym a.empty) (go (is_empty t))
   where
     go : (b : Bool) → Alike (cond b r (f r.work)) (cond b t (f t.work))
     go true = a
@@ -75,8 +77,8 @@ then_alike {r} {t} f k a = subst (λ (b : Bool). Alike (cond b r (f r.work)) (an
 reduce_alike : (n k : ℕ) {w v : Work} → Same w v → Alike (reduce_steps n k w) (reduce_steps n k v)
 unfolding reduce_steps after_middle and_then
 reduce_alike n zero s = record { empty = refl; work = s }
-reduce_alike n (suc k) s = then_alike (λ w. let u = round_steps n k n w in record { work = u; empty = empty_in n u; safe = empty_below n u })
-    (λ w v e. let h = round_same n k n e in record { empty = empty_same n h; work = h }) (reduce_alike n k s)
+reduce_alike n (suc k) s = then_alike (λ w. let u = round_steps n k n w in leaves u (seen_in n u))
+    (λ w v e. let h = round_same n k n e in record { empty = seen_empty n _ ∙ empty_same n h ∙ sym (seen_empty n _); work = h }) (reduce_alike n k s)
 
 meet_alike : (c : ℕ) (L : Limits) {w v : Work} → Same w v → Alike (meet_of c L w) (meet_of c L v)
 unfolding meet_of
@@ -87,7 +89,7 @@ unfolding enter_of
 enter_alike c I s = then_alike _ (λ w v e. reduce_alike (suc c) (suc c) (raise_same I c e)) (meet_alike c I s)
 
 pub follow_regardless : (c : ℕ) (G : Limits) (R : ℕ → Bool) (I : Limits) (z : List Pair) (f g : Fraction) →
-    (follow_of c G R I (record { zone = z; fraction = f })).empty ≡ (follow_of c G R I (record { zone = z; fraction = g })).empty
+    is_empty (follow_of c G R I (record { zone = z; fraction = f })) ≡ is_empty (follow_of c G R I (record { zone = z; fraction = g }))
 unfolding follow_of
 follow_regardless c G R I z f g =
     let s : Same (record { zone = z; fraction = f }) (record { zone = z; fraction = g }) = record { zone = refl } in

@@ -1,6 +1,8 @@
 -- How large the numbers get through the three reductions of one step. With |m| ≤ C and p ≤ P before, a zone that is not empty has |m| ≤ C
 -- after each reduction, and p at most ten times what it was; and each threshold is within N and D.
 -- Assumes nothing.
+use Rattle.zones.specs.Reductions.{safe_of}
+use Rattle.zones.specs.Reductions.{is_empty}
 use Prim.Native.Nat.{ℕ, suc, ◌+◌, ◌*◌, ◌<◌, ◌≤◌}
 use mathlib.Core.Path.{◌≡◌, refl, ap, ◌∙◌}
 use mathlib.Core.Bool.{Bool, false}
@@ -16,7 +18,8 @@ use Rattle.zones.specs.declared.zone.Work.{Work}
 use Rattle.zones.proofs.pairs.Integers.{int, abs_law, neg_law}
 use Rattle.zones.specs.Pairs.{zero_pair, at_most, at_least}
 use Rattle.runs.specs.Limits.{Limits, scale}
-use Rattle.zones.specs.Zones.{entry, home, first_work, lower_at, meet_limits, raise_limits, reset_of}
+use Rattle.std.specs.Prelude.{true, cond, None, Some, IfSome}
+use Rattle.zones.specs.Zones.{upper_of, entry, home, first_work, lower_at, meet_limits, raise_limits, reset_of}
 use Rattle.zones.specs.Reductions.{reduce_of}
 use Rattle.zones.specs.Ranges.{Bounded, Narrow, Suffices, Ranged, InRange, OnScale, Sized, Ready, LimitsReady, Fits32, step_counts, widest}
 use Rattle.zones.proofs.pairs.Choices.{not_less_shows, smaller_cases}
@@ -143,10 +146,10 @@ module _ (N D C P n : ℕ) (enough : Suffices N D C P) (n≤ : n ≤ 9) (n> : 0 
   reduced_narrow = reduce_narrow N D C P enough n w n≤ alive r.ranged.bounded r.narrow n (omega arith)
 
   -- and so is what the safe one is lowered by
-  pub reduced_safe : Narrow N D (reduce_of n w).safe
+  pub reduced_safe : Narrow N D (safe_of (reduce_of n w))
   reduced_safe = reduce_safe N D C P enough n w n≤ alive r.ranged.bounded n (omega arith)
 
-  pub reduced_ranged : (reduce_of n w).empty ≡ false → Ranged C (10 * P) n (reduce_of n w).work
+  pub reduced_ranged : is_empty (reduce_of n w) ≡ false → Ranged C (10 * P) n (reduce_of n w).work
   reduced_ranged live = record {
     size = reduce_size 1 0 (omega arith) n n≤ w r.ranged.size;
     bounded = λ a b ha hb. record { m = small a b ha hb; p = few a b ha hb };
@@ -209,7 +212,7 @@ module _ (P n : ℕ) (P> : 0 < P) (P≤ : P ≤ step_counts) (n≤ : n ≤ 9) (w
   }
 
   pub sized_limits : (c : ℕ) → c < n → (L : Limits) → OnScale scale c L → (x : ℕ) → 0 < x → x < suc c →
-      LimitsReady (record { upper = entry w x 0; lower = entry w 0 x; fraction = w.fraction }) (L.lo x) (L.hi x) (L.absent x)
+      LimitsReady (record { upper = entry w x 0; lower = entry w 0 x; fraction = w.fraction }) (L.lo x) (upper_of L x)
   sized_limits c c< L o x px hx =
       let h = sized_ready.bounded in
       record {
@@ -217,8 +220,12 @@ module _ (P n : ℕ) (P> : 0 < P) (P≤ : P ≤ step_counts) (n≤ : n ≤ 9) (w
         lower = h 0 x (omega arith) (omega arith);
         fraction = r.narrow;
         lo≤ = o.lo x px hx;
-        hi≤ = o.hi x px hx;
+        hi≤ = go (L.absent x) refl;
       }
+    where
+      go : (t : Bool) → L.absent x ≡ t → IfSome (cond t None (Some (L.hi x))) (λ h. h ≤ scale)
+      go true e = tt
+      go false e = o.hi x px hx e
 
   pub sized_meet : (c : ℕ) → c < n → (L : Limits) → OnScale scale c L → (x : ℕ) → x ≤ c → Sized P n (meet_limits L x w)
   sized_meet c c< L o = meet_ranged widest widest scale P n (fewer_suffice P P> P≤) n≤ c c< L o w r
@@ -232,8 +239,8 @@ module _ (P n : ℕ) (P> : 0 < P) (P≤ : P ≤ step_counts) (n≤ : n ≤ 9) (w
   pub reduced_fits : 0 < n → Fits32 (reduce_of n w).work.fraction
   reduced_fits n> = reduced_narrow widest widest scale P n (fewer_suffice P P> P≤) n≤ n> w r
 
-  pub safe_fits : 0 < n → Fits32 (reduce_of n w).safe
+  pub safe_fits : 0 < n → Fits32 (safe_of (reduce_of n w))
   safe_fits n> = reduced_safe widest widest scale P n (fewer_suffice P P> P≤) n≤ n> w r
 
-  pub sized_reduce : 0 < n → (reduce_of n w).empty ≡ false → Sized (10 * P) n (reduce_of n w).work
+  pub sized_reduce : 0 < n → is_empty (reduce_of n w) ≡ false → Sized (10 * P) n (reduce_of n w).work
   sized_reduce n> live = record { ranged = reduced_ranged widest widest scale P n (fewer_suffice P P> P≤) n≤ n> w r live; narrow = reduced_fits n> }

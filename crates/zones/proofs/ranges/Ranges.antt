@@ -1,5 +1,9 @@
 -- No sum of a reduction overflows, and every threshold is within N and D: with the bounds C, P at its beginning as parameters.
 -- Assumes nothing.
+use Rattle.zones.proofs.reductions.Progress.{seen_safe}
+use Rattle.zones.specs.Reductions.{is_empty}
+use Rattle.zones.specs.Reductions.{safe_of}
+use Rattle.zones.specs.Reductions.{non_empty}
 use Prim.Native.Nat.{ℕ, zero, suc, ◌+◌, ◌<◌, ◌≤◌}
 use mathlib.Core.Path.{◌≡◌, refl, sym, ap, ◌∙◌, subst}
 use mathlib.Core.Bool.{Bool, true, false, cond}
@@ -11,7 +15,6 @@ use native.Mathlib.Omega.{arith}
 use native.Mathlib.Nat.{mul-le-mul_right}
 use Rattle.zones.specs.declared.fraction.Fraction.{Fraction}
 use Rattle.zones.specs.declared.pair.Pair.{Pair}
-use Rattle.zones.specs.declared.reduction.Diagonal.{Diagonal}
 use Rattle.zones.specs.declared.reduction.Reduced.{Reduced}
 use Rattle.zones.specs.declared.zone.Bounds.{Bounds}
 use Rattle.zones.specs.declared.zone.Work.{Work}
@@ -19,7 +22,8 @@ use Rattle.zones.specs.Integers.{up, down}
 use Rattle.zones.proofs.pairs.Integers.{int, one_side, lt_z_true, abs_law, abs_gap, neg_law}
 use Rattle.zones.specs.Fractions.{lowered_by}
 use Rattle.zones.specs.Pairs.{zero_pair, at_most, at_least, sum_of, smaller_of, threshold_of}
-use Rattle.zones.specs.Zones.{entry, lower_at, upper_met}
+use Rattle.zones.specs.Zones.{entry, lower_at, upper_met, upper_met_if}
+use Rattle.std.specs.Prelude.{Option, None, Some}
 use Rattle.zones.specs.Reductions.{relaxed, row_steps, round_steps, empty_below, after_middle, reduce_steps}
 use Rattle.zones.specs.Ranges.{Bounded, Narrow, Small, Fits32, Spread, Suffices, step_counts, last_counts, widest}
 use Rattle.zones.specs.Ranges.{Ready, RoundReady, DiagonalReady, LimitsReady}
@@ -27,7 +31,7 @@ use Rattle.runs.specs.Limits.{scale}
 use Rattle.zones.proofs.pairs.Choices.{less_shows, not_less_shows, threshold_cases, smaller_cases, lowered_cases}
 use Rattle.zones.proofs.reductions.Rounds.{chosen, RowDone, row_done, reads_at, reads_to, reads_from, RoundDone, round_done}
 use Rattle.zones.proofs.reductions.Rounds.{middle, still, row_skip}
-use Rattle.zones.proofs.reductions.Progress.{Alive, along, seen_in, leaves, after_live, after_empty}
+use Rattle.zones.proofs.reductions.Progress.{Alive, along, seen_in, after_live, after_empty}
 use Rattle.zones.proofs.pairs.Order.{sum_p}
 use Rattle.zones.proofs.ranges.Size.{sum-up, sum-down, reduce_spread}
 
@@ -170,10 +174,10 @@ module _ (N D C P : ℕ) (enough : Suffices N D C P) where
 
   -- ---- a whole reduction, where the zone became empty too
   module _ (n : ℕ) (w : Work) (n≤ : n ≤ 9) (start : Alive n w) (bounded : (a b : ℕ) → a < n → b < n → Bounded C P (entry w a b)) where
-    alive_at : (k : ℕ) → k ≤ n → (reduce_steps n k w).empty ≡ false → Alive n (reduce_steps n k w).work
+    alive_at : (k : ℕ) → k ≤ n → is_empty (reduce_steps n k w) ≡ false → Alive n (reduce_steps n k w).work
     alive_at k h e = (along n w n≤ start (λ k v. Unit {0}) tt (λ k v k< a b d q. tt) k h e).0
 
-    pub spread_at : (k : ℕ) → k < n → (reduce_steps n k w).empty ≡ false → (a b : ℕ) → a < n → b < n →
+    pub spread_at : (k : ℕ) → k < n → is_empty (reduce_steps n k w) ≡ false → (a b : ℕ) → a < n → b < n →
         Spread C P 9 (entry (reduce_steps n k w).work a b)
     spread_at k h e a b ha hb =
         let s = reduce_spread C P n w n≤ start (λ i j hi hj. bounded_spread C P (bounded i j hi hj)) k (omega arith) e a b ha hb in
@@ -183,12 +187,12 @@ module _ (N D C P : ℕ) (enough : Suffices N D C P) where
     pub reduce_narrow : Narrow N D w.fraction → (k : ℕ) → k ≤ n → Narrow N D (reduce_steps n k w).work.fraction
     unfolding reduce_steps
     reduce_narrow f zero h = f
-    reduce_narrow f (suc k) h = go (reduce_steps n k w).empty refl (reduce_narrow f k (omega arith))
+    reduce_narrow f (suc k) h = go (is_empty (reduce_steps n k w)) refl (reduce_narrow f k (omega arith))
       where
         r : Reduced
         r = reduce_steps n k w
 
-        go : (t : Bool) → (reduce_steps n k w).empty ≡ t → Narrow N D (reduce_steps n k w).work.fraction →
+        go : (t : Bool) → is_empty (reduce_steps n k w) ≡ t → Narrow N D (reduce_steps n k w).work.fraction →
             Narrow N D (after_middle n k (reduce_steps n k w)).work.fraction
         go true e q = rw (after_empty n k r e) q
         go false e q =
@@ -196,20 +200,20 @@ module _ (N D C P : ℕ) (enough : Suffices N D C P) where
             rw (after_live n k r e) (whole_narrow n k r.work a.size n≤ h (a.diagonal k h) (spread_at k h e) q)
 
     -- and what the safe fraction is lowered by
-    pub reduce_safe : (k : ℕ) → k ≤ n → Narrow N D (reduce_steps n k w).safe
+    pub reduce_safe : (k : ℕ) → k ≤ n → Narrow N D (safe_of (reduce_steps n k w))
     unfolding reduce_steps
     reduce_safe zero h = record { n = omega (arith, enough.n, enough.one); d = omega arith }
-    reduce_safe (suc k) h = go (reduce_steps n k w).empty refl (reduce_safe k (omega arith))
+    reduce_safe (suc k) h = go (is_empty (reduce_steps n k w)) refl (reduce_safe k (omega arith))
       where
         r : Reduced
         r = reduce_steps n k w
 
-        go : (t : Bool) → (reduce_steps n k w).empty ≡ t → Narrow N D (reduce_steps n k w).safe →
-            Narrow N D (after_middle n k (reduce_steps n k w)).safe
+        go : (t : Bool) → is_empty (reduce_steps n k w) ≡ t → Narrow N D (safe_of (reduce_steps n k w)) →
+            Narrow N D (safe_of (after_middle n k (reduce_steps n k w)))
         go true e q = rw (after_empty n k r e) q
         go false e q =
             let a = alive_at k (omega arith) e in
-            rw (after_live n k r e) (safe_narrow n (round_steps n k n r.work)
+            rw (after_live n k r e, seen_safe n (round_steps n k n r.work)) (safe_narrow n (round_steps n k n r.work)
             (λ b hb. after_spread n k r.work a.size n≤ h (a.diagonal k h) (spread_at k h e) b b hb hb))
 
 -- ---- what the code asks
@@ -244,25 +248,27 @@ most_bounded hi h = record { m = omega (arith, abs_law (pos hi)); p = omega arit
 pub least_bounded : (lo : ℕ) → lo ≤ scale → Bounded scale step_counts (at_least lo)
 least_bounded lo h = record { m = omega (arith, abs_law (neg_ℤ (pos lo)), neg_law (pos lo)); p = omega arith }
 
-pub upper_ready : (b : Bounds) (lo hi : ℕ) (absent : Bool) → LimitsReady b lo hi absent → absent ≡ false → LimitsReady (upper_met hi b) lo 0 false
-unfolding upper_met
-upper_ready b lo hi absent r e = record {
-  upper = smaller_bounded scale step_counts b.upper (at_most hi) r.upper (most_bounded hi (r.hi≤ e));
-  lower = r.lower;
-  fraction = lowered_narrow widest widest _ _ r.fraction
-      (both_narrow widest widest scale step_counts here b.upper (at_most hi) r.upper (most_bounded hi (r.hi≤ e)));
-  lo≤ = r.lo≤;
-  hi≤ = λ z. omega arith;
-}
+pub upper_ready : (b : Bounds) (lo : ℕ) (hi : Option ℕ) → LimitsReady b lo hi → LimitsReady (upper_met_if hi b) lo None
+unfolding upper_met_if upper_met
+upper_ready b lo None r = r
+upper_ready b lo (Some hi) r =
+    let q = most_bounded hi r.hi≤ in
+    record {
+      upper = smaller_bounded scale step_counts b.upper (at_most hi) r.upper q;
+      lower = r.lower;
+      fraction = lowered_narrow widest widest _ _ r.fraction (both_narrow widest widest scale step_counts here b.upper (at_most hi) r.upper q);
+      lo≤ = r.lo≤;
+      hi≤ = tt;
+    }
 
 -- as the code counts: v is the zone after k middle indices
 module _ (n : ℕ) (w : Work) (size : length w.zone ≡ 81) (r : Ready w n) where
   alive : Alive n w
   alive = record { size = size; diagonal = r.diagonal }
 
-  pub round_ready : (k : ℕ) (v : Work) {d : Diagonal} → k < n → reduce_steps n k w ≡ leaves v d → d.empty ≡ false → RoundReady v n k
-  round_ready k v h e g =
-      let f = ap (λ (x : Reduced). x.empty) e ∙ g in
+  pub round_ready : (k : ℕ) (v : Work) → k < n → reduce_steps n k w ≡ non_empty v → RoundReady v n k
+  round_ready k v h e =
+      let f = ap is_empty e in
       subst (λ (x : Reduced). RoundReady x.work n k) e (record {
         n≤ = r.n≤;
         k< = h;
@@ -293,15 +299,15 @@ pub turn_narrow : (s : Work) (k i j : ℕ) → TurnReady s k i j → Fits32 (sma
 turn_narrow s k i j t = choice_narrow widest widest scale step_counts here _ _ _ t.at t.to t.from
 
 -- ---- in the reduction of w: what its loops ask, v being the zone after k middle indices
-module _ (n : ℕ) (w : Work) (size : length w.zone ≡ 81) (r : Ready w n) (k : ℕ) (v : Work) {d : Diagonal} (k< : k < n)
-    (e : reduce_steps n k w ≡ leaves v d) (g : d.empty ≡ false) where
+module _ (n : ℕ) (w : Work) (size : length w.zone ≡ 81) (r : Ready w n) (k : ℕ) (v : Work) (k< : k < n)
+    (e : reduce_steps n k w ≡ non_empty v) where
   ready : RoundReady v n k
-  ready = round_ready n w size r k v k< e g
+  ready = round_ready n w size r k v k< e
 
   long : length v.zone ≡ 81
   long = subst (λ (x : Reduced). length x.work.zone ≡ 81) e
       (alive_at widest widest scale step_counts here n w r.n≤
-      (record { size = size; diagonal = r.diagonal }) r.bounded k (omega arith) (ap (λ (x : Reduced). x.empty) e ∙ g)).size
+      (record { size = size; diagonal = r.diagonal }) r.bounded k (omega arith) (ap is_empty e)).size
 
   pub turn_of : (i j : ℕ) → i < n → j < n → (u s : Work) → u ≡ round_steps n k i v → s ≡ row_steps k i j u → TurnReady s k i j
   turn_of = turn_ready n k v long ready
@@ -314,8 +320,8 @@ module _ (n : ℕ) (w : Work) (size : length w.zone ≡ 81) (r : Ready w n) (k :
   diagonal_spread u f a ha =
       rw f (after_spread widest widest scale step_counts here n k v long r.n≤ k< ready.diagonal ready.spread a a ha ha)
 
-  pub diagonal_of : (u : Work) → u ≡ round_steps n k n v → (a : ℕ) → a < n → {s : Diagonal} → s ≡ seen_in a u → DiagonalReady s (entry u a a)
+  pub diagonal_of : (u : Work) → u ≡ round_steps n k n v → (a : ℕ) → a < n → {s : Option Fraction} → s ≡ seen_in a u → DiagonalReady s (entry u a a)
   diagonal_of u f a ha g = record {
-    safe = rw g (safe_narrow widest widest scale step_counts here a u (λ b hb. diagonal_spread u f b (omega arith)));
+    safe = rw (g, seen_safe a u) (safe_narrow widest widest scale step_counts here a u (λ b hb. diagonal_spread u f b (omega arith)));
     spread = diagonal_spread u f a ha;
   }

@@ -3,6 +3,7 @@
 -- Each entry has a set of middle indices through which it goes: `Through`. Where an entry is lowered by the middle index k, the sets of its
 -- two parts have no index in common, or else the way round by that index would be a loop below 0.
 -- Assumes nothing.
+use Rattle.zones.specs.Reductions.{is_empty}
 use Prim.Native.Nat.{ℕ, zero, suc, ◌+◌, ◌*◌, ◌<◌, ◌≤◌}
 use mathlib.Core.Path.{◌≡◌, refl, sym, ◌∙◌}
 use mathlib.Core.Bool.{Bool, true, false, cond, ◌||◌}
@@ -280,7 +281,7 @@ grown_next C P n k v k< a b d t = record {
 }
 
 pub reduce_spread : (C P n : ℕ) (w : Work) → n ≤ 9 → Alive n w → ((i j : ℕ) → i < n → j < n → Spread C P 1 (entry w i j)) →
-    (k : ℕ) → k ≤ n → (reduce_steps n k w).empty ≡ false → (i j : ℕ) → i < n → j < n → Spread C P (k + 1) (entry (reduce_steps n k w).work i j)
+    (k : ℕ) → k ≤ n → is_empty (reduce_steps n k w) ≡ false → (i j : ℕ) → i < n → j < n → Spread C P (k + 1) (entry (reduce_steps n k w).work i j)
 reduce_spread C P n w h s b k g e i j hi hj =
     let t = (along n w h s (λ k v. Grown C P n k v) (start_grown C P n w b) (λ k v k< a b d q. grown_next C P n k v k< a b d q) k g e).1 in
     let u = t.through i j hi hj in

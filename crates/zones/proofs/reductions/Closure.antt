@@ -1,5 +1,6 @@
 -- A reduced zone that is not empty satisfies the triangle inequality, in the order of pairs.
 -- Assumes nothing.
+use Rattle.zones.specs.Reductions.{is_empty}
 use Prim.Native.Nat.{ℕ, suc, ◌+◌, ◌<◌, ◌≤◌}
 use mathlib.Core.Path.{◌≡◌}
 use mathlib.Core.Bool.{false}
@@ -106,7 +107,7 @@ round_triangle n k w s k< d r h a i j ha hi hj = go (ℕ_discrete a k)
     go (no q) = below (omega arith) (round_or n k w s r i a hi (omega arith)) (round_or n k w s r a j (omega arith) hj)
 
 -- ---- the whole reduction
-pub reduce_triangle : (n : ℕ) (w : Work) → n ≤ 9 → Alive n w → (k : ℕ) → k ≤ n → (reduce_steps n k w).empty ≡ false →
+pub reduce_triangle : (n : ℕ) (w : Work) → n ≤ 9 → Alive n w → (k : ℕ) → k ≤ n → is_empty (reduce_steps n k w) ≡ false →
     Triangle n k (reduce_steps n k w).work
 unfolding Triangle
 reduce_triangle n w h s k g e =

@@ -12,60 +12,17 @@ use native.Mathlib.Decide.{ℕ_discrete, le_ind}
 use native.Mathlib.Nat.{not-suc-le-zero}
 use Rattle.zones.specs.declared.fraction.Fraction.{Fraction}
 use Rattle.zones.specs.declared.pair.Pair.{Pair}
-use Rattle.zones.specs.declared.reduction.Diagonal.{Diagonal}
+use Rattle.std.specs.Prelude.{Option, None, Some, is_some}
+use Rattle.std.specs.Option.{unwrap_or}
 use Rattle.zones.specs.declared.reduction.Reduced.{Reduced}
 use Rattle.zones.specs.declared.zone.Work.{Work}
 use Rattle.zones.proofs.pairs.Integers.{lt_z_false, le_lt_z}
 use Rattle.zones.specs.Fractions.{no_limit, lowered_by}
 use Rattle.zones.specs.Pairs.{zero_pair, threshold_of}
 use Rattle.zones.specs.Zones.{entry}
-use Rattle.zones.specs.Reductions.{round_steps, empty_in, empty_below, seen_with, after_middle, reduce_steps}
+use Rattle.zones.specs.Reductions.{round_steps, empty_in, empty_below, seen_with, non_empty, is_empty, safe_of, after_middle, reduce_steps}
 use Rattle.runs.proofs.Contradictions.{true_false}
 use Rattle.zones.proofs.reductions.Rounds.{RoundDone, round_done}
-
--- ---- what the diagonal shows
--- of the first i pairs
-abbrev pub seen_in : ℕ → Work → Diagonal
-seen_in i w = record { empty = empty_in i w; safe = empty_below i w }
-
--- a zone whose diagonal shows d
-abbrev pub leaves : Work → Diagonal → Reduced
-leaves w d = record { work = w; empty = d.empty; safe = d.safe }
-
--- nothing below 0
-abbrev pub unseen : Diagonal
-unseen = record { empty = false; safe = no_limit }
-
-pub seen_none : (w : Work) → unseen ≡ seen_in 0 w
-unfolding empty_in empty_below
-seen_none w = refl
-
-pub seen_first : (w v : Work) → seen_in 0 w ≡ seen_in 0 v
-unfolding empty_in empty_below
-seen_first w v = refl
-
-pub seen_next : (i : ℕ) (w : Work) → seen_with (entry w i i) (seen_in i w) ≡ seen_in (suc i) w
-unfolding empty_in empty_below seen_with
-seen_next i w = go (lt_z (entry w i i).m (pos 0))
-  where
-    go : (t : Bool) → cond t (record { empty = true; safe = lowered_by (empty_below i w) (threshold_of (entry w i i) zero_pair) }) (seen_in i w)
-        ≡ record {
-          empty = cond t true (empty_in i w);
-          safe = cond t (lowered_by (empty_below i w) (threshold_of (entry w i i) zero_pair)) (empty_below i w);
-        }
-    go true = refl
-    go false = refl
-
--- one pair more, as the code has it
-module _ (q : Pair) (d : Diagonal) where
-  pub seen_below : lt_z q.m (pos 0) ≡ true → {t f : Fraction} → t ≡ threshold_of q zero_pair → f ≡ lowered_by d.safe t →
-      record { empty = true; safe = f } ≡ seen_with q d
-  unfolding seen_with
-  seen_below e g h = rw e (λ i. record { empty = true; safe = (h ∙ ap (lowered_by d.safe) g) i })
-
-  pub seen_above : lt_z q.m (pos 0) ≡ false → d ≡ seen_with q d
-  unfolding seen_with
-  seen_above e = rw e refl
 
 -- a zone that is not empty has no diagonal entry below 0
 pub diagonals : (n : ℕ) (w : Work) → empty_in n w ≡ false → (a : ℕ) → a < n → pos 0 ≤ℤ (entry w a a).m
@@ -90,41 +47,91 @@ unfolding empty_below
 safe_all zero w h = refl
 safe_all (suc n) w h = rw (le_lt_z (entry w n n).m (pos 0) (h n (omega arith))) (safe_all n w (λ a ha. h a (omega arith)))
 
--- what the diagonal of such a zone shows
-pub seen_all : (n : ℕ) (w : Work) → ((a : ℕ) → a < n → pos 0 ≤ℤ (entry w a a).m) → seen_in n w ≡ unseen
-seen_all n w h = λ i. record { empty = live_all n w h i; safe = safe_all n w h i }
+-- ---- what the diagonal shows
+-- of the first i pairs
+abbrev pub seen_in : ℕ → Work → Option Fraction
+seen_in i w = cond (empty_in i w) (Some (empty_below i w)) None
+
+-- a zone whose diagonal shows s
+abbrev pub leaves : Work → Option Fraction → Reduced
+leaves w s = record { work = w; emptied = s }
+
+pub seen_empty : (i : ℕ) (w : Work) → is_some (seen_in i w) ≡ empty_in i w
+seen_empty i w = go (empty_in i w)
+  where
+    go : (t : Bool) → is_some (cond t (Some (empty_below i w)) None) ≡ t
+    go true = refl
+    go false = refl
+
+pub seen_safe : (i : ℕ) (w : Work) → unwrap_or (seen_in i w) no_limit ≡ empty_below i w
+seen_safe i w = go (empty_in i w) refl
+  where
+    go : (t : Bool) → empty_in i w ≡ t → unwrap_or (cond t (Some (empty_below i w)) None) no_limit ≡ empty_below i w
+    go true e = refl
+    go false e = sym (safe_all i w (diagonals i w e))
+
+pub seen_none : (w : Work) → None ≡ seen_in 0 w
+unfolding empty_in
+seen_none w = refl
+
+pub seen_next : (i : ℕ) (w : Work) → seen_with (entry w i i) (seen_in i w) ≡ seen_in (suc i) w
+unfolding empty_in empty_below seen_with
+seen_next i w = go (lt_z (entry w i i).m (pos 0))
+  where
+    f : Fraction
+    f = threshold_of (entry w i i) zero_pair
+
+    go : (t : Bool) → cond t (Some (lowered_by (unwrap_or (seen_in i w) no_limit) f)) (seen_in i w)
+        ≡ cond (cond t true (empty_in i w)) (Some (cond t (lowered_by (empty_below i w) f) (empty_below i w))) None
+    go true = ap (λ (g : Fraction). Some (lowered_by g f)) (seen_safe i w)
+    go false = refl
+
+-- one pair more, as the code has it
+module _ (q : Pair) (s : Option Fraction) where
+  pub seen_below : lt_z q.m (pos 0) ≡ true → {t f : Fraction} → t ≡ threshold_of q zero_pair → f ≡ lowered_by (unwrap_or s no_limit) t →
+      Some f ≡ seen_with q s
+  unfolding seen_with
+  seen_below e g h = rw e (ap Some (h ∙ ap (lowered_by _) g))
+
+  pub seen_above : lt_z q.m (pos 0) ≡ false → s ≡ seen_with q s
+  unfolding seen_with
+  seen_above e = rw e refl
+
+-- what the diagonal of a zone that is not empty shows
+pub seen_all : (n : ℕ) (w : Work) → ((a : ℕ) → a < n → pos 0 ≤ℤ (entry w a a).m) → seen_in n w ≡ None
+seen_all n w h = rw (live_all n w h) refl
 
 -- ---- where it stops
-pub after_live : (n k : ℕ) (r : Reduced) → r.empty ≡ false →
+pub after_live : (n k : ℕ) (r : Reduced) → is_empty r ≡ false →
     after_middle n k r ≡ leaves (round_steps n k n r.work) (seen_in n (round_steps n k n r.work))
 unfolding after_middle
 after_live n k r e = rw e
 
-pub after_empty : (n k : ℕ) (r : Reduced) → r.empty ≡ true → after_middle n k r ≡ r
+pub after_empty : (n k : ℕ) (r : Reduced) → is_empty r ≡ true → after_middle n k r ≡ r
 unfolding after_middle
 after_empty n k r e = rw e
 
-pub live_before : (n k : ℕ) (r : Reduced) → (after_middle n k r).empty ≡ false → r.empty ≡ false
-live_before n k r e = go r.empty refl
+pub live_before : (n k : ℕ) (r : Reduced) → is_empty (after_middle n k r) ≡ false → is_empty r ≡ false
+live_before n k r e = go (is_empty r) refl
   where
-    go : (t : Bool) → r.empty ≡ t → r.empty ≡ false
-    go true f = true_false (sym f ∙ sym (ap (λ (x : Reduced). x.empty) (after_empty n k r f)) ∙ e)
+    go : (t : Bool) → is_empty r ≡ t → is_empty r ≡ false
+    go true f = true_false (sym f ∙ sym (ap is_empty (after_empty n k r f)) ∙ e)
     go false f = f
 
-pub stays : (n k : ℕ) (w : Work) → (reduce_steps n k w).empty ≡ true → (j : ℕ) → k ≤ j → reduce_steps n j w ≡ reduce_steps n k w
+pub stays : (n k : ℕ) (w : Work) → is_empty (reduce_steps n k w) ≡ true → (j : ℕ) → k ≤ j → reduce_steps n j w ≡ reduce_steps n k w
 unfolding reduce_steps
 stays n k w e = le_ind (λ (j : ℕ). reduce_steps n j w ≡ reduce_steps n k w) refl
-    (λ j h q. after_empty n j (reduce_steps n j w) (ap (λ (x : Reduced). x.empty) q ∙ e) ∙ q)
+    (λ j h q. after_empty n j (reduce_steps n j w) (ap is_empty q ∙ e) ∙ q)
 
 -- while it is not empty, nothing lowers the safe fraction
-pub live_safe : (n k : ℕ) (w : Work) → (reduce_steps n k w).empty ≡ false → (reduce_steps n k w).safe ≡ no_limit
+pub live_safe : (n k : ℕ) (w : Work) → is_empty (reduce_steps n k w) ≡ false → safe_of (reduce_steps n k w) ≡ no_limit
 unfolding reduce_steps
 live_safe n zero w e = refl
 live_safe n (suc k) w e =
     let r = reduce_steps n k w in
     let v = round_steps n k n r.work in
     let a = after_live n k r (live_before n k r e) in
-    ap (λ (x : Reduced). x.safe) a ∙ safe_all n v (diagonals n v (sym (ap (λ (x : Reduced). x.empty) a) ∙ e))
+    ap safe_of a ∙ seen_safe n v ∙ safe_all n v (diagonals n v (sym (seen_empty n v) ∙ sym (ap is_empty a) ∙ e))
 
 -- ---- the zone while it is not empty
 pub record Alive (n : ℕ) (w : Work) : Type 0 where
@@ -139,7 +146,7 @@ module _ (n : ℕ) (w : Work) (n≤ : n ≤ 9) (start : Alive n w) where
   pub along : (Q : ℕ → Work → Type 0) → Q 0 w →
       ((k : ℕ) (v : Work) → k < n → Alive n v → Alive n (round_steps n k n v) → RoundDone n k n v (round_steps n k n v) → Q k v →
       Q (suc k) (round_steps n k n v)) →
-      (k : ℕ) → k ≤ n → (reduce_steps n k w).empty ≡ false → Alive n (reduce_steps n k w).work × Q k (reduce_steps n k w).work
+      (k : ℕ) → k ≤ n → is_empty (reduce_steps n k w) ≡ false → Alive n (reduce_steps n k w).work × Q k (reduce_steps n k w).work
   unfolding reduce_steps
   along Q q f zero h e = (start, q)
   along Q q f (suc k) h e =
@@ -149,27 +156,24 @@ module _ (n : ℕ) (w : Work) (n≤ : n ≤ 9) (start : Alive n w) where
       let a = after_live n k r g in
       let d = alive_round n k r.work n≤ h i.0 n (omega arith) in
       let z : Alive n (round_steps n k n r.work) =
-      record { size = d.size; diagonal = diagonals n (round_steps n k n r.work) (sym (ap (λ (x : Reduced). x.empty) a) ∙ e) } in
+      record { size = d.size; diagonal = diagonals n (round_steps n k n r.work) (sym (seen_empty n _) ∙ sym (ap is_empty a) ∙ e) } in
       subst (λ (x : Reduced). Alive n x.work × Q (suc k) x.work) (sym a) (z, f k r.work h i.0 z d i.1)
 
--- ---- as the code counts: w is the zone after k middle indices, and d what its diagonal shows
-module _ (n k : ℕ) (w₀ w : Work) (d : Diagonal) (e : reduce_steps n k w₀ ≡ leaves w d) where
-  pub reduced_end : k ≡ n → leaves w d ≡ reduce_steps n n w₀
+pub is_none : (s : Option Fraction) → is_some s ≡ false → s ≡ None
+is_none None f = refl
+is_none (Some x) f = true_false f
+
+-- ---- as the code counts: w is the zone after k middle indices, and v after one more
+module _ (n k : ℕ) (w₀ w : Work) (e : reduce_steps n k w₀ ≡ non_empty w) where
+  pub reduced_end : k ≡ n → non_empty w ≡ reduce_steps n n w₀
   reduced_end h = sym e ∙ ap (λ (x : ℕ). reduce_steps n x w₀) h
 
-  pub reduced_stop : d.empty ≡ true → k ≤ n → leaves w d ≡ reduce_steps n n w₀
-  reduced_stop f h = sym (stays n k w₀ (ap (λ (x : Reduced). x.empty) e ∙ f) n h ∙ e)
-
-  module _ (f : d.empty ≡ false) where
-    -- the diagonal is looked at anew from what a zone that is not empty shows
-    pub seen_live : d ≡ seen_in 0 w
-    seen_live =
-        let g = ap (λ (x : Reduced). x.empty) e ∙ f in
-        let h = sym (ap (λ (x : Reduced). x.safe) e) ∙ live_safe n k w₀ g in
-        (λ i. record { empty = f i; safe = h i }) ∙ seen_none w
-
-    pub reduced_next : (v : Work) → v ≡ round_steps n k n w → {s : Diagonal} → s ≡ seen_in n v → reduce_steps n (k + 1) w₀ ≡ leaves v s
+  module _ (v : Work) (g : v ≡ round_steps n k n w) {s : Option Fraction} (h : s ≡ seen_in n v) where
+    pub reduced_next : reduce_steps n (k + 1) w₀ ≡ leaves v s
     unfolding reduce_steps
-    reduced_next v g {s} h =
-        rw add-one (ap (after_middle n k) e ∙ after_live n k (leaves w d) f ∙ ap (λ (u : Work). leaves u (seen_in n u)) (sym g)
+    reduced_next =
+        rw add-one (ap (after_middle n k) e ∙ after_live n k (non_empty w) refl ∙ ap (λ (u : Work). leaves u (seen_in n u)) (sym g)
         ∙ ap (leaves v) (sym h))
+
+    pub reduced_stop : is_some s ≡ true → k < n → leaves v s ≡ reduce_steps n n w₀
+    reduced_stop f l = sym (stays n (k + 1) w₀ (ap is_empty reduced_next ∙ f) n (omega arith) ∙ reduced_next)

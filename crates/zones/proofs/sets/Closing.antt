@@ -1,5 +1,9 @@
 -- A reduced zone: empty, or closed at every error below the running fraction.
 -- Assumes nothing.
+use Rattle.zones.proofs.reductions.Progress.{seen_empty}
+use Rattle.zones.proofs.reductions.Progress.{seen_safe}
+use Rattle.zones.specs.Reductions.{is_empty}
+use Rattle.zones.specs.Reductions.{safe_of}
 use Prim.Native.Nat.{ℕ, zero, suc, ◌<◌, ◌≤◌}
 use mathlib.Core.Path.{◌≡◌, refl, sym, ap, ◌∙◌, subst}
 use mathlib.Core.Bool.{Bool, true, false, cond}
@@ -43,47 +47,48 @@ empty_at (suc i) w e = go (empty_at i w) (lt_z (entry w i i).m (pos 0)) refl e
     go ih true f g = (i, omega arith, lt_z_true _ _ f)
     go ih false f g = let r = ih g in (r.0, omega (arith, r.1), r.2)
 
-empty_shows : (n : ℕ) (w : Work) (k : ℕ) → (reduce_steps n k w).empty ≡ true → empty_in n (reduce_steps n k w).work ≡ true
+empty_shows : (n : ℕ) (w : Work) (k : ℕ) → is_empty (reduce_steps n k w) ≡ true → empty_in n (reduce_steps n k w).work ≡ true
 unfolding reduce_steps
 empty_shows n w zero e = true_false (sym e)
-empty_shows n w (suc k) e = go (empty_shows n w k) (reduce_steps n k w).empty refl e
+empty_shows n w (suc k) e = go (empty_shows n w k) (is_empty (reduce_steps n k w)) refl e
   where
     r : Reduced
     r = reduce_steps n k w
 
-    go : (r.empty ≡ true → empty_in n r.work ≡ true) → (t : Bool) → r.empty ≡ t → (after_middle n k r).empty ≡ true →
+    go : (is_empty r ≡ true → empty_in n r.work ≡ true) → (t : Bool) → is_empty r ≡ t → is_empty (after_middle n k r) ≡ true →
         empty_in n (after_middle n k r).work ≡ true
     go ih true f g = subst (λ (x : Reduced). empty_in n x.work ≡ true) (sym (after_empty n k r f)) (ih f)
-    go ih false f g = subst (λ (x : Reduced). x.empty ≡ true → empty_in n x.work ≡ true) (sym (after_live n k r f)) (λ q. q) g
+    go ih false f g = subst (λ (x : Reduced). is_empty x ≡ true → empty_in n x.work ≡ true) (sym (after_live n k r f))
+        (λ q. sym (seen_empty n _) ∙ q) g
 
 -- what the safe fraction is lowered by, of a zone that is empty
-safe_shows : (n : ℕ) (w : Work) (k : ℕ) → (reduce_steps n k w).empty ≡ true → (reduce_steps n k w).safe ≡ empty_below n (reduce_steps n k w).work
+safe_shows : (n : ℕ) (w : Work) (k : ℕ) → is_empty (reduce_steps n k w) ≡ true → safe_of (reduce_steps n k w) ≡ empty_below n (reduce_steps n k w).work
 unfolding reduce_steps
 safe_shows n w zero e = true_false (sym e)
-safe_shows n w (suc k) e = go (safe_shows n w k) (reduce_steps n k w).empty refl
+safe_shows n w (suc k) e = go (safe_shows n w k) (is_empty (reduce_steps n k w)) refl
   where
     r : Reduced
     r = reduce_steps n k w
 
-    go : (r.empty ≡ true → r.safe ≡ empty_below n r.work) → (t : Bool) → r.empty ≡ t →
-        (after_middle n k r).safe ≡ empty_below n (after_middle n k r).work
-    go ih true f = subst (λ (x : Reduced). x.safe ≡ empty_below n x.work) (sym (after_empty n k r f)) (ih f)
-    go ih false f = subst (λ (x : Reduced). x.safe ≡ empty_below n x.work) (sym (after_live n k r f)) refl
+    go : (is_empty r ≡ true → safe_of r ≡ empty_below n r.work) → (t : Bool) → is_empty r ≡ t →
+        safe_of (after_middle n k r) ≡ empty_below n (after_middle n k r).work
+    go ih true f = subst (λ (x : Reduced). safe_of x ≡ empty_below n x.work) (sym (after_empty n k r f)) (ih f)
+    go ih false f = subst (λ (x : Reduced). safe_of x ≡ empty_below n x.work) (sym (after_live n k r f)) (seen_safe n _)
 
 -- by cases: it is not empty, or it is
-safe_cases : (n : ℕ) (w : Work) (P : Fraction → Type 0) → ((reduce_steps n n w).empty ≡ false → P no_limit) →
-    ((reduce_steps n n w).empty ≡ true → P (empty_below n (reduce_steps n n w).work)) → P (reduce_steps n n w).safe
-safe_cases n w P f g = go (reduce_steps n n w).empty refl
+safe_cases : (n : ℕ) (w : Work) (P : Fraction → Type 0) → (is_empty (reduce_steps n n w) ≡ false → P no_limit) →
+    (is_empty (reduce_steps n n w) ≡ true → P (empty_below n (reduce_steps n n w).work)) → P (safe_of (reduce_steps n n w))
+safe_cases n w P f g = go (is_empty (reduce_steps n n w)) refl
   where
-    go : (t : Bool) → (reduce_steps n n w).empty ≡ t → P (reduce_steps n n w).safe
+    go : (t : Bool) → is_empty (reduce_steps n n w) ≡ t → P (safe_of (reduce_steps n n w))
     go true e = subst P (sym (safe_shows n w n e)) (g e)
     go false e = subst P (sym (live_safe n n w e)) (f e)
 
-pub reduce_some : (n : ℕ) (w : Work) → 0 < (reduce_steps n n w).safe.n
+pub reduce_some : (n : ℕ) (w : Work) → 0 < (safe_of (reduce_steps n n w)).n
 reduce_some n w = safe_cases n w (λ f. 0 < f.n) (λ e. omega arith) (λ e. safe_n n (reduce_steps n n w).work)
 
 module _ (s e : ℕ) (s> : 0 < s) (n : ℕ) (n≤ : n ≤ 9) where
-  pub reduce_none : (w : Work) → length w.zone ≡ 81 → (reduce_steps n n w).empty ≡ true → Below s e (reduce_steps n n w).safe →
+  pub reduce_none : (w : Work) → length w.zone ≡ 81 → is_empty (reduce_steps n n w) ≡ true → Below s e (safe_of (reduce_steps n n w)) →
       (v : ℕ → ℕ) → In n (square_of s e w) v → ⊥
   reduce_none w size q t v i =
       let a = empty_at n (reduce_steps n n w).work (empty_shows n w n q) in
@@ -91,7 +96,7 @@ module _ (s e : ℕ) (s> : 0 < s) (n : ℕ) (n≤ : n ≤ 9) where
       (reduce_keeps s e s> n n≤ w size v i)
 
   reduce_tight : (w : Work) → length w.zone ≡ 81 → Signs s e s> n w → Below s e (reduce_steps n n w).work.fraction →
-      Below s e (reduce_steps n n w).safe
+      Below s e (safe_of (reduce_steps n n w))
   reduce_tight w size h t = safe_cases n w (Below s e) (λ q. omega (arith, s>))
       (λ q. signs_below s e s> n n (reduce_steps n n w).work (omega arith) (reduce_signs s e s> n n≤ w size h) t)
 
@@ -151,7 +156,7 @@ module _ (s e : ℕ) (s> : 0 < s) (n : ℕ) (n≤ : n ≤ 9) where
       round_through n k (square_of s e v) (square_of s e (round_steps n k n v)) hk (value_pos s e (entry v k k) (a.diagonal k hk))
       (round_values v (round_steps n k n v) k hk d l.1) (q l.0)
 
-  module _ (w : Work) (start : Alive n w) (live : (reduce_steps n n w).empty ≡ false) where
+  module _ (w : Work) (start : Alive n w) (live : is_empty (reduce_steps n n w) ≡ false) where
     pub reduce_alive : Alive n (reduce_steps n n w).work
     unfolding Q
     reduce_alive = (along n w n≤ start (λ k v. Work) w (λ k v hk a b d q. v) n (omega arith) live).0
@@ -182,19 +187,19 @@ module _ (s e : ℕ) (s> : 0 < s) (c : ℕ) (n≤ : suc c ≤ 9) (w : Work) (g :
   reduce_before = (reduce_falls s e s> (suc c) n≤ w g.size).before
 
   -- what is below the running fraction is below what the safe one is lowered by
-  pub reduce_tighter : Below s e (reduce_steps (suc c) (suc c) w).work.fraction → Below s e (reduce_steps (suc c) (suc c) w).safe
+  pub reduce_tighter : Below s e (reduce_steps (suc c) (suc c) w).work.fraction → Below s e (safe_of (reduce_steps (suc c) (suc c) w))
   reduce_tighter = reduce_tight s e s> (suc c) n≤ w g.size signs
 
   -- below that, a zone with a valuation is not declared empty
-  pub reduce_live : Below s e (reduce_steps (suc c) (suc c) w).safe → (v : ℕ → ℕ) → In (suc c) (square_of s e w) v →
-      (reduce_steps (suc c) (suc c) w).empty ≡ false
-  reduce_live t v i = go (reduce_steps (suc c) (suc c) w).empty refl
+  pub reduce_live : Below s e (safe_of (reduce_steps (suc c) (suc c) w)) → (v : ℕ → ℕ) → In (suc c) (square_of s e w) v →
+      is_empty (reduce_steps (suc c) (suc c) w) ≡ false
+  reduce_live t v i = go (is_empty (reduce_steps (suc c) (suc c) w)) refl
     where
-      go : (b : Bool) → (reduce_steps (suc c) (suc c) w).empty ≡ b → (reduce_steps (suc c) (suc c) w).empty ≡ false
+      go : (b : Bool) → is_empty (reduce_steps (suc c) (suc c) w) ≡ b → is_empty (reduce_steps (suc c) (suc c) w) ≡ false
       go true q = absurd (reduce_none s e s> (suc c) n≤ w g.size q t v i)
       go false q = q
 
-  module _ (live : (reduce_steps (suc c) (suc c) w).empty ≡ false) where
+  module _ (live : is_empty (reduce_steps (suc c) (suc c) w) ≡ false) where
     pub reduce_shaped : Shaped c (reduce_steps (suc c) (suc c) w).work
     reduce_shaped = record {
       size = reduce_size s e s> (suc c) n≤ w g.size;

@@ -1,5 +1,6 @@
 -- Entering a location and following an edge, as sets.
 -- Assumes nothing.
+use Rattle.zones.specs.Reductions.{is_empty}
 use Prim.Native.Nat.{ℕ, suc, ◌<◌, ◌≤◌}
 use mathlib.Core.Path.{◌≡◌, refl, subst}
 use mathlib.Core.Bool.{Bool, false}
@@ -41,10 +42,10 @@ module _ (s e : ℕ) (s> : 0 < s) (c : ℕ) (n≤ : suc c ≤ 9) (I : Limits) (p
     met : Includes s e c (λ v u. (u ≡ v) × Within s e c I v) w (meet_of c I w)
     met = meet_includes s e s> c n≤ w g I
 
-    raised : (l : (meet_of c I w).empty ≡ false) → RaisedBy c I (meet_of c I w).work (raise_limits I c (meet_of c I w).work)
+    raised : (l : is_empty (meet_of c I w) ≡ false) → RaisedBy c I (meet_of c I w).work (raise_limits I c (meet_of c I w).work)
     raised l = raised_by I (meet_of c I w).work (met.shaped l).size c (omega arith)
 
-    waited : (l : (meet_of c I w).empty ≡ false) →
+    waited : (l : is_empty (meet_of c I w) ≡ false) →
         Includes s e c (Later s e c I) (meet_of c I w).work (reduce_steps (suc c) (suc c) (raise_limits I c (meet_of c I w).work))
     waited l = raise_includes s e s> c n≤ (meet_of c I w).work (met.shaped l) I _ (raised l)
 

@@ -1,5 +1,6 @@
 -- Operations one after the other, and the three that the others are made of: limits are met, clocks are reset, time passes.
 -- Assumes nothing.
+use Rattle.zones.specs.Reductions.{is_empty}
 use Prim.Native.Nat.{ℕ, suc, ◌+◌, ◌*◌, ◌<◌, ◌≤◌}
 use mathlib.Core.Path.{◌≡◌, refl, sym, ap, ◌∙◌, subst}
 use mathlib.Core.Bool.{Bool, true, false}
@@ -59,20 +60,20 @@ Then S T v v'' = (v' : ℕ → ℕ) × S v v' × T v' v''
 abbrev pub Later : ℕ → ℕ → ℕ → Limits → Rel
 Later s e c L v v' = (t : ℕ) × Waits (suc c) t v v' × ((x : ℕ) → 0 < x → x < suc c → v' x ≤ L.hi x * s + e)
 
-pub then_empty : (r : Reduced) (f : Work → Reduced) → r.empty ≡ true → and_then r f ≡ r
+pub then_empty : (r : Reduced) (f : Work → Reduced) → is_empty r ≡ true → and_then r f ≡ r
 unfolding and_then
 then_empty r f e = rw e
 
-pub then_live : (r : Reduced) (f : Work → Reduced) → r.empty ≡ false → and_then r f ≡ f r.work
+pub then_live : (r : Reduced) (f : Work → Reduced) → is_empty r ≡ false → and_then r f ≡ f r.work
 unfolding and_then
 then_live r f e = rw e
 
 module _ (s e c : ℕ) where
   pub includes_then : (S T : Rel) (w : Work) (r : Reduced) (f : Work → Reduced) → Includes s e c S w r →
-      (r.empty ≡ false → Includes s e c T r.work (f r.work)) → Includes s e c (Then S T) w (and_then r f)
-  includes_then S T w r f m k = go r.empty refl
+      (is_empty r ≡ false → Includes s e c T r.work (f r.work)) → Includes s e c (Then S T) w (and_then r f)
+  includes_then S T w r f m k = go (is_empty r) refl
     where
-      go : (t : Bool) → r.empty ≡ t → Includes s e c (Then S T) w (and_then r f)
+      go : (t : Bool) → is_empty r ≡ t → Includes s e c (Then S T) w (and_then r f)
       go true q = rw (then_empty r f q) (record {
         before = m.before;
         proper = m.proper;
@@ -95,12 +96,12 @@ module _ (s e c : ℕ) where
           })
 
   pub exact_then : (S T : Rel) (w : Work) (r : Reduced) (f : Work → Reduced) → Exact s e c S w r →
-      (r.empty ≡ false →
+      (is_empty r ≡ false →
       (Below s e (f r.work).work.fraction → Below s e r.work.fraction) ×
       (Below s e r.work.fraction → Exact s e c T r.work (f r.work))) → Exact s e c (Then S T) w (and_then r f)
-  exact_then S T w r f m k = go r.empty refl
+  exact_then S T w r f m k = go (is_empty r) refl
     where
-      go : (t : Bool) → r.empty ≡ t → Exact s e c (Then S T) w (and_then r f)
+      go : (t : Bool) → is_empty r ≡ t → Exact s e c (Then S T) w (and_then r f)
       go true q = rw (then_empty r f q) (record { closed = m.closed; from = λ l t v' h. true_false (sym q ∙ l) })
       go false q =
           let n = k q in

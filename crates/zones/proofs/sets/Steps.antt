@@ -1,5 +1,6 @@
 -- What each comparison of a reduction keeps, the reduction keeps: one induction, and what follows by it.
 -- Assumes nothing.
+use Rattle.zones.specs.Reductions.{is_empty}
 use Prim.Native.Nat.{ℕ, zero, suc, ◌<◌, ◌≤◌}
 use mathlib.Core.Path.{◌≡◌, refl, sym, subst}
 use mathlib.Core.Bool.{Bool, true, false}
@@ -39,14 +40,14 @@ module _ (n : ℕ) (Q : Work → Type 0)
   round k hk w p zero h = p
   round k hk w p (suc i) h = row k i hk h (round_steps n k i w) (round k hk w p i (omega arith)) n (omega arith)
 
-  middle : (k : ℕ) → k < n → (r : Reduced) → P r.work → (t : Bool) → r.empty ≡ t → P (after_middle n k r).work
+  middle : (k : ℕ) → k < n → (r : Reduced) → P r.work → (t : Bool) → is_empty r ≡ t → P (after_middle n k r).work
   middle k hk r p true e = subst (λ (x : Reduced). P x.work) (sym (after_empty n k r e)) p
   middle k hk r p false e = subst (λ (x : Reduced). P x.work) (sym (after_live n k r e)) (round k hk r.work p n (omega arith))
 
   steps : (w : Work) → P w → (k : ℕ) → k ≤ n → P (reduce_steps n k w).work
   unfolding reduce_steps
   steps w p zero h = p
-  steps w p (suc k) h = middle k h (reduce_steps n k w) (steps w p k (omega arith)) (reduce_steps n k w).empty refl
+  steps w p (suc k) h = middle k h (reduce_steps n k w) (steps w p k (omega arith)) (is_empty (reduce_steps n k w)) refl
 
   pub reduce_ind : (w : Work) → length w.zone ≡ 81 → Q w → (length (reduce_steps n n w).work.zone ≡ 81) × Q (reduce_steps n n w).work
   unfolding P

@@ -1,5 +1,6 @@
 -- After column 0 of a settled zone was raised, its reduction changes column 0 alone, and the zone is not empty.
 -- Assumes nothing.
+use Rattle.std.specs.Prelude.{None}
 use Prim.Native.Nat.{ℕ, zero, suc, ◌+◌, ◌<◌, ◌≤◌}
 use mathlib.Core.Path.{◌≡◌, refl, sym, ap, ◌∙◌, subst}
 use mathlib.Core.Bool.{false}
@@ -20,7 +21,7 @@ use Rattle.zones.specs.Settled.{Settled, Raised}
 use Rattle.zones.proofs.sets.Lowering.{lower_limits}
 use Rattle.zones.proofs.pairs.Order.{◌≼◌, ≼_refl, ≼_trans, ≼-sum, smaller_or}
 use Rattle.zones.proofs.places.Places.{lower_size, lower_at_lem, lower_off}
-use Rattle.zones.proofs.reductions.Progress.{seen_in, leaves, unseen, seen_all, after_live}
+use Rattle.zones.proofs.reductions.Progress.{seen_in, leaves, seen_all, after_live}
 use Rattle.zones.proofs.reductions.Rounds.{col_still}
 use Rattle.zones.proofs.settled.Settled.{way_at_most, relaxed-follows}
 use Rattle.zones.proofs.fractions.Thresholds.{value_sum}
@@ -141,5 +142,5 @@ module _ (n : ℕ) (n≤ : n ≤ 9) (w : Work) (h : Settled n w) where
   unfolding round_steps
   column_next v u r k i hk hi e = rw add-one (sym (whole_row u r k i hk hi) ∙ ap (row_steps k i n) e)
 
-  pub column_live : (v : Work) → Raised n w v → unseen ≡ seen_in n v
+  pub column_live : (v : Work) → Raised n w v → None ≡ seen_in n v
   column_live v r = sym (seen_all n v (column_diagonal v r))

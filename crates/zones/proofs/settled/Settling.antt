@@ -1,6 +1,7 @@
 -- Which zones are settled: what a reduction leaves, what a reset makes of a settled one, the first one, and a settled one on which limits
 -- were met that lower no entry.
 -- Assumes nothing.
+use Rattle.zones.specs.Reductions.{is_empty}
 use Prim.Native.Nat.{ℕ, suc, ◌<◌, ◌≤◌}
 use mathlib.Core.Path.{◌≡◌, refl, sym, ap, ◌∙◌, subst}
 use mathlib.Core.Bool.{Bool, false}
@@ -9,7 +10,7 @@ use native.Mathlib.Omega.{arith}
 use Rattle.zones.specs.declared.pair.Pair.{Pair}
 use Rattle.zones.specs.declared.zone.Work.{Work}
 use Rattle.zones.proofs.pairs.Integers.{int}
-use Rattle.zones.specs.Pairs.{zero_pair, sum_of, compare_of, is_below, is_less}
+use Rattle.zones.specs.Pairs.{zero_pair, sum_of, is_less}
 use Rattle.runs.specs.Limits.{Limits}
 use Rattle.zones.specs.Zones.{entry, first_work, home, meet_limits, reset_of}
 use Rattle.zones.specs.Reductions.{reduce_steps}
@@ -25,7 +26,7 @@ use Rattle.zones.proofs.settled.Settled.{settled_later}
 use Rattle.zones.proofs.fractions.Thresholds.{zero_value}
 
 -- ---- a reduced zone that is not empty
-module _ (c : ℕ) (n≤ : suc c ≤ 9) (w : Work) (g : Shaped c w) (live : (reduce_steps (suc c) (suc c) w).empty ≡ false) where
+module _ (c : ℕ) (n≤ : suc c ≤ 9) (w : Work) (g : Shaped c w) (live : is_empty (reduce_steps (suc c) (suc c) w) ≡ false) where
   alive : Alive (suc c) w
   alive = record { size = g.size; diagonal = λ a ha. omega (arith, int, ap (λ (q : Pair). q.m) (g.diagonal a ha)) }
 
@@ -56,7 +57,7 @@ reset_settled n n≤ R w h =
 
 -- ---- the first zone
 none : is_less (sum_of zero_pair zero_pair) zero_pair ≡ false
-unfolding compare_of is_below is_less sum_of
+unfolding is_less sum_of
 none = refl
 
 pub first_settled : (n : ℕ) → n ≤ 9 → Settled n first_work

@@ -7,7 +7,7 @@ use Rattle.zones_bench.proofs.total.Goals as goal
 
 pub loop-t-init : goal.loop-t-init
 unfolding bench_total
-loop-t-init c = (omega arith, omega arith, c.square-z.ensures, refl)
+loop-t-init c = (omega arith, c.square-z.ensures, refl)
 
 pub loop-t-preserved : goal.loop-t-preserved
-loop-t-preserved c = (omega arith, omega arith, c.loop-t.invariant.2, total_next _ _ _ _ c.loop-t.invariant.3 c.once.ensures.0)
+loop-t-preserved c = (omega arith, c.loop-t.invariant.1, total_next _ _ _ _ c.loop-t.invariant.2 c.once.ensures.0)

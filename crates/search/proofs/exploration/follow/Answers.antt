@@ -1,7 +1,8 @@
 -- `follow` meets its contract: the guard is met on a taken zone, which is then empty or arrives.
 -- Assumes nothing.
 use Prim.Native.Nat.{ℕ, ◌+◌, ◌*◌, ◌≤◌}
-use mathlib.Core.Path.{◌≡◌, sym, ap}
+use mathlib.Core.Path.{◌≡◌, sym, ap, ◌∙◌}
+use Rattle.std.specs.Prelude.{is_some}
 use lib.ListN.{length}
 use native.Mathlib.Omega.{arith}
 use Rattle.zones.specs.Successors.{meet_of}
@@ -9,7 +10,7 @@ use Rattle.runs.proofs.Contradictions.{true_false}
 use Rattle.automata.specs.Automata.{clocks, edge_at, guard_of}
 use Rattle.search.proofs.exploration.Arriving.{gives_of, taken_sized, emptied_fits, follows_none, arrives, edge_to, follows}
 use Rattle.search.proofs.exploration.Arriving.{arrives_sound, arrives_at}
-use Rattle.search.proofs.exploration.Judging.{going_safe}
+use Rattle.search.proofs.exploration.Judging.{lowers, going_safe}
 use Rattle.automata.proofs.fields.Places.{edge-within}
 use Rattle.search.proofs.successor.Stepping.{meets, asks_limits, guard_scale}
 use Rattle.search.proofs.exploration.follow.Goals as goal
@@ -49,20 +50,20 @@ module _ (c : After-narrow-met) where
 pub emptied-requires : goal.emptied-requires
 emptied-requires c = (
   going_safe _ c.args.automaton.now.accepted c.requires.going.0,
-  emptied_fits _ c.args.automaton.now.accepted _ c.requires.accepted.0 _ c.requires.going.1 c.requires.going.2
-      (met (goal.at.emptied-requires c).After-narrow-met),
+  rw c.in-Some.is at (emptied_fits _ c.args.automaton.now.accepted _ c.requires.accepted.0 _ c.requires.going.1 c.requires.going.2
+      (met (goal.at.emptied-requires c).After-narrow-met)),
 )
 
-pub returns-then-met : goal.returns-then-met
-returns-then-met c =
+pub returns-in-Some : goal.returns-in-Some
+returns-in-Some c =
     follows_none _ c.args.automaton.now.accepted _ c.requires.accepted.0 _ c.requires.going.1 c.requires.going.2
-    (met (goal.at.returns-then-met c).After-narrow-met) c.if-met.true _ _ _ _ c.emptied.ensures
+    (met (goal.at.returns-in-Some c).After-narrow-met) (ap is_some c.in-Some.is) _ _ _ _ (c.emptied.ensures ∙ lowers c.args.turn c.narrow-met.result.work.fraction c.in-Some.is)
 
 pub arrive-requires : goal.arrive-requires
 arrive-requires c =
     let a = c.args.automaton.now.accepted in
     let hi = c.requires.accepted.0 in
-    let live = c.if-met.false in
+    let live = ap is_some c.in_default.is in
     record {
       accepted = (
         arrives_at _ a _ hi _ c.requires.going.1 c.requires.going.2 (met (goal.at.arrive-requires c).After-narrow-met) live
@@ -81,7 +82,7 @@ pub returns : goal.returns
 returns c =
     let a = c.args.automaton.now.accepted in
     let hi = c.requires.accepted.0 in
-    let live = c.if-met.false in
+    let live = ap is_some c.in_default.is in
     gives_of _ _ _ _ _ _ (edge_to _ a _ hi _ c.requires.going.1 c.requires.going.2 (met (goal.at.returns c).After-narrow-met) live
     c.requires.accepted.1)
     (follows _ a _ hi _ c.requires.going.1 c.requires.going.2 (met (goal.at.returns c).After-narrow-met) live c.requires.accepted.1) c.arrive.ensures

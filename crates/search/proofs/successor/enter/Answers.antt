@@ -1,7 +1,7 @@
 -- `enter` meets its contract: the reset, the invariant met at arrival, the wait, and the invariant met again, each on a zone in range.
 -- Assumes nothing.
 use Prim.Native.Nat.{ℕ, suc, ◌+◌, ◌*◌, ◌≤◌}
-use mathlib.Core.Path.{◌≡◌, ap, ◌∙◌}
+use mathlib.Core.Path.{◌≡◌, sym, ap, ◌∙◌}
 use lib.ListN.{length}
 use native.Mathlib.Omega.{arith}
 use Rattle.zones.specs.Ranges.{Sized, OnScale, counts, step_counts}
@@ -60,13 +60,13 @@ narrow-met-requires c =
       settled = λ e. rw (size≡ (goal.at.narrow-met-requires c).After-reset-cleared) (ready (goal.at.narrow-met-requires c).After-reset-cleared).1;
     }
 
-pub returns-then-met : goal.returns-then-met
+pub returns-then-is_some : goal.returns-then-is_some
 unfolding invariant_of
-returns-then-met c =
-    let met = meets _ _ (at≡ (goal.at.returns-then-met c).After-reset-cleared) (size≡ (goal.at.returns-then-met c).After-reset-cleared)
+returns-then-is_some c =
+    let met = meets _ _ (at≡ (goal.at.returns-then-is_some c).After-reset-cleared) (size≡ (goal.at.returns-then-is_some c).After-reset-cleared)
     c.narrow-met.ensures in
-    entered_none _ (n≤ (goal.at.returns-then-met c).After-reset-cleared) _ (one_more (size≡ (goal.at.returns-then-met c).After-reset-cleared)) _ met
-    c.if-met.true ∙ ap (enter_of _ _) (cleared (goal.at.returns-then-met c).After-reset-cleared)
+    entered_none _ (n≤ (goal.at.returns-then-is_some c).After-reset-cleared) _ (one_more (size≡ (goal.at.returns-then-is_some c).After-reset-cleared)) _ met
+    (sym c.is_some.ensures ∙ c.if-is_some.true) ∙ ap (enter_of _ _) (cleared (goal.at.returns-then-is_some c).After-reset-cleared)
 
 pub raise-raised-requires : goal.raise-raised-requires
 raise-raised-requires c =
@@ -81,7 +81,7 @@ reduce_raised-requires c =
     let n = size≡ (goal.at.reduce_raised-requires c).After-reset-cleared in
     let met = meets _ _ at n c.narrow-met.ensures in
     let up = raises _ _ at n c.raise-raised.ensures in
-    let live = c.if-met.false in
+    let live = sym c.is_some.ensures ∙ c.if-is_some.false in
     let o = invariant_scale _ a _ hl in (
       raised_ready _ (n≤ (goal.at.reduce_raised-requires c).After-reset-cleared) _ (one_more n) (10 * counts) (omega arith) (omega arith) _ o
           (ready (goal.at.reduce_raised-requires c).After-reset-cleared).0 met live
@@ -97,7 +97,7 @@ returns c =
     let at = at≡ (goal.at.returns c).After-reset-cleared in
     let n = size≡ (goal.at.returns c).After-reset-cleared in
     let met = meets _ _ at n c.narrow-met.ensures in
-    entered _ (n≤ (goal.at.returns c).After-reset-cleared) _ (one_more n) _ met c.if-met.false (raises _ _ at n c.raise-raised.ensures)
+    entered _ (n≤ (goal.at.returns c).After-reset-cleared) _ (one_more n) _ met (sym c.is_some.ensures ∙ c.if-is_some.false) (raises _ _ at n c.raise-raised.ensures)
     c.reduce_raised.ensures
     ∙ ap (enter_of _ _) (cleared (goal.at.returns c).After-reset-cleared)
 

@@ -9,10 +9,10 @@ use Rattle.zones.proofs.fraction.Fraction.after_choice.Goals as goal
 pub threshold-requires : goal.threshold-requires
 threshold-requires c = let h = c.requires.1 in (bounded_small h.chosen, bounded_small h.other, h.order)
 
-pub after_lowering-requires : goal.after_lowering-requires
-after_lowering-requires c =
+pub lowered-requires : goal.lowered-requires
+lowered-requires c =
     let h = c.requires in
     (h.0, rw c.threshold.ensures (chosen_narrow widest widest scale last_counts last_here _ _ h.1.chosen h.1.other h.1.order))
 
 pub returns : goal.returns
-returns c = c.after_lowering.ensures ∙ ap (lowered_by _) c.threshold.ensures
+returns c = c.lowered.ensures ∙ ap (lowered_by _) c.threshold.ensures

@@ -1,21 +1,42 @@
 -- `Bounds::meet` meets its contract: the upper limit where there is one, then the lower.
-use mathlib.Core.Path.{ap, ◌∙◌}
-use native.Mathlib.Omega.{arith}
-use Rattle.zones.specs.Zones.{lower_met}
-use Rattle.zones.proofs.places.Limits.{met_absent, met_present}
-use Rattle.zones.proofs.ranges.Ranges.{upper_ready}
+use mathlib.Core.Path.{◌≡◌, refl, ap, ◌∙◌}
+use Rattle.runs.specs.Limits.{scale}
+use Rattle.zones.specs.Ranges.{LimitsReady, step_counts, widest}
+use Rattle.zones.specs.Zones.{upper_met_if, lower_met, bounds_met}
+use Rattle.std.specs.Prelude.{None}
+use Rattle.zones.proofs.places.Limits.{upper_met_lem, lower_met_lem}
+use Rattle.zones.proofs.ranges.Ranges.{both_narrow, here, least_bounded, most_bounded, upper_ready}
 use Rattle.zones.proofs.zone.Bounds.meet.Goals as goal
+use Rattle.zones.proofs.zone.Bounds.meet.Goals.{Joined-hi, in-Some, in_default}
 
-pub returns-then-absent : goal.returns-then-absent
-returns-then-absent c = c.meet_lower.ensures ∙ met_absent _ _ _ _ c.if-absent.true
+pub lower-requires : goal.lower-requires
+lower-requires c =
+    let h = c.requires in (
+      h.fraction,
+      rw (c.smaller-choice.ensures, c.at_most.ensures)
+          (both_narrow widest widest scale step_counts here _ _ h.upper (most_bounded _ (rw c.in-Some.is at h.hi≤))),
+    )
 
-pub meet_upper-requires : goal.meet_upper-requires
-meet_upper-requires c =
-    let h = c.requires in
-    record { upper = h.upper; lower = h.lower; fraction = h.fraction; lo≤ = omega arith; hi≤ = λ z. h.hi≤ c.if-absent.false }
+joined : (c : Joined-hi) → c.match-hi.met ≡ upper_met_if c.args.hi c.args.self
+unfolding upper_met_if
+joined c = elim c.match-hi.branch [
+  | in-Some w ↦ w.met-is ∙ rw w.in-Some.is (upper_met_lem _ _ w.at_most.ensures w.smaller-choice.ensures w.lower.ensures)
+  | in_default w ↦ w.met-is ∙ rw w.in_default.is refl
+]
 
-pub meet_lower-requires-2 : goal.meet_lower-requires-2
-meet_lower-requires-2 c = rw c.meet_upper.ensures (upper_ready _ _ _ _ c.requires c.if-absent.false)
+ready : (c : Joined-hi) → LimitsReady c.match-hi.met c.args.lo None
+ready c = rw (joined c) (upper_ready _ _ _ c.requires)
+
+pub lower-requires-2 : goal.lower-requires-2
+lower-requires-2 c =
+    let h = ready (goal.at.lower-requires-2 c).Joined-hi in (
+      h.fraction,
+      rw (c.smaller-choice-2.ensures, c.at_least.ensures)
+          (both_narrow widest widest scale step_counts here _ _ h.lower (least_bounded _ h.lo≤)),
+    )
 
 pub returns : goal.returns
-returns c = c.meet_lower-2.ensures ∙ ap (lower_met _) c.meet_upper.ensures ∙ met_present _ _ _ _ c.if-absent.false
+unfolding bounds_met
+returns c =
+    lower_met_lem _ _ c.at_least.ensures c.smaller-choice-2.ensures c.lower-2.ensures ∙
+    ap (lower_met _) (joined (goal.at.returns c).Joined-hi)

@@ -11,7 +11,7 @@ use Rattle.zones.specs.Settled.{Raised}
 use Rattle.zones.proofs.settled.Columns.{column_step, column_first, zero_row, column_next, column_live}
 use Rattle.zones.proofs.ranges.Ranges.{TurnReady, spread_small, sum-small, turn_narrow, turn_of}
 use Rattle.zones.proofs.reductions.Rounds.{relaxed_is, round_all}
-use Rattle.zones.proofs.reductions.Progress.{unseen, reduced_next, reduced_end}
+use Rattle.zones.proofs.reductions.Progress.{reduced_next, reduced_end}
 use Rattle.zones.proofs.zone.Work.reduce_raised.Goals as goal
 use Rattle.zones.proofs.zone.Work.reduce_raised.Goals.{In-loop-i}
 
@@ -38,11 +38,11 @@ loop-i-init c =
 
 -- past the three reads: what the comparison asks of the pairs and the fraction
 turn : (c : In-loop-i) →
-    TurnReady (record { zone = c.loop-i.z; fraction = c.loop-i.f }) c.loop-k.k c.loop-i.i 0
+    TurnReady c.loop-i.work c.loop-k.k c.loop-i.i 0
 unfolding row_steps
 turn c = let size : length c.args.self.zone ≡ 81 = c.well_formed.0.1.1.0.1.0.1 in
-    turn_of _ c.args.self size c.requires.0 _ _ {d = unseen} (omega arith)
-    c.loop-k.invariant.3 refl _ 0 (omega arith) c.requires.1.some _ _ c.loop-i.invariant.4 refl
+    turn_of _ c.args.self size c.requires.0 _ _ (omega arith)
+    c.loop-k.invariant.3 _ 0 (omega arith) c.requires.1.some _ _ c.loop-i.invariant.4 refl
 
 pub sum-requires : goal.sum-requires
 unfolding pair_at
@@ -54,10 +54,10 @@ smaller-choice-requires c =
     let t = turn (goal.at.smaller-choice-requires c).In-loop-i in
     (spread_small t.at, rw c.sum.ensures (sum-small _ _ t.to t.from))
 
-pub after_lowering-f-requires : goal.after_lowering-f-requires
+pub lower-requires : goal.lower-requires
 unfolding pair_at
-after_lowering-f-requires c =
-    let t = turn (goal.at.after_lowering-f-requires c).In-loop-i in
+lower-requires c =
+    let t = turn (goal.at.lower-requires c).In-loop-i in
     let fits : Fits32 c.smaller-choice.result.threshold =
     rw (c.smaller-choice.ensures, c.sum.ensures) (turn_narrow _ _ _ _ t) in
     search rules
@@ -65,10 +65,9 @@ after_lowering-f-requires c =
 pub loop-i-preserved : goal.loop-i-preserved
 unfolding pair_at
 loop-i-preserved c =
-    let i< = c.loop-i-test.true in
     let d = c.requires.1 in
-    let now : Work = record { zone = c.loop-i.z; fraction = c.loop-i.f } in
-    let step = relaxed_is now _ _ _ _ _ _ c.sum.ensures c.smaller-choice.ensures c.after_lowering-f.ensures in
+    let now : Work = c.loop-i.work in
+    let step = relaxed_is now _ _ _ _ _ _ c.sum.ensures c.smaller-choice.ensures c.lower.ensures in
     let was = c.loop-k.invariant.4 d.base d.settled d.raised in
     let o = c.loop-i.invariant.5 d.base d.settled was in (
       omega arith,
@@ -86,10 +85,10 @@ loop-k-preserved c =
       omega arith,
       omega arith,
       omega arith,
-      reduced_next _ _ _ _ unseen c.loop-k.invariant.3 refl _ (round_all _ _ _ (omega arith) c.loop-i.invariant.4)
+      reduced_next _ _ _ _ c.loop-k.invariant.3 _ (round_all _ _ _ (omega arith) c.loop-i.invariant.4)
           (column_live _ c.requires.0.n≤ d.base d.settled _ (c.loop-i.invariant.5 d.base d.settled was)),
       λ b h r. c.loop-i.invariant.5 b h (c.loop-k.invariant.4 b h r),
     )
 
 pub returns : goal.returns
-returns c = reduced_end _ _ _ _ unseen c.loop-k.invariant.3 (omega arith)
+returns c = reduced_end _ _ _ _ c.loop-k.invariant.3 (omega arith)
