@@ -31,17 +31,13 @@ impl Work {
         ensures { result ≡ reset_of size (set_of marked) self }
     {
         let mut work = self;
-        let mut i = 0;
-        while i < size {
+        for i in 0..size {
             let a = if marked[i] { 0 } else { i };
-            let mut j = 0;
-            while j < 9 {
+            for j in 0..9 {
                 let b = if marked[j] { 0 } else { j };
                 let q = work.zone[a * 9 + b];
                 work.zone[i * 9 + j] = q;
-                j += 1;
             }
-            i += 1;
         }
         work
     }

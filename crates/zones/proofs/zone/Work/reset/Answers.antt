@@ -11,7 +11,7 @@ use Rattle.zones.proofs.zone.Work.reset.Goals.{Joined-marked-i, Joined-marked-j,
 
 pub loop-i-init : goal.loop-i-init
 unfolding reset_places
-loop-i-init c = (omega arith, omega arith, refl, refl)
+loop-i-init c = (refl, refl)
 
 -- the index whose row or column an index has
 row : (c : Joined-marked-i) →
@@ -31,21 +31,14 @@ column c = let R = set_of c.args.marked in
     (omega (arith, h, home_below R 9 j (omega arith)), h)
 
 pub loop-j-init : goal.loop-j-init
-loop-j-init c =
-    let r = row (goal.at.loop-j-init c).Joined-marked-i in
-    let none : c.loop-i.i * 9 ≡ c.loop-i.i * 9 + 0 = omega arith in
-    (omega arith, omega arith, omega arith, r.0, r.1, refl, λ y size e. reset_as _ y none e)
+loop-j-init c = let none : c.loop-i.i * 9 ≡ c.loop-i.i * 9 + 0 = omega arith in (refl, λ y size e. reset_as _ y none e)
 
 pub loop-j-preserved : goal.loop-j-preserved
 loop-j-preserved c =
+    let r = row (goal.at.loop-j-preserved c).Joined-marked-i in
     let b = column (goal.at.loop-j-preserved c).Joined-marked-j in (
-      omega arith,
-      omega arith,
-      omega arith,
-      c.loop-j.invariant.3,
-      c.loop-j.invariant.4,
-      c.loop-j.invariant.5,
-      λ y size e. reset_next _ y _ _ size (omega arith) (omega arith) (c.loop-j.invariant.6 y size e) c.loop-j.invariant.4 b.1,
+      c.loop-j.invariant.0,
+      λ y size e. reset_next _ y _ _ size (omega arith) (omega arith) (c.loop-j.invariant.1 y size e) r.1 b.1,
     )
 
 pub loop-i-preserved : goal.loop-i-preserved
@@ -53,18 +46,18 @@ loop-i-preserved c =
     let size : length c.args.self.zone ≡ 81 = c.well_formed.0.1.1.0.1.0.1 in
     let next : c.loop-i.i * 9 + c.loop-j.j ≡ (c.loop-i.i + 1) * 9 = omega arith in
     let done = c.loop-j.invariant in
-    (omega arith, omega arith, reset_as _ _ next (done.6 _ size c.loop-i.invariant.2), done.5 ∙ c.loop-i.invariant.3)
+    (reset_as _ _ next (done.1 _ size c.loop-i.invariant.0), done.0 ∙ c.loop-i.invariant.1)
 
 pub returns : goal.returns
 returns c =
     let last : c.loop-i.i * 9 ≡ c.args.size * 9 = omega arith in
-    reset_all _ _ _ last c.loop-i.invariant.2 c.loop-i.invariant.3
+    reset_all _ _ _ last c.loop-i.invariant.0 c.loop-i.invariant.1
 
 pub overflow_add-q : goal.overflow_add-q
-overflow_add-q c = omega (arith, (column (goal.at.overflow_add-q c).Joined-marked-j).0)
+overflow_add-q c = omega (arith, (row (goal.at.overflow_add-q c).Joined-marked-i).0, (column (goal.at.overflow_add-q c).Joined-marked-j).0)
 
 pub offset_bounds-work-a : goal.offset_bounds-work-a
-offset_bounds-work-a c = omega (arith, (column (goal.at.offset_bounds-work-a c).Joined-marked-j).0)
+offset_bounds-work-a c = omega (arith, (row (goal.at.offset_bounds-work-a c).Joined-marked-i).0, (column (goal.at.offset_bounds-work-a c).Joined-marked-j).0)
 
 pub bounds-work-a : goal.bounds-work-a
-bounds-work-a c = omega (arith, (column (goal.at.bounds-work-a c).Joined-marked-j).0)
+bounds-work-a c = omega (arith, (row (goal.at.bounds-work-a c).Joined-marked-i).0, (column (goal.at.bounds-work-a c).Joined-marked-j).0)
