@@ -230,6 +230,7 @@ fn take(automaton: &Automaton, store: &mut [i32], turn: Turn, capacity: usize) -
     let stride = slot_length(size);
     let mut t = turn;
     let mut next = 0;
+    // Zones are kept while others are taken, so the count is no end that a range could name.
     while next < t.count {
         let at = next * stride;
         let l = store[at] as usize;

@@ -53,6 +53,7 @@ pub fn gcd(x: u64, y: u64) -> u64
 {
     let mut a = x;
     let mut b = y;
+    // It ends at a remainder of 0, and not at a count.
     while b != 0 {
         let r = a % b;
         a = b;

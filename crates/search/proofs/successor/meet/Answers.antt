@@ -4,8 +4,7 @@ use Prim.Native.Nat.{ℕ, ◌-◌}
 use mathlib.Core.Path.{◌≡◌, refl, sym, ap, ◌∙◌}
 use native.Mathlib.Omega.{arith}
 use lib.Dec.{eqb}
-use mathlib.Core.Bool.{Bool, true, false, not, cond}
-use Rattle.std.specs.Bool.{then_some}
+use mathlib.Core.Bool.{cond}
 use Rattle.std.specs.Prelude.{None, Some}
 use Rattle.zones.specs.declared.zone.Work.{Work}
 use Rattle.zones.specs.Zones.{meet_limits}

@@ -1,7 +1,6 @@
 -- How a slot lies inside another: the lowest threshold of the pairs passed, which fits, and whether they were all equal.
 -- Assumes nothing.
-use mathlib.Core.Path.{◌≡◌, refl, sym, ◌∙◌}
-use borrow.Author.Rules.{rules}
+use mathlib.Core.Path.{refl, sym, ◌∙◌}
 use borrow.Author.Tests.{not-true, not-false}
 use native.Mathlib.Omega.{arith}
 use Rattle.slots.specs.Containing.{every_pair, inside_slots}
