@@ -10,33 +10,33 @@ ghost use Rattle.run_writer.specs.Branch.{kept_of, Ended, Standing, origin_befor
 ghost use Rattle.run_writer.specs.Writing.{run_of};
 
 use crate::crossing::{back_along, landing_along};
-use automata::opened::counts_of;
+use automata::opened::Automaton;
 use slots::slot::{Origin, decode, origin_of, slot_length};
 use zones::pair::Pair;
 
 // The origin of the slot that an origin names. `amount` numbers were lent to the search.
-fn origin_before(automaton: &[u8], store: &[i32], amount: usize, origin: Origin) -> Origin
-    requires { Ended automaton.now amount store.now × Standing automaton.now amount origin × (is_along origin ≡ true) }
-    ensures { result ≡ origin_before automaton.now amount origin }
+fn origin_before(automaton: &Automaton, store: &[i32], amount: usize, origin: Origin) -> Origin
+    requires { Ended automaton.now.bytes.now amount store.now × Standing automaton.now.bytes.now amount origin × (is_along origin ≡ true) }
+    ensures { result ≡ origin_before automaton.now.bytes.now amount origin }
 {
-    let at = origin.slot() * slot_length(counts_of(automaton).clocks + 1);
+    let at = origin.slot() * slot_length(automaton.clocks + 1);
     origin_of(&store[at..])
 }
 
 // The zone of that slot.
-fn zone_before(automaton: &[u8], store: &[i32], amount: usize, origin: Origin) -> [Pair; 81]
-    requires { Ended automaton.now amount store.now × Standing automaton.now amount origin × (is_along origin ≡ true) }
-    ensures { result ≡ zone_before automaton.now amount origin }
+fn zone_before(automaton: &Automaton, store: &[i32], amount: usize, origin: Origin) -> [Pair; 81]
+    requires { Ended automaton.now.bytes.now amount store.now × Standing automaton.now.bytes.now amount origin × (is_along origin ≡ true) }
+    ensures { result ≡ zone_before automaton.now.bytes.now amount origin }
 {
-    let size = counts_of(automaton).clocks + 1;
+    let size = automaton.clocks + 1;
     let at = origin.slot() * slot_length(size);
     decode(&store[at..], size)
 }
 
 // How many jumps lead to a zone of this origin.
-pub(crate) fn jumps_to(automaton: &[u8], store: &[i32], amount: usize, origin: Origin) -> usize
-    requires { Ended automaton.now amount store.now × Standing automaton.now amount origin }
-    ensures { result ≡ jumps_before automaton.now amount origin }
+pub(crate) fn jumps_to(automaton: &Automaton, store: &[i32], amount: usize, origin: Origin) -> usize
+    requires { Ended automaton.now.bytes.now amount store.now × Standing automaton.now.bytes.now amount origin }
+    ensures { result ≡ jumps_before automaton.now.bytes.now amount origin }
 {
     let mut from = origin;
     let mut k = 0;
@@ -48,9 +48,9 @@ pub(crate) fn jumps_to(automaton: &[u8], store: &[i32], amount: usize, origin: O
 }
 
 // The last state of the run to a zone of this origin.
-fn last_state(automaton: &[u8], store: &[i32], amount: usize, origin: Origin) -> [u64; 9]
-    requires { Ended automaton.now amount store.now × Standing automaton.now amount origin }
-    ensures { result ≡ last_state (witnesses_of automaton.now) (kept_of automaton.now amount) (came_of origin) }
+fn last_state(automaton: &Automaton, store: &[i32], amount: usize, origin: Origin) -> [u64; 9]
+    requires { Ended automaton.now.bytes.now amount store.now × Standing automaton.now.bytes.now amount origin }
+    ensures { result ≡ last_state (witnesses_of automaton.now.bytes.now) (kept_of automaton.now.bytes.now amount) (came_of origin) }
 {
     if origin.is_along() {
         let z = zone_before(automaton, store, amount, origin);
@@ -70,16 +70,16 @@ fn put_two(run: &mut [i64], at: usize, a: u64, b: u64)
 
 // The run to a zone of this origin, to which k jumps lead, is written from its end back.
 pub(crate) fn write_back(
-    automaton: &[u8],
+    automaton: &Automaton,
     store: &[i32],
     amount: usize,
     run: &mut [i64],
     origin: Origin,
     k: usize,
 )
-    requires ended { Ended automaton.now amount store.now × Standing automaton.now amount origin }
-    requires jumps_fit { (k ≡ jumps_before automaton.now amount origin) × (2 * k + 2 ≤ length run.old) }
-    ensures { run.new ≡ written (run_of automaton.now (state_of automaton.now amount) (came_of origin))
+    requires ended { Ended automaton.now.bytes.now amount store.now × Standing automaton.now.bytes.now amount origin }
+    requires jumps_fit { (k ≡ jumps_before automaton.now.bytes.now amount origin) × (2 * k + 2 ≤ length run.old) }
+    ensures { run.new ≡ written (run_of automaton.now.bytes.now (state_of automaton.now.bytes.now amount) (came_of origin))
         ++ drop (2 * k + 2) run.old }
 {
     let mut v = last_state(automaton, store, amount, origin);

@@ -5,13 +5,12 @@ ghost use Rattle.zones.specs.Ranges.{Sized, counts};
 ghost use Rattle.zones.specs.Settled.{Settled};
 ghost use Rattle.zones.specs.Successors.{meet_of};
 ghost use Rattle.zones.specs.Zones.{set_of, home, reset_of};
-ghost use Rattle.automata.specs.Accepted.{Accepted};
 ghost use Rattle.automata.specs.Automata.{clocks, edges, locations, invariant_of};
 ghost use Rattle.search.specs.Exploring.{SoundZone};
 ghost use Rattle.witness.specs.Sizes.{AllUpTo};
 ghost use Rattle.run_writer.specs.Crossing.{guarded_by, crossing_of, Crosses, back_along, landing_along};
 
-use automata::opened::{counts_of, edge_of};
+use automata::opened::Automaton;
 use search::successor::narrow;
 use witness::{Back, landing, step_back};
 use zones::fraction::Fraction;
@@ -28,17 +27,16 @@ pub(crate) struct Crossing {
 }
 
 // The zone meets the guard of edge i.
-fn guarded(automaton: &[u8], i: usize, z: [Pair; 81]) -> Reduced
-    requires { Accepted automaton.now × (i < edges automaton.now) × SoundZone automaton.now z }
-    ensures { result ≡ guarded_by automaton.now i z }
+fn guarded(automaton: &Automaton, i: usize, z: [Pair; 81]) -> Reduced
+    requires { (i < edges automaton.now.bytes.now) × SoundZone automaton.now.bytes.now z }
+    ensures { result ≡ guarded_by automaton.now.bytes.now i z }
 {
-    let counts = counts_of(automaton);
-    let at = counts.edge_at(i) + 3;
+    let at = automaton.edge_at(i) + 3;
     let w = Work {
         zone: z,
         fraction: Fraction { n: 1, d: 0 },
     };
-    narrow(automaton, at, counts.clocks, w, false)
+    narrow(automaton, at, automaton.clocks, w, false)
 }
 
 // The index whose row and column a has after a reset.
@@ -68,24 +66,23 @@ fn cleared(w: Work, size: usize, marked: [bool; 9]) -> Work
 }
 
 // A settled zone is reset, and meets the invariant of l.
-fn arrived(automaton: &[u8], l: usize, w: Work, resets: [bool; 9]) -> Reduced
-    requires accepted { Accepted automaton.now × (l < locations automaton.now) }
-    requires sized { Sized (10 * counts) (suc (clocks automaton.now)) w × Settled (suc (clocks automaton.now)) w }
-    ensures { result ≡ meet_of (clocks automaton.now) (invariant_of automaton.now l)
-        (reset_of (suc (clocks automaton.now)) (set_of resets) w) }
+fn arrived(automaton: &Automaton, l: usize, w: Work, resets: [bool; 9]) -> Reduced
+    requires accepted { (l < locations automaton.now.bytes.now) }
+    requires sized { Sized (10 * counts) (suc (clocks automaton.now.bytes.now)) w × Settled (suc (clocks automaton.now.bytes.now)) w }
+    ensures { result ≡ meet_of (clocks automaton.now.bytes.now) (invariant_of automaton.now.bytes.now l)
+        (reset_of (suc (clocks automaton.now.bytes.now)) (set_of resets) w) }
 {
-    let counts = counts_of(automaton);
-    let c = counts.clocks;
-    let at = counts.invariant_at(l);
+    let c = automaton.clocks;
+    let at = automaton.invariant_at(l);
     narrow(automaton, at, c, cleared(w, c + 1, resets), true)
 }
 
 // The zone crosses edge i.
-fn cross(automaton: &[u8], i: usize, z: [Pair; 81]) -> Crossing
-    requires { Accepted automaton.now × Crosses automaton.now i z }
-    ensures { result ≡ crossing_of automaton.now i z }
+fn cross(automaton: &Automaton, i: usize, z: [Pair; 81]) -> Crossing
+    requires { Crosses automaton.now.bytes.now i z }
+    ensures { result ≡ crossing_of automaton.now.bytes.now i z }
 {
-    let edge = edge_of(automaton, i);
+    let edge = automaton.edge(i);
     let resets = edge.resets;
     let met = guarded(automaton, i, z);
     let before = met.work;
@@ -101,12 +98,12 @@ fn cross(automaton: &[u8], i: usize, z: [Pair; 81]) -> Crossing
 }
 
 // The step back along edge i, from the state v of the zone's successor.
-pub(crate) fn back_along(automaton: &[u8], i: usize, z: [Pair; 81], v: [u64; 9]) -> Back
-    requires { Accepted automaton.now × Crosses automaton.now i z × AllUpTo scale v }
-    ensures { result ≡ back_along automaton.now i z v }
+pub(crate) fn back_along(automaton: &Automaton, i: usize, z: [Pair; 81], v: [u64; 9]) -> Back
+    requires { Crosses automaton.now.bytes.now i z × AllUpTo scale v }
+    ensures { result ≡ back_along automaton.now.bytes.now i z v }
 {
     let x = cross(automaton, i, z);
-    let size = counts_of(automaton).clocks + 1;
+    let size = automaton.clocks + 1;
     let guarded = x.guarded;
     let arrived = x.arrived;
     let resets = x.resets;
@@ -114,12 +111,12 @@ pub(crate) fn back_along(automaton: &[u8], i: usize, z: [Pair; 81], v: [u64; 9])
 }
 
 // A state in which edge i arrives from the zone.
-pub(crate) fn landing_along(automaton: &[u8], i: usize, z: [Pair; 81]) -> [u64; 9]
-    requires { Accepted automaton.now × Crosses automaton.now i z }
-    ensures { result ≡ landing_along automaton.now i z }
+pub(crate) fn landing_along(automaton: &Automaton, i: usize, z: [Pair; 81]) -> [u64; 9]
+    requires { Crosses automaton.now.bytes.now i z }
+    ensures { result ≡ landing_along automaton.now.bytes.now i z }
 {
     let x = cross(automaton, i, z);
-    let size = counts_of(automaton).clocks + 1;
+    let size = automaton.clocks + 1;
     let arrived = x.arrived;
     landing(arrived, size)
 }

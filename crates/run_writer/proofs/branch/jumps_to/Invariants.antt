@@ -8,7 +8,7 @@ use Rattle.run_writer.proofs.branch.jumps_to.Given as goal
 
 abbrev pub invariant-loop-from : goal.invariant-loop-from
 invariant-loop-from l =
-    Standing l.automaton l.amount l.from × (l.k + jumps_before l.automaton l.amount l.from ≡ jumps_before l.automaton l.amount l.initial.from)
+    Standing l.automaton.bytes.now l.amount l.from × (l.k + jumps_before l.automaton.bytes.now l.amount l.from ≡ jumps_before l.automaton.bytes.now l.amount l.initial.from)
     × (l.k + left_of l.from ≤ suc most_slots)
 
 abbrev pub decreases-loop-from : goal.decreases-loop-from

@@ -17,7 +17,7 @@ edge-requires c = let pre = c.requires in asks_edge pre.1 (along pre.1 (goes (go
 pub landing_along-requires : goal.landing_along-requires
 landing_along-requires c =
     let pre = c.requires in
-    (pre.0.accepted, crosses_back pre.0 pre.1 (goes (goal.at.landing_along-requires c).Then-is_along) c.edge.ensures c.zone_before-z.ensures)
+    crosses_back pre.0 pre.1 (goes (goal.at.landing_along-requires c).Then-is_along) c.edge.ensures c.zone_before-z.ensures
 
 pub returns-then-is_along : goal.returns-then-is_along
 returns-then-is_along c =

@@ -12,10 +12,10 @@ use Rattle.run_writer.proofs.branch.origin_before.Goals.{After-slot_length}
 
 -- ---- with the length of a slot
 module _ (c : After-slot_length) where
-  stride≡ : c.slot_length.result ≡ slot_length (suc (clocks c.args.automaton.now))
-  stride≡ = c.slot_length.ensures ∙ ap slot_length (size≡ _ c.counts_of.ensures)
+  stride≡ : c.slot_length.result ≡ slot_length (suc (clocks c.args.automaton.now.bytes.now))
+  stride≡ = c.slot_length.ensures ∙ ap slot_length (size≡ c.args.automaton.now.counted)
 
-  within : c.slot.result * c.slot_length.result + slot_length (suc (clocks c.args.automaton.now))
+  within : c.slot.result * c.slot_length.result + slot_length (suc (clocks c.args.automaton.now.bytes.now))
       ≤ length c.args.store.now
   within = inside c.requires.0 c.requires.1 c.requires.2 c.slot.ensures stride≡
 

@@ -42,7 +42,7 @@ back_along-back-requires c =
     let ended = c.requires.ended.0 in
     let inv = c.loop-left.invariant in
     let on = goes (goal.at.back_along-back-requires c).In-loop-left in
-    (ended.accepted, crosses_back ended inv.2 on c.edge-edge.ensures c.zone_before-z.ensures, inv.4)
+    (crosses_back ended inv.2 on c.edge-edge.ensures c.zone_before-z.ensures, inv.4)
 
 -- ---- with the step back
 module _ (c : After-back_along-back) where

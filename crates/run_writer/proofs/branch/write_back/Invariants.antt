@@ -10,9 +10,9 @@ use Rattle.run_writer.proofs.branch.write_back.Given as goal
 
 abbrev pub invariant-loop-left : goal.invariant-loop-left
 invariant-loop-left l =
-    (l.left ≤ l.k) × (length l.run ≡ length l.initial.run) × Standing l.automaton l.amount l.from
-    × (l.left ≡ jumps_before l.automaton l.amount l.from) × AllUpTo scale l.v ×
-    Filled l.automaton l.amount l.initial.run l.run l.k l.initial.from l.from l.v l.left
+    (l.left ≤ l.k) × (length l.run ≡ length l.initial.run) × Standing l.automaton.bytes.now l.amount l.from
+    × (l.left ≡ jumps_before l.automaton.bytes.now l.amount l.from) × AllUpTo scale l.v ×
+    Filled l.automaton.bytes.now l.amount l.initial.run l.run l.k l.initial.from l.from l.v l.left
 
 abbrev pub decreases-loop-left : goal.decreases-loop-left
 decreases-loop-left l = l.left

@@ -12,13 +12,13 @@ use Rattle.run_writer.proofs.branch.zone_before.Goals.{After-slot_length}
 
 -- ---- with the length of a slot
 module _ (c : After-slot_length) where
-  indices≡ : c.counts_of-size.result.clocks + 1 ≡ suc (clocks c.args.automaton.now)
-  indices≡ = size≡ _ c.counts_of-size.ensures
+  indices≡ : c.args.automaton.now.clocks + 1 ≡ suc (clocks c.args.automaton.now.bytes.now)
+  indices≡ = size≡ c.args.automaton.now.counted
 
-  stride≡ : c.slot_length.result ≡ slot_length (suc (clocks c.args.automaton.now))
+  stride≡ : c.slot_length.result ≡ slot_length (suc (clocks c.args.automaton.now.bytes.now))
   stride≡ = c.slot_length.ensures ∙ ap slot_length indices≡
 
-  within : c.slot.result * c.slot_length.result + slot_length (suc (clocks c.args.automaton.now))
+  within : c.slot.result * c.slot_length.result + slot_length (suc (clocks c.args.automaton.now.bytes.now))
       ≤ length c.args.store.now
   within = inside c.requires.0 c.requires.1 c.requires.2 c.slot.ensures stride≡
 

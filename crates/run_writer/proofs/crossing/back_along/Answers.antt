@@ -7,10 +7,10 @@ use Rattle.run_writer.proofs.crossing.back_along.Goals as goal
 pub step_back-requires : goal.step_back-requires
 step_back-requires c =
     let pre = c.requires in
-    back_asks _ pre.0 _ _ pre.1 c.cross-x.ensures (size≡ _ c.counts_of-size.ensures)
-    c.args.v pre.2
+    back_asks _ c.args.automaton.now.accepted _ _ pre.0 c.cross-x.ensures (size≡ c.args.automaton.now.counted)
+    c.args.v pre.1
 
 pub returns : goal.returns
 returns c =
     let pre = c.requires in
-    back_is _ pre.0 _ _ pre.1 c.cross-x.ensures (size≡ _ c.counts_of-size.ensures) _ c.step_back.ensures
+    back_is _ c.args.automaton.now.accepted _ _ pre.0 c.cross-x.ensures (size≡ c.args.automaton.now.counted) _ c.step_back.ensures

@@ -5,11 +5,9 @@ use Rattle.run_writer.proofs.crossing.cross.Goals as goal
 
 pub arrived-entered-requires : goal.arrived-entered-requires
 arrived-entered-requires c =
-    let pre = c.requires in
-    let asks = arrived_asks _ pre.0 _ _ pre.1 c.edge_of-edge.ensures c.guarded-met.ensures in
+    let a = c.args.automaton.now.accepted in
+    let asks = arrived_asks _ a _ _ c.requires c.edge-edge.ensures c.guarded-met.ensures in
     record { accepted = asks.0; sized = asks.1 }
 
 pub returns : goal.returns
-returns c =
-    let pre = c.requires in
-    crossed _ pre.0 _ _ pre.1 c.edge_of-edge.ensures c.guarded-met.ensures c.arrived-entered.ensures
+returns c = crossed _ c.args.automaton.now.accepted _ _ c.requires c.edge-edge.ensures c.guarded-met.ensures c.arrived-entered.ensures

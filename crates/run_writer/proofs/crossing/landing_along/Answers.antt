@@ -6,10 +6,8 @@ use Rattle.run_writer.proofs.crossing.landing_along.Goals as goal
 
 pub landing-requires : goal.landing-requires
 landing-requires c =
-    let pre = c.requires in
-    landing_asks _ pre.0 _ _ pre.1 c.cross-x.ensures (size≡ _ c.counts_of-size.ensures)
+    landing_asks _ c.args.automaton.now.accepted _ _ c.requires c.cross-x.ensures (size≡ c.args.automaton.now.counted)
 
 pub returns : goal.returns
 returns c =
-    let pre = c.requires in
-    landing_is _ pre.0 _ _ pre.1 c.cross-x.ensures (size≡ _ c.counts_of-size.ensures) c.landing.ensures
+    landing_is _ c.args.automaton.now.accepted _ _ c.requires c.cross-x.ensures (size≡ c.args.automaton.now.counted) c.landing.ensures
