@@ -31,7 +31,7 @@ use Rattle.search.specs.Store.{capacity_of}
 use Rattle.search.proofs.answers.Answers.{found_accepted}
 use Rattle.search.proofs.instance.Obeys.{laws}
 use Rattle.slots.specs.declared.slot.Origin.{Origin}
-use Rattle.run_writer.specs.Branch.{kept_of, Ended, Standing, jumps_before}
+use Rattle.run_writer.specs.Branch.{kept_of, Ended, Standing, Stands, jumps_before}
 use Rattle.run_writer.specs.Crossing.{witnesses_of}
 use Rattle.run_writer.specs.Told.{Tells}
 use Rattle.run_writer.specs.Writing.{run_of, outcome_numbers, run_numbers, run_findings, run_buffer}
@@ -119,6 +119,11 @@ module _ (b : List ℕ) (ok : refusal_of b ≡ 0) (s s' : List ℤ) (t : Turn) (
           branch = subst (Branch (system_of b) (zones_of b) (λ f. (meaning_of b).Exact f 1 0) (kept_of b amount) (length (kept_of b amount)) a.node)
               a.came a.branch;
         }
+
+    -- the walk's store is as long as the one that was lent
+    pub stands_there : length s' ≡ length s → Stands b s' o
+    stands_there e =
+        record { ended = subst (λ n. Ended b n s') (sym e) stored; standing = subst (λ n. Standing b n o) (sym e) stands }
 
     along : RunAlong (system_of b) 1 0 (path_of (kept_of b (length s)) (came_of o)) (run_of b (state_of b (length s)) (came_of o))
     along =

@@ -11,7 +11,7 @@ ghost use Rattle.run_writer.specs.Writing.{run_findings, run_buffer};
 ghost use Rattle.run_writer.specs.Told.{Tells};
 
 use automata::opened::Automaton;
-use branch::{jumps_to, write_back};
+use branch::Branch;
 use search::exploration::explore;
 use search::findings;
 use search::outcome::Outcome;
@@ -38,15 +38,19 @@ fn write_found(automaton: &Automaton, store: &mut [i32], run: &mut [i64]) -> Fin
     ensures run_after { run.new ≡ run_buffer automaton.now.bytes.now (length store.old) run.old }
     ensures tells { Tells automaton.now.bytes.now (length store.old) run.new result }
 {
-    let amount = store.len();
     let turn = explore(automaton, store);
     let outcome = turn.outcome;
     if let Outcome::Reached(origin) = outcome {
-        let k = jumps_to(automaton, store, amount, origin);
+        let branch = Branch {
+            automaton: *automaton,
+            store,
+            origin,
+        };
+        let k = branch.jumps();
         if run.len() < 2 * k + 2 {
             return Findings::Refused(14);
         }
-        write_back(automaton, store, amount, run, origin, k);
+        branch.write_back(run, k);
     }
     findings(turn)
 }

@@ -37,19 +37,13 @@ there c = (
 
 pub loop-k-init : goal.loop-k-init
 unfolding reset_places
-loop-k-init c = (refl, omega arith, refl)
+loop-k-init c = refl
 
 pub loop-k-preserved : goal.loop-k-preserved
-loop-k-preserved c = (
-  refl,
-  omega (arith, c.loop-k-test.true, c.loop-k.invariant.0),
-  place_more _ _ _ c.loop-k.invariant.2 c.home.ensures c.home-in-loop-k.ensures,
-)
+loop-k-preserved c = place_more _ _ _ c.loop-k.invariant c.home.ensures c.home-in-loop-k.ensures
 
 pub returns : goal.returns
-returns c =
-    all_places (set_of c.args.marked) c.args.w c.args.size
-    (omega (arith, c.loop-k-test.false, c.loop-k.invariant.1)) c.loop-k.invariant.2
+returns c = all_places (set_of c.args.marked) c.args.w c.args.size (omega (arith, c.loop-k.auto.k-end, c.loop-k-test.false)) c.loop-k.invariant
 
 pub overflow_mul-zone : goal.overflow_mul-zone
 overflow_mul-zone c = omega (arith, row_there (goal.at.overflow_mul-zone c).After-home)
