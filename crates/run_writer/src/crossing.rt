@@ -38,7 +38,8 @@ pub(crate) struct Crossing {
 // The index whose row and column a has after a reset.
 fn home(marked: [bool; 9], a: usize) -> usize
     requires { a < 9 }
-    ensures { result ≡ home (set_of marked) a }
+    ensures value { result ≡ home (set_of marked) a }
+    ensures below { result < 9 }
 {
     if marked[a] { 0 } else { a }
 }
@@ -60,7 +61,7 @@ fn cleared(w: Work, size: usize, marked: [bool; 9]) -> Work
 
 // A settled zone is reset, and meets the invariant of l.
 fn arrived(automaton: &Automaton, l: usize, w: Work, resets: [bool; 9]) -> Reduced
-    requires accepted { l < locations automaton.now.bytes.now }
+    requires there { l < locations automaton.now.bytes.now }
     requires sized { Sized (10 * counts) (suc (clocks automaton.now.bytes.now)) w × Settled (suc (clocks automaton.now.bytes.now)) w }
     ensures { result ≡ meet_of (clocks automaton.now.bytes.now) (invariant_of automaton.now.bytes.now l)
         (reset_of (suc (clocks automaton.now.bytes.now)) (set_of resets) w) }

@@ -40,7 +40,8 @@ module _ (c : After-jumps-k) where
   few : c.jumps-k.result ≤ most_slots
   few =
       let o = (free automaton).0 c.args.automaton.now.accepted in
-      omega (arith, counted, jumps_few (stored _ o _ _ _ c.explore-turn.ensures c.in-Reached.is) (stands _ o _ _ _ c.explore-turn.ensures c.in-Reached.is))
+      let h = c.explore-turn.ensures in
+      omega (arith, counted, jumps_few (stored _ o _ _ _ h c.in-Reached.is) (stands _ o _ _ _ h c.in-Reached.is))
 
 pub overflow_mul-k : goal.overflow_mul-k
 overflow_mul-k c = omega (arith, few (goal.at.overflow_mul-k c).After-jumps-k)

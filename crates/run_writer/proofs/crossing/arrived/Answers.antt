@@ -37,7 +37,7 @@ pub narrow-requires : goal.narrow-requires
 unfolding invariant_of
 narrow-requires c =
     let a = c.args.automaton.now.accepted in
-    let hl = c.requires.accepted in
+    let hl = c.requires.there in
     let at = (goal.at.narrow-requires c).After-cleared in
     let q = asks_limits _ _ (at≡ at) (size≡ at) (n≤ at) (invariant_within _ a.complete _ hl) (invariant_scale _ a _ hl) (omega arith)
     (ready at).0 in

@@ -97,12 +97,14 @@ loop-left-preserved c =
       long = ap length c.put_two.ensures ∙ two_set c.loop-left.run _ _ _ _ ∙ inv.long;
       small = (few (goal.at.loop-left-preserved c).After-back-back).2;
       filled = rw (c.put_two.ensures, turn.1.1)
-          (fill_turn _ _ turn.1.2 (omega (arith, inv.most, c.requires.jumps_fit.1)) inv.filled (stepped g inv.automaton inv.store _ c.back-back.ensures));
+          (fill_turn _ _ turn.1.2 (omega (arith, inv.most, c.requires.jumps_fit.1)) inv.filled
+          (stepped g inv.automaton inv.store _ c.back-back.ensures));
     }
 
 -- ---- after the loop
 pub returns : goal.returns
 returns c =
     let inv = c.loop-left.invariant in
-    let none = ⊎_elim (λ d. omega (arith, inv.start, d.1.1.0)) (λ d. inv.jumps ∙ no_jumps (zip_second c.loop-left.left-iterator) d.1.0) c.in-None.ensures.steps in
+    let x = zip_second c.loop-left.left-iterator in
+    let none = ⊎_elim (λ d. omega (arith, inv.start, d.1.1.0)) (λ d. inv.jumps ∙ no_jumps x d.1.0) c.in-None.ensures.steps in
     c.put_two-2.ensures ∙ fill_all none (omega (arith, c.requires.jumps_fit.1)) inv.filled

@@ -7,7 +7,7 @@ pub arrived-requires : goal.arrived-requires
 arrived-requires c =
     let a = c.args.self.automaton.accepted in
     let asks = arrived_asks _ a _ _ c.args.self.crosses c.edge-edge.ensures c.guarded.ensures in
-    record { accepted = asks.0; sized = asks.1 }
+    record { there = asks.0; sized = asks.1 }
 
 pub returns : goal.returns
 returns c = crossed _ c.args.self.automaton.accepted _ _ c.args.self.crosses c.edge-edge.ensures c.guarded.ensures c.arrived.ensures

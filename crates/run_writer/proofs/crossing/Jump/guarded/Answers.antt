@@ -24,7 +24,8 @@ narrow-requires c =
     let a = c.args.self.automaton.accepted in
     let hi = c.args.self.crosses.edge in
     let q = asks_limits _ _ (ap (λ x. x + 3) c.edge_at-at.ensures) c.args.self.automaton.counted.clocks≡ a.complete.clocks≤
-    (omega (arith, inside (goal.at.narrow-requires c).After-edge_at-at)) (guard_scale _ a _ hi) (omega arith) (zone_sized _ a _ hi _ c.args.self.crosses.sound) in
+    (omega (arith, inside (goal.at.narrow-requires c).After-edge_at-at)) (guard_scale _ a _ hi) (omega arith)
+    (zone_sized _ a _ hi _ c.args.self.crosses.sound) in
     record { few_clocks = q.0; on_scale = q.1; settled = λ e. true_false (sym e) }
 
 pub returns : goal.returns
