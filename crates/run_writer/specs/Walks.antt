@@ -12,7 +12,7 @@ use Rattle.run_writer.specs.Crossing.{witnesses_of, back_along, landing_along}
 abbrev pub jumps_left : Branch → ℕ
 jumps_left x = jumps_before x.automaton.bytes.now (length x.store.now) x.origin
 
--- from the branch x, whose last jump is j, to the branch y to the zone that j leaves: in both numbers, and in both of the definition's steps
+-- from the branch x, whose last jump is j, to the branch y to the zone that j leaves: one jump fewer, and a step of each definition of the run
 pub record Goes (x : Branch) (j : Jump) (y : Branch) : Type 0 where
   pub automaton : y.automaton ≡ x.automaton
   pub store : y.store ≡ x.store
