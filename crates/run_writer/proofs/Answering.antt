@@ -11,7 +11,7 @@ use Rattle.automata.specs.Refusals.{refusal_of}
 use Rattle.automata.specs.Semantics.{system_of}
 use Rattle.automata.proofs.accepting.Accepting.{accepted}
 use Rattle.reachability.specs.Branches.{Branch, path_of}
-use Rattle.reachability.specs.Search.{Outcome, ended, reached}
+use Rattle.reachability.specs.Search.{Outcome, going, ended, reached, refused}
 use Rattle.reachability.specs.Witnesses.{RunAlong}
 use Rattle.reachability.proofs.Branches.{arrived}
 use Rattle.reachability.proofs.Robust.{exact_there}
@@ -19,6 +19,7 @@ use Rattle.reachability.proofs.Witnesses.{run_back}
 use Rattle.run_judge.specs.Passing.{Passes}
 use Rattle.run_judge.proofs.passing.Passing.{written-length, passes_judged}
 use Rattle.runs.specs.Written.{written}
+use Rattle.search.specs.declared.outcome.Outcome as told
 use Rattle.search.specs.declared.outcome.Outcome.TheVariants.{Going, Reached, Refused}
 use Rattle.search.specs.declared.outcome.Turn.{Turn}
 use Rattle.search.specs.declared.verdict.Findings.TheVariants as findings
@@ -30,7 +31,7 @@ use Rattle.search.specs.Store.{capacity_of}
 use Rattle.search.proofs.answers.Answers.{found_accepted}
 use Rattle.search.proofs.instance.Obeys.{laws}
 use Rattle.slots.specs.declared.slot.Origin.{Origin}
-use Rattle.run_writer.specs.Branch.{kept_of, Ended, Standing, jumps_before}
+use Rattle.run_writer.specs.Branch.{kept_of, Ended, Standing, Stands, jumps_before}
 use Rattle.run_writer.specs.Crossing.{witnesses_of}
 use Rattle.run_writer.specs.Told.{Tells}
 use Rattle.run_writer.specs.Writing.{run_of, outcome_numbers, run_numbers, run_findings, run_buffer}
@@ -73,22 +74,26 @@ module _ (b : List ℕ) (ok : refusal_of b ≡ 0) (s s' : List ℤ) (t : Turn) (
       found_accepted b ok amount
       ∙ ap (λ x. findings_of x (state_of b amount).frac (length (state_of b amount).kept) (dropped_in (state_of b amount))) e
 
-  -- the search went to its end, or was refused
-  pub going_none : t.outcome ≡ Going → run_numbers b (length s) ≡ []
-  unfolding outcome_of outcome_numbers
-  going_none g = numbers_are (sym h.outcome ∙ ap outcome_of g)
+  -- ---- it did not meet the target
+  module _ (g : (o : Origin) → t.outcome ≡ Reached o → ⊥) where
+    missed : (P : Outcome → Type 0) → P going → ((k : ℕ) → P (ended (refused k))) → P (state_of b (length s)).outcome
+    unfolding outcome_of
+    missed P y n = subst P h.outcome (go t.outcome refl)
+      where
+        go : (x : told.Outcome) → t.outcome ≡ x → P (outcome_of x)
+        go Going e = y
+        go (Reached o) e = absurd (g o e)
+        go (Refused k) e = n k
 
-  pub going_tells : t.outcome ≡ Going → (run : List ℤ) → Tells b (length s) run (search_findings b (length s))
-  unfolding outcome_of findings_of Tells
-  going_tells g run = rw (findings_are (sym h.outcome ∙ ap outcome_of g)) tt
+    pub missed_none : run_numbers b (length s) ≡ []
+    unfolding outcome_numbers
+    missed_none = numbers_are refl ∙ missed (λ x. outcome_numbers b (state_of b (length s)) x ≡ []) refl (λ k. refl)
 
-  pub ended_none : {k : ℕ} → t.outcome ≡ Refused k → run_numbers b (length s) ≡ []
-  unfolding outcome_of outcome_numbers
-  ended_none g = numbers_are (sym h.outcome ∙ ap outcome_of g)
-
-  pub ended_tells : {k : ℕ} → t.outcome ≡ Refused k → (run : List ℤ) → Tells b (length s) run (search_findings b (length s))
-  unfolding outcome_of findings_of Tells
-  ended_tells g run = rw (findings_are (sym h.outcome ∙ ap outcome_of g)) tt
+    pub missed_tells : (run : List ℤ) → Tells b (length s) run (search_findings b (length s))
+    unfolding findings_of Tells
+    missed_tells run =
+        let q = state_of b (length s) in
+        rw (findings_are refl) (missed (λ x. Tells b (length s) run (findings_of x q.frac (length q.kept) (dropped_in q))) tt (λ k. tt))
 
   -- ---- it met the target
   module _ {o : Origin} (g : t.outcome ≡ Reached o) where
@@ -114,6 +119,11 @@ module _ (b : List ℕ) (ok : refusal_of b ≡ 0) (s s' : List ℤ) (t : Turn) (
           branch = subst (Branch (system_of b) (zones_of b) (λ f. (meaning_of b).Exact f 1 0) (kept_of b amount) (length (kept_of b amount)) a.node)
               a.came a.branch;
         }
+
+    -- the walk's store is as long as the one that was lent
+    pub stands_there : length s' ≡ length s → Stands b s' o
+    stands_there e =
+        record { ended = subst (λ n. Ended b n s') (sym e) stored; standing = subst (λ n. Standing b n o) (sym e) stands }
 
     along : RunAlong (system_of b) 1 0 (path_of (kept_of b (length s)) (came_of o)) (run_of b (state_of b (length s)) (came_of o))
     along =

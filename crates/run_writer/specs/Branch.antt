@@ -33,6 +33,11 @@ pub record Standing (b : List ℕ) (amount : ℕ) (o : Origin) : Type 0 where
   pub node : ZoneNode
   pub branch : Branch (system_of b) (zones_of b) (λ f. (meaning_of b).Exact f 1 0) (kept_of b amount) place node came
 
+-- both, where the store is as long as it was lent
+pub record Stands (b : List ℕ) (s : List ℤ) (o : Origin) : Type 0 where
+  pub ended : Ended b (length s) s
+  pub standing : Standing b (length s) o
+
 -- the origin and the zone of the slot that an origin names
 unfoldable pub origin_before : List ℕ → ℕ → Origin → Origin
 origin_before b amount o = elim (drop (up o.parent) (kept_of b amount)) [ [] ↦ no_origin | k ∷ more ↦ origin_of k.came ]

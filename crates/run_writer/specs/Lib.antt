@@ -4,3 +4,4 @@ pub mod Writing
 pub mod Told
 pub mod Branch
 pub mod Examples
+pub mod Walks

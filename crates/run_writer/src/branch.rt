@@ -1,62 +1,50 @@
 // The branch that led to a zone, walked from its end back over the slots of the store.
-ghost use Rattle.std.specs.Prelude.{◌≡◌, ◌++◌, ◌+◌, ◌*◌, ◌≤◌, ◌<◌, length, drop, set, pos, true};
-ghost use Rattle.slots.specs.Slots.{is_along};
+ghost use Rattle.std.specs.Prelude.{◌≡◌, ◌++◌, ◌+◌, ◌*◌, ◌≤◌, ◌<◌, length, drop, set, pos};
 ghost use Rattle.runs.specs.Written.{written};
 ghost use Rattle.search.specs.Answers.{state_of};
 ghost use Rattle.search.specs.Outcomes.{came_of};
 ghost use Rattle.reachability.specs.Witnesses.{last_state};
 ghost use Rattle.run_writer.specs.Crossing.{witnesses_of};
-ghost use Rattle.run_writer.specs.Branch.{kept_of, Ended, Standing, origin_before, zone_before, jumps_before};
+ghost use Rattle.run_writer.specs.Branch.{kept_of, Stands, jumps_before};
 ghost use Rattle.run_writer.specs.Writing.{run_of};
 
-use crate::crossing::{back_along, landing_along};
-use automata::opened::counts_of;
+use crate::crossing::Jump;
+use automata::opened::Automaton;
 use slots::slot::{Origin, decode, origin_of, slot_length};
-use zones::pair::Pair;
 
-// The origin of the slot that an origin names. `amount` numbers were lent to the search.
-fn origin_before(automaton: &[u8], store: &[i32], amount: usize, origin: Origin) -> Origin
-    requires { Ended automaton.now amount store.now × Standing automaton.now amount origin × (is_along origin ≡ true) }
-    ensures { result ≡ origin_before automaton.now amount origin }
-{
-    let at = origin.slot() * slot_length(counts_of(automaton).clocks + 1);
-    origin_of(&store[at..])
+// The branch to a zone of this origin, in the store where a search has ended: its jumps, from the last one back.
+#[derive(Clone, Copy)]
+pub(crate) struct Branch<'a> {
+    pub(crate) automaton: Automaton<'a>,
+    pub(crate) store: &'a [i32],
+    pub(crate) origin: Origin,
+    pub(crate) ghost stands: { ∥ Stands automaton.bytes.now store.now origin ∥₁ },
 }
 
-// The zone of that slot.
-fn zone_before(automaton: &[u8], store: &[i32], amount: usize, origin: Origin) -> [Pair; 81]
-    requires { Ended automaton.now amount store.now × Standing automaton.now amount origin × (is_along origin ≡ true) }
-    ensures { result ≡ zone_before automaton.now amount origin }
-{
-    let size = counts_of(automaton).clocks + 1;
-    let at = origin.slot() * slot_length(size);
-    decode(&store[at..], size)
-}
+impl<'a> Iterator for Branch<'a> {
+    ghost use Rattle.std.specs.Iterator.{at_most};
+    ghost use Rattle.run_writer.specs.Walks.{jumps_left, Walks};
 
-// How many jumps lead to a zone of this origin.
-pub(crate) fn jumps_to(automaton: &[u8], store: &[i32], amount: usize, origin: Origin) -> usize
-    requires { Ended automaton.now amount store.now × Standing automaton.now amount origin }
-    ensures { result ≡ jumps_before automaton.now amount origin }
-{
-    let mut from = origin;
-    let mut k = 0;
-    while from.is_along() {
-        from = origin_before(automaton, store, amount, from);
-        k += 1;
+    type Item = Jump<'a>;
+
+    ghost next_gives = { Walks };
+
+    ghost remaining = { λ x. at_most (jumps_left x) };
+
+    fn next(&mut self) -> Option<Jump<'a>> {
+        let origin = self.origin;
+        if !origin.is_along() {
+            return None;
+        }
+        let size = self.automaton.clocks + 1;
+        let slot = &self.store[origin.slot() * slot_length(size)..];
+        self.origin = origin_of(slot);
+        Some(Jump {
+            automaton: self.automaton,
+            edge: origin.edge(),
+            zone: decode(slot, size),
+        })
     }
-    k
-}
-
-// The last state of the run to a zone of this origin.
-fn last_state(automaton: &[u8], store: &[i32], amount: usize, origin: Origin) -> [u64; 9]
-    requires { Ended automaton.now amount store.now × Standing automaton.now amount origin }
-    ensures { result ≡ last_state (witnesses_of automaton.now) (kept_of automaton.now amount) (came_of origin) }
-{
-    if origin.is_along() {
-        let z = zone_before(automaton, store, amount, origin);
-        return landing_along(automaton, origin.edge(), z);
-    }
-    [0; 9]
 }
 
 // Two numbers of the run become a and b.
@@ -68,32 +56,38 @@ fn put_two(run: &mut [i64], at: usize, a: u64, b: u64)
     run[at + 1] = b as i64;
 }
 
-// The run to a zone of this origin, to which k jumps lead, is written from its end back.
-pub(crate) fn write_back(
-    automaton: &[u8],
-    store: &[i32],
-    amount: usize,
-    run: &mut [i64],
-    origin: Origin,
-    k: usize,
-)
-    requires ended { Ended automaton.now amount store.now × Standing automaton.now amount origin }
-    requires jumps_fit { (k ≡ jumps_before automaton.now amount origin) × (2 * k + 2 ≤ length run.old) }
-    ensures { run.new ≡ written (run_of automaton.now (state_of automaton.now amount) (came_of origin))
-        ++ drop (2 * k + 2) run.old }
-{
-    let mut v = last_state(automaton, store, amount, origin);
-    let mut from = origin;
-    let mut left = k;
-    while 0 < left {
-        let edge = from.edge();
-        let z = zone_before(automaton, store, amount, from);
-        let back = back_along(automaton, edge, z, v);
-        put_two(run, 2 * left, edge as u64, back.wait);
-        let state = back.state;
-        v = state;
-        from = origin_before(automaton, store, amount, from);
-        left -= 1;
+impl<'a> Branch<'a> {
+    // How many jumps lead to the zone.
+    pub(crate) fn jumps(self) -> usize
+        ensures { result ≡ jumps_before self.entry.automaton.bytes.now (length self.entry.store.now) self.entry.origin }
+    {
+        self.count()
     }
-    put_two(run, 0, (2 * k + 2) as u64, v[1]);
+
+    // The last state of the run to the zone.
+    fn last_state(mut self) -> [u64; 9]
+        ensures { result ≡ last_state (witnesses_of self.entry.automaton.bytes.now)
+            (kept_of self.entry.automaton.bytes.now (length self.entry.store.now)) (came_of self.entry.origin) }
+    {
+        match self.next() {
+            Some(jump) => jump.landing(),
+            None => [0; 9],
+        }
+    }
+
+    // The run to the zone, to which k jumps lead, is written from its end back.
+    pub(crate) fn write_back(self, run: &mut [i64], k: usize)
+        requires jumps_fit { (k ≡ jumps_before self.automaton.bytes.now (length self.store.now) self.origin)
+            × (2 * k + 2 ≤ length run.old) }
+        ensures { run.new ≡ written (run_of self.entry.automaton.bytes.now
+            (state_of self.entry.automaton.bytes.now (length self.entry.store.now)) (came_of self.entry.origin)) ++ drop (2 * k + 2) run.old }
+    {
+        let mut v = self.last_state();
+        for (left, jump) in (0..k).rev().zip(self) {
+            let back = jump.back(v);
+            put_two(run, 2 * left + 2, jump.edge as u64, back.wait);
+            v = back.state;
+        }
+        put_two(run, 0, (2 * k + 2) as u64, v[1]);
+    }
 }

@@ -10,8 +10,8 @@ ghost use Rattle.search.specs.Answers.{search_store};
 ghost use Rattle.run_writer.specs.Writing.{run_findings, run_buffer};
 ghost use Rattle.run_writer.specs.Told.{Tells};
 
-use automata::refusal;
-use branch::{jumps_to, write_back};
+use automata::opened::Automaton;
+use branch::Branch;
 use search::exploration::explore;
 use search::findings;
 use search::outcome::Outcome;
@@ -25,23 +25,32 @@ pub fn write_run(automaton: &[u8], store: &mut [i32], run: &mut [i64]) -> Findin
     ensures run_after { run.new ≡ run_buffer automaton.now (length store.old) run.old }
     ensures tells { Tells automaton.now (length store.old) run.new result }
 {
-    let number = refusal(automaton);
-    if number != 0 {
-        return Findings::Refused(number);
+    match Automaton::open(automaton) {
+        Ok(automaton) => write_found(&automaton, store, run),
+        Err(k) => Findings::Refused(k.number()),
     }
-    let amount = store.len();
-    let t = explore(automaton, store);
-    let outcome = t.outcome;
-    match outcome {
-        Outcome::Going => findings(t),
-        Outcome::Reached(origin) => {
-            let k = jumps_to(automaton, store, amount, origin);
-            if run.len() < 2 * k + 2 {
-                return Findings::Refused(14);
-            }
-            write_back(automaton, store, amount, run, origin, k);
-            findings(t)
+}
+
+// The same of an automaton that is not turned down.
+fn write_found(automaton: &Automaton, store: &mut [i32], run: &mut [i64]) -> Findings
+    ensures value { result ≡ run_findings automaton.now.bytes.now (length store.old) (length run.old) }
+    ensures store_after { store.new ≡ search_store automaton.now.bytes.now store.old }
+    ensures run_after { run.new ≡ run_buffer automaton.now.bytes.now (length store.old) run.old }
+    ensures tells { Tells automaton.now.bytes.now (length store.old) run.new result }
+{
+    let turn = explore(automaton, store);
+    let outcome = turn.outcome;
+    if let Outcome::Reached(origin) = outcome {
+        let branch = Branch {
+            automaton: *automaton,
+            store,
+            origin,
+        };
+        let k = branch.jumps();
+        if run.len() < 2 * k + 2 {
+            return Findings::Refused(14);
         }
-        Outcome::Refused(k) => findings(t),
+        branch.write_back(run, k);
     }
+    findings(turn)
 }

@@ -1,5 +1,5 @@
 -- The run written from its end back: what stands in the buffer after each turn, and how the definition goes on from there.
-use Prim.Native.Nat.{ℕ, zero, suc, ◌+◌, ◌-◌, ◌*◌, ◌≤◌, ◌<◌}
+use Prim.Native.Nat.{ℕ, suc, ◌+◌, ◌*◌, ◌≤◌, ◌<◌}
 use mathlib.Core.Bool.{Bool, true, false}
 use mathlib.Core.List.{List, [], ◌∷◌, ◌++◌, append_assoc}
 use mathlib.Core.Path.{◌≡◌, refl, sym, ap, ◌∙◌}
@@ -36,7 +36,7 @@ use Rattle.run_writer.specs.Writing.{run_of}
 use Rattle.run_writer.proofs.Witnessing.{crosses}
 use Rattle.run_writer.proofs.branch.Stepping.{source, zone_is, sound_zone, origin_is}
 use Rattle.run_writer.proofs.branch.Walking.{Along, along, first, edge_is}
-use Rattle.run_writer.proofs.crossing.Along.{landing_state, back-state, back_most}
+use Rattle.run_writer.proofs.crossing.Along.{landing_state}
 
 module _ {b : List ℕ} {amount : ℕ} {s : List ℤ} (e : Ended b amount s) {o : Origin} (st : Standing b amount o) where
   abbrev ks : List ZoneNode
@@ -85,16 +85,6 @@ module _ {b : List ℕ} {amount : ℕ} {s : List ℤ} (e : Ended b amount s) {o 
         let c≡ = ap came_of (p ∙ origin_is e st h) ∙ came_back k.came in
         rw (a.came, back_to, nth_tail ks a.parent k a.jumps.kept)
         (λ x. back_to (witnesses_of b) m ks (sym c≡ x) (sym w≡ x).state (jump (sym i≡ x) ∷ wait (sym w≡ x).wait ∷ xs))
-
-    -- the numbers of a step back
-    pub back-small : (v : List ℕ) {i : ℕ} {z : List Pair} {r : Back} → AllUpTo scale v → i ≡ up o.edge → z ≡ zone_before b amount o
-        → r ≡ back_along b i z v → (i < 256) × (r.wait ≤ 2 * scale) × AllUpTo scale r.state
-    back-small v {i} {z} m f g r =
-        let x = crosses_back f g in (
-          omega (arith, x.edge, e.accepted.complete.edges≤),
-          rw r (back_most b e.accepted i z x v m),
-          λ y. rw r ((back-state b e.accepted i z x v).most y),
-        )
 
   -- ---- the first zone
   pub last_first : is_along o ≡ false → replicate 9 0 ≡ last_state (witnesses_of b) (kept_of b amount) (came_of o)
@@ -149,21 +139,22 @@ fill_none {b} {amount} {o} {k} r e f = record {
 
 module _ {b : List ℕ} {amount : ℕ} {r₀ run : List ℤ} {k : ℕ} {o₀ o : Origin} {v : List ℕ} where
   -- one jump more
-  pub fill_turn : {s : List ℤ} (e : Ended b amount s) (st : Standing b amount o) (h : is_along o ≡ true) (left : ℕ) → 0 < left
-      → 2 * left + 2 ≤ length r₀ → Filled b amount r₀ run k o₀ o v left
-      → {i : ℕ} {z : List Pair} {r : Back} {o' : Origin} → i ≡ up o.edge → z ≡ zone_before b amount o → r ≡ back_along b i z v
-      → o' ≡ origin_before b amount o
-      → Filled b amount r₀ (set (set run (2 * left) (pos i)) (2 * left + 1) (pos r.wait)) k o₀ o' r.state (left - 1)
-  fill_turn e st h zero l m d f g q p = absurd (omega arith)
-  fill_turn e st h (suc left) l m d {i} {z} {r} f g q p =
-      let n : 2 * suc left ≡ 2 * left + 2 = omega arith in
-      let one : suc left - 1 ≡ left = omega arith in
-      rw one (record {
+  pub fill_turn : {left' left : ℕ} (i : ℕ) (r : Back) {o' : Origin} → left' ≡ left + 1 → 2 * left' + 2 ≤ length r₀
+      → Filled b amount r₀ run k o₀ o v left'
+      → ((m : ℕ) (xs : List Step) → back_to (witnesses_of b) (suc m) (kept_of b amount) (came_of o) v xs
+      ≡ back_to (witnesses_of b) m (kept_of b amount) (came_of o') r.state (jump i ∷ wait r.wait ∷ xs))
+      → Filled b amount r₀ (set (set run (2 * left + 2) (pos i)) (2 * left + 2 + 1) (pos r.wait)) k o₀ o' r.state left
+  fill_turn {left'} {left} i r e l d step =
+      let one : left' ≡ suc left = omega (arith, e) in
+      let rest : back_to (witnesses_of b) (suc left) (kept_of b amount) (came_of o) v d.steps ≡ run_of b (state_of b amount) (came_of o₀) =
+      rw one at d.rest in
+      let n : 2 * left' ≡ 2 * left + 2 = omega (arith, e) in
+      record {
         steps = jump i ∷ wait r.wait ∷ d.steps;
-        rest = sym (back_step e st h left v d.steps f g q p) ∙ d.rest;
-        count = omega (arith, d.count);
-        buffer = rw (d.buffer, n) (two_more r₀ (numbers d.steps ++ drop (2 * k + 2) r₀) (2 * left + 2) (pos i) (pos r.wait) (omega arith));
-      })
+        rest = sym (step left d.steps) ∙ rest;
+        count = omega (arith, d.count, e);
+        buffer = rw (d.buffer, n) (two_more r₀ (numbers d.steps ++ drop (2 * k + 2) r₀) (2 * left + 2) (pos i) (pos r.wait) (omega (arith, n, l)));
+      }
 
   -- the first wait, and the count
   pub fill_all : {left : ℕ} → left ≡ 0 → 2 ≤ length r₀ → Filled b amount r₀ run k o₀ o v left

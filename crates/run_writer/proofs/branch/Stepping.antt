@@ -9,6 +9,11 @@ use lib.Signed.{◌≤ℤ◌}
 use native.Mathlib.Omega.{arith}
 use Rattle.automata.specs.Automata.{clocks}
 use Rattle.reachability.proofs.Lists.{nth_tail}
+use Rattle.reachability.specs.Branches.{path_of}
+use Rattle.reachability.specs.Search.{Came, first_zone}
+use Rattle.search.specs.Outcomes.{came_of}
+use Rattle.run_writer.specs.declared.branch.Branch.{Branch}
+use Rattle.run_writer.specs.Walks.{jumps_left}
 use Rattle.search.specs.Exploring.{SoundNode, SoundZone}
 use Rattle.search.specs.Instance.{ZoneNode}
 use Rattle.search.specs.Store.{origin_of, most_slots}
@@ -110,3 +115,8 @@ module _ {b : List ℕ} {amount : ℕ} {s : List ℤ} (e : Ended b amount s) whe
 
   pub jumps_few : {o : Origin} → Standing b amount o → jumps_before b amount o ≤ most_slots
   jumps_few st = omega (arith, jumps_most st, few e)
+
+-- none lead to the first zone
+pub no_jumps : (x : Branch) → came_of x.origin ≡ first_zone → jumps_left x ≡ 0
+unfolding path_of
+no_jumps x e = ap (λ (c : Came). length (path_of (kept_of x.automaton.bytes.now (length x.store.now)) c)) e

@@ -1,6 +1,6 @@
 -- The walk back over the slots: from a zone's origin to the slot that it names, and to that slot's own origin.
-use Prim.Native.Nat.{ℕ, suc, ◌+◌, ◌-◌, ◌*◌, ◌≤◌, ◌<◌}
-use mathlib.Core.Bool.{Bool, true, false, cond}
+use Prim.Native.Nat.{ℕ, suc, ◌+◌, ◌-◌, ◌*◌, ◌≤◌}
+use mathlib.Core.Bool.{true, false, cond}
 use mathlib.Core.List.{List, [], ◌∷◌, ◌++◌}
 use mathlib.Core.Path.{◌≡◌, refl, sym, ap, ◌∙◌, subst}
 use lib.IntN.{ℤ, pos}
@@ -136,14 +136,6 @@ module _ {b : List ℕ} {amount : ℕ} {o : Origin} (st : Standing b amount o) w
   pub none_left : is_along o ≡ false → jumps_before b amount o ≡ 0
   unfolding path_of
   none_left h = ap (λ c. length (path_of (kept_of b amount) c)) (first h)
-
-  -- where jumps are left, there is a slot
-  pub goes_on : {left : ℕ} → 0 < left → left ≡ jumps_before b amount o → is_along o ≡ true
-  goes_on {left} h g = go (is_along o) refl
-    where
-      go : (t : Bool) → is_along o ≡ t → is_along o ≡ true
-      go true e = e
-      go false e = absurd (omega (arith, h, g, none_left e))
 
   pub left_most : left_of o ≤ st.place
   left_most = subst (λ (x : Origin). left_of x ≤ st.place) st.told (left_branch b amount st.place st.node st.came st.branch)

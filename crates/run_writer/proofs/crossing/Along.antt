@@ -67,9 +67,9 @@ module _ (b : List ℕ) (a : Accepted b) (i : ℕ) (z : List Pair) (x : Crosses 
     live : is_empty r ≡ false
     live = ap is_empty e ∙ x.live.guarded
 
-    pub arrived_asks : (Accepted b × (edge.to < locations b)) × (Sized (10 * counts) (suc (clocks b)) r.work × Settled (suc (clocks b)) r.work)
+    pub arrived_asks : (edge.to < locations b) × (Sized (10 * counts) (suc (clocks b)) r.work × Settled (suc (clocks b)) r.work)
     arrived_asks = (
-      (a, arrives_at b a i x.edge (work_of z no_limit) x.sound whole_fits e live f),
+      arrives_at b a i x.edge (work_of z no_limit) x.sound whole_fits e live f,
       arrives b a i x.edge (work_of z no_limit) x.sound whole_fits e live,
     )
 

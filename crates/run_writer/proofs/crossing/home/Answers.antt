@@ -3,8 +3,8 @@ use Rattle.zones.proofs.places.Places.{home_stays, home_goes}
 use mathlib.Core.Path.{sym}
 use Rattle.run_writer.proofs.crossing.home.Goals as goal
 
-pub returns-then-marked-a : goal.returns-then-marked-a
-returns-then-marked-a c = sym (home_goes _ _ c.if-marked-a.true)
+pub returns-then-marked-a-clause-value : goal.returns-then-marked-a-clause-value
+returns-then-marked-a-clause-value c = sym (home_goes _ _ c.if-marked-a.true)
 
-pub returns-else-marked-a : goal.returns-else-marked-a
-returns-else-marked-a c = sym (home_stays _ _ c.if-marked-a.false)
+pub returns-else-marked-a-clause-value : goal.returns-else-marked-a-clause-value
+returns-else-marked-a-clause-value c = sym (home_stays _ _ c.if-marked-a.false)
