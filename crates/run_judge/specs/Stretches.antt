@@ -1,15 +1,22 @@
 -- A run judged in stretches: what holds where one ends.
-use Rattle.std.specs.Prelude.{ℕ, ◌<◌, ◌≡◌, Bool, List, ℤ, length}
+use Rattle.std.specs.Prelude.{ℕ, ◌<◌, ◌≡◌, Bool, List, length}
 use Rattle.std.specs.ControlFlow.{MatchControlFlow}
 use Rattle.std.specs.declared.ops.ControlFlow.{ControlFlow}
 use Rattle.run_judge.specs.declared.stretches.Left.{Left}
-use Rattle.run_judge.specs.Judging.{waits_from}
+use Rattle.run_judge.specs.Judging.{waits_from, jumps_from}
+
+-- what is left to judge comes to: with a wait first, with a jump first
+abbrev pub waits : Left → Bool
+waits l = waits_from l.ready.automaton.now l.numbers.now l.ready.state
+
+abbrev pub jumps : Left → Bool
+jumps l = jumps_from l.ready.automaton.now l.numbers.now l.ready.state
 
 -- what is left of the automaton b comes to t
-pub record Rest (b : List ℕ) (t : Bool) (q : Left) : Type 0 where
-  pub automaton : q.ready.automaton.now ≡ b
-  pub same : waits_from b q.numbers.now q.ready.state ≡ t
+pub record Rest (b : List ℕ) (t : Bool) (l : Left) : Type 0 where
+  pub automaton : l.ready.automaton.now ≡ b
+  pub same : waits l ≡ t
 
--- a stretch over the numbers zs that was to come to t: it comes to t, or what is left does, and that is fewer numbers
-abbrev pub Handed : List ℕ → List ℤ → Bool → ControlFlow Bool Left → Type 0
-Handed b zs t f = MatchControlFlow f (λ q. Rest b t q × (length q.numbers.now < length zs)) (λ u. u ≡ t)
+-- a stretch over l that was to come to t: it comes to t, or what is left does, and that is fewer numbers
+abbrev pub Handed : Left → Bool → ControlFlow Bool Left → Type 0
+Handed l t f = MatchControlFlow f (λ m. Rest l.ready.automaton.now t m × (length m.numbers.now < length l.numbers.now)) (λ u. u ≡ t)

@@ -2,8 +2,8 @@
 // of the calls does not grow with the buffer.
 ghost use Rattle.std.specs.Prelude.{◌≡◌};
 ghost use Rattle.automata.specs.Accepted.{Accepted};
-ghost use Rattle.run_judge.specs.Judging.{waits_from, jumps_from, begins};
-ghost use Rattle.run_judge.specs.Stretches.{Handed};
+ghost use Rattle.run_judge.specs.Judging.{begins};
+ghost use Rattle.run_judge.specs.Stretches.{waits, jumps, Handed};
 
 use crate::numbers::step;
 use crate::steps::Ready;
@@ -14,7 +14,7 @@ use std::ops::ControlFlow::{Break, Continue};
 // The pairs of a wait and a jump in a stretch, after the first.
 const FURTHER: usize = 31;
 
-// A state, and the numbers that are still to be judged from it, a wait first.
+// A state, and the numbers that are still to be judged from it.
 #[derive(Clone, Copy)]
 pub(crate) struct Left<'a> {
     pub ready: Ready<'a>,
@@ -26,36 +26,34 @@ type Stretch<'a> = ControlFlow<bool, Left<'a>>;
 
 // A wait and then the jump after it. At most `further` pairs more are judged before what is left is handed back.
 #[cycle(jump_step_wait_step)]
-fn wait_step<'a>(ready: Ready<'a>, numbers: &'a [i64], further: usize) -> Stretch<'a>
-    ensures { Handed ready.entry.automaton.now numbers.now (waits_from ready.entry.automaton.now numbers.now ready.entry.state) result }
+fn wait_step<'a>(left: Left<'a>, further: usize) -> Stretch<'a>
+    ensures { Handed left.entry (waits left.entry) result }
 {
-    let Some((z, rest)) = numbers.split_first() else {
+    let Some((z, numbers)) = left.numbers.split_first() else {
         return Break(false);
     };
-    let Some(next) = ready.wait(step(*z)) else {
+    let Some(ready) = left.ready.wait(step(*z)) else {
         return Break(false);
     };
-    jump_step(next, rest, further)
+    jump_step(Left { ready, numbers }, further)
 }
 
 // A jump and then the wait after it. At the end of the run the location decides.
 #[cycle(jump_step_wait_step)]
-fn jump_step<'a>(ready: Ready<'a>, numbers: &'a [i64], further: usize) -> Stretch<'a>
-    ensures { Handed ready.entry.automaton.now numbers.now (jumps_from ready.entry.automaton.now numbers.now ready.entry.state) result }
+fn jump_step<'a>(left: Left<'a>, further: usize) -> Stretch<'a>
+    ensures { Handed left.entry (jumps left.entry) result }
 {
-    let Some((z, rest)) = numbers.split_first() else {
-        return Break(ready.state.location == target(ready.automaton));
+    let Some((z, numbers)) = left.numbers.split_first() else {
+        return Break(left.ready.state.location == target(left.ready.automaton));
     };
-    let Some(next) = ready.jump(step(*z) as usize) else {
+    let Some(ready) = left.ready.jump(step(*z) as usize) else {
         return Break(false);
     };
+    let rest = Left { ready, numbers };
     if further == 0 {
-        return Continue(Left {
-            ready: next,
-            numbers: rest,
-        });
+        return Continue(rest);
     }
-    wait_step(next, rest, further - 1)
+    wait_step(rest, further - 1)
 }
 
 // Whether the numbers are those of a run that ends at the target.
@@ -68,7 +66,7 @@ pub(crate) fn passes<'a>(automaton: &'a [u8], numbers: &'a [i64]) -> bool
     };
     let mut left = Left { ready, numbers };
     loop {
-        match wait_step(left.ready, left.numbers, FURTHER) {
+        match wait_step(left, FURTHER) {
             Break(passed) => return passed,
             Continue(further) => left = further,
         }

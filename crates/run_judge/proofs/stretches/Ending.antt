@@ -10,7 +10,7 @@ use Rattle.run_judge.specs.declared.state.State.{State}
 use Rattle.run_judge.specs.declared.stretches.Left.{Left}
 use Rattle.run_judge.specs.Judging.{waits_from, begins}
 use Rattle.run_judge.specs.Moves.{first_move}
-use Rattle.run_judge.specs.Stretches.{Rest}
+use Rattle.run_judge.specs.Stretches.{waits, Rest}
 
 module _ (b : List ℕ) (zs : List ℤ) where
   pub begins_none : first_move b ≡ None → begins b zs ≡ false
@@ -22,8 +22,8 @@ module _ (b : List ℕ) (zs : List ℤ) where
   begins_some e = rw (e, begins) refl
 
 module _ (b : List ℕ) (t : Bool) (l : Left) (i : Rest b t l) where
-  pub rest_next : (m : Left) → Rest l.ready.automaton.now (waits_from l.ready.automaton.now l.numbers.now l.ready.state) m → Rest b t m
-  rest_next m k = record { automaton = k.automaton ∙ i.automaton; same = rw i.automaton at k.same ∙ i.same }
+  pub rest_next : (m : Left) → Rest l.ready.automaton.now (waits l) m → Rest b t m
+  rest_next m k = record { automaton = k.automaton ∙ i.automaton; same = k.same ∙ i.same }
 
-  pub rest_over : {u : Bool} → u ≡ waits_from l.ready.automaton.now l.numbers.now l.ready.state → u ≡ t
-  rest_over e = rw i.automaton at e ∙ i.same
+  pub rest_over : {u : Bool} → u ≡ waits l → u ≡ t
+  rest_over e = e ∙ i.same

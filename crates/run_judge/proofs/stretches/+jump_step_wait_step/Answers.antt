@@ -1,30 +1,32 @@
 -- `wait_step` and `jump_step` meet their contracts: they call each other, and the pairs that are left fall.
 -- Assumes nothing.
-use mathlib.Core.Path.{refl}
 use borrow.Author.Rules.{rules}
 use Rattle.run_judge.proofs.stretches.Stretches.{wait_over, wait_no, wait_on, jump_over, jump_no, jump_back, jump_on}
 use Rattle.run_judge.proofs.stretches.+jump_step_wait_step.Goals as goal
 
 pub jump_step-returns-in_default : goal.jump_step-returns-in_default
-jump_step-returns-in_default t c = jump_over _ _ _ c.in_default.ensures.cases c.target.ensures
+jump_step-returns-in_default t c = jump_over c.args.left c.in_default.ensures.cases c.target.ensures
 
 pub jump_step-returns-in_default-jump : goal.jump_step-returns-in_default-jump
-jump_step-returns-in_default-jump t c = jump_no _ _ c.in-Some.ensures.cases (search rules) c.step.ensures c.in_default-jump.ensures
+jump_step-returns-in_default-jump t c = jump_no c.args.left c.in-Some.ensures.cases (search rules) c.step.ensures c.in_default-jump.ensures
 
 pub jump_step-returns-then-further-eq0 : goal.jump_step-returns-then-further-eq0
 jump_step-returns-then-further-eq0 t c =
-    jump_back _ _ c.in-Some.ensures.cases (search rules) c.step.ensures _ c.in-Some-jump.ensures _ refl
+    jump_back c.args.left (record { ready = c.in-Some-jump.ready; numbers = c.in-Some.numbers }) c.in-Some.ensures.cases (search rules)
+    c.step.ensures c.in-Some-jump.ensures
 
 pub jump_step-returns : goal.jump_step-returns
 jump_step-returns t c =
-    jump_on _ _ c.in-Some.ensures.cases (search rules) c.step.ensures c.in-Some-jump.next c.in-Some-jump.ensures _ c.wait_step.ensures
+    jump_on c.args.left (record { ready = c.in-Some-jump.ready; numbers = c.in-Some.numbers }) c.in-Some.ensures.cases (search rules)
+    c.step.ensures c.in-Some-jump.ensures _ c.wait_step.ensures
 
 pub wait_step-returns-in_default : goal.wait_step-returns-in_default
-wait_step-returns-in_default t c = wait_over _ _ _ c.in_default.ensures.cases
+wait_step-returns-in_default t c = wait_over c.args.left c.in_default.ensures.cases
 
 pub wait_step-returns-in_default-wait : goal.wait_step-returns-in_default-wait
-wait_step-returns-in_default-wait t c = wait_no _ _ c.in-Some.ensures.cases (search rules) c.step.ensures c.in_default-wait.ensures
+wait_step-returns-in_default-wait t c = wait_no c.args.left c.in-Some.ensures.cases (search rules) c.step.ensures c.in_default-wait.ensures
 
 pub wait_step-returns : goal.wait_step-returns
 wait_step-returns t c =
-    wait_on _ _ c.in-Some.ensures.cases (search rules) c.step.ensures c.in-Some-wait.next c.in-Some-wait.ensures _ c.jump_step.ensures
+    wait_on c.args.left (record { ready = c.in-Some-wait.ready; numbers = c.in-Some.numbers }) c.in-Some.ensures.cases (search rules)
+    c.step.ensures c.in-Some-wait.ensures _ c.jump_step.ensures

@@ -10,7 +10,7 @@ returns-in_default c = sym (begins_none _ _ c.in_default.ensures)
 pub loop-passed-init : goal.loop-passed-init
 loop-passed-init c =
     let l = c.in-Some.ensures in
-    record { automaton = l.0; same = sym (begins_some _ _ l.1) }
+    record { automaton = l.0; same = rw l.0 (sym (begins_some _ _ l.1)) }
 
 pub returns-in-Break : goal.returns-in-Break
 returns-in-Break c = rest_over _ _ _ c.loop-passed.invariant c.in-Break.ensures
