@@ -79,12 +79,15 @@ module _ (b : List ℕ) (a : Accepted b) where
     wait_tells t {p} = go (ltb scale t) refl (meets_invariant b l (waited t (clocks b) q.clocks)) refl
       where
         go : (u : Bool) → ltb scale t ≡ u → (w : Bool) → meets_invariant b l (waited t (clocks b) q.clocks) ≡ w →
-            cond u None (cond w (Some (record { location = l; clocks = waited t (clocks b) q.clocks })) None) ≡ Some p → (t ≤ scale) × Made l v p (wait t)
+            cond u None (cond w (Some (record { location = l; clocks = waited t (clocks b) q.clocks })) None) ≡ Some p →
+            (t ≤ scale) × Made l v p (wait t)
         go true f w g e = true_false (sym (ap is_some e))
         go false f false g e = true_false (sym (ap is_some e))
         go false f true g e =
             let s = waits_agree q.clocks v y l t in
-            (ltb-false scale t f, subst (λ p. Made l v p (wait t)) (ap (λ o. unwrap_or o p) e) (record { can = invariant_means _ _ s l g; location = refl; agrees = s }))
+            let made : Made l v (record { location = l; clocks = waited t (clocks b) q.clocks }) (wait t) =
+            record { can = invariant_means _ _ s l g; location = refl; agrees = s } in
+            (ltb-false scale t f, subst (λ p. Made l v p (wait t)) (ap (λ o. unwrap_or o p) e) made)
 
     pub jump_tells : (i : ℕ) {p : State} → jump_move b q i ≡ Some p → (i < edges b) × Made l v p (jump i)
     unfolding jump_move edge_move
