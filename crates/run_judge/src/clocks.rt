@@ -26,11 +26,10 @@ pub(crate) fn within(automaton: &[u8], at: usize, n: usize, clocks: [u64; 8]) ->
 }
 
 // A wait adds its time units to the first n clocks.
-pub(crate) fn later(old: [u64; 8], t: u64, n: usize) -> [u64; 8]
-    requires { (n ≤ 8) × (t ≤ scale) × LowClocks old }
-    ensures { result ≡ waited t n old }
+pub(crate) fn later(mut clocks: [u64; 8], t: u64, n: usize) -> [u64; 8]
+    requires { (n ≤ 8) × (t ≤ scale) × LowClocks clocks }
+    ensures { result ≡ waited t n clocks }
 {
-    let mut clocks = old;
     for x in 0..n {
         clocks[x] += t;
     }
@@ -38,11 +37,10 @@ pub(crate) fn later(old: [u64; 8], t: u64, n: usize) -> [u64; 8]
 }
 
 // A jump puts those of the first n clocks to 0 that the edge resets, by clock from 1.
-pub(crate) fn reset(old: [u64; 8], resets: [bool; 9], n: usize) -> [u64; 8]
+pub(crate) fn reset(mut clocks: [u64; 8], resets: [bool; 9], n: usize) -> [u64; 8]
     requires { n ≤ 8 }
-    ensures { result ≡ reset_by (marked_in resets) n old }
+    ensures { result ≡ reset_by (marked_in resets) n clocks }
 {
-    let mut clocks = old;
     for x in 0..n {
         if resets[x + 1] {
             clocks[x] = 0;

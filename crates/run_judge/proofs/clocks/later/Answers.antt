@@ -17,7 +17,7 @@ overflow_add-clocks c =
     let pre = c.requires in
     let x = c.loop-x.x in
     rw c.loop-x.invariant.1
-    (record { fits = omega (arith, waited_past c.args.t c.args.old x x (omega arith), pre.2.low x (omega arith)) })
+    (record { fits = omega (arith, waited_past c.args.t c.args.clocks x x (omega arith), pre.2.low x (omega arith)) })
 
 pub loop-x-preserved : goal.loop-x-preserved
 loop-x-preserved c = (simp length-set c.loop-x.invariant.0, waited_next _ _ _ _ c.loop-x.invariant.1)
