@@ -1,6 +1,12 @@
 -- The numbers of a buffer as naturals.
-use Rattle.std.specs.Prelude.{ℕ, ◌+◌, cond, ltb, ℤ, pos, negsuc}
+use Rattle.std.specs.Prelude.{ℕ, ◌+◌, cond, ltb, leb, ℤ, pos, negsuc, Option, None}
+use Rattle.std.specs.Bool.{then_some}
 use Rattle.runs.specs.Limits.{scale}
+
+-- a number from 0 to k
+unfoldable pub natural : ℤ → ℕ → Option ℕ
+natural (pos n) k = then_some (leb n k) n
+natural (negsuc n) k = None
 
 -- a wait or an edge; a number that no run has becomes one more than the scale
 unfoldable pub capped : ℤ → ℕ

@@ -5,6 +5,7 @@
 mod clocks;
 pub mod judgement;
 mod numbers;
+mod state;
 mod steps;
 mod stretches;
 
@@ -15,7 +16,7 @@ ghost use Rattle.run_judge.specs.Passing.{Passes};
 
 use automata::refusal;
 use judgement::Judgement;
-use numbers::count_at;
+use numbers::count;
 use stretches::passes;
 
 // Whether the buffer begins with a run of the automaton that ends at the target.
@@ -27,11 +28,14 @@ pub fn judge(automaton: &[u8], run: &[i64]) -> Judgement
     if number != 0 {
         return Judgement::Refused(number);
     }
-    if run.len() == 0 {
+    let Some(first) = run.first() else {
+        return Judgement::No;
+    };
+    let end = count(*first, run.len());
+    if end == 0 {
         return Judgement::No;
     }
-    let end = count_at(run);
-    if passes(automaton, run, end) {
+    if passes(automaton, &run[1..end]) {
         Judgement::Yes
     } else {
         Judgement::No

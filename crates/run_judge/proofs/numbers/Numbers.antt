@@ -1,83 +1,75 @@
--- What the tests of `number` and `count` show.
+-- What is made of the numbers of a buffer.
 -- Assumes nothing.
-use Prim.Native.Nat.{ℕ, ◌≤◌, ◌<◌}
-use mathlib.Core.Path.{◌≡◌, refl}
+use Prim.Native.Nat.{ℕ, ◌+◌, ◌≤◌}
+use mathlib.Core.List.{List, [], ◌∷◌}
+use mathlib.Core.Path.{◌≡◌, refl, ap, ◌∙◌}
 use mathlib.Core.Bool.{Bool, true, false, cond}
 use native.Mathlib.Omega.{arith}
-use borrow.Author.Tests.{ltb-true, ltb-false, lt-ltb, le-ltb}
-use lib.Dec.{T, ltb}
+use borrow.Author.Tests.{ltb-true, ltb-false, le-ltb, le-leb, lt-leb}
+use lib.Dec.{ltb, leb}
 use lib.IntN.{ℤ, pos, negsuc, nat_abs}
-use lib.Signed.{lt_z, non_neg}
+use lib.ListN.{get_or}
 use mir.Syntax.{w64}
-use mir.Val.{SFits, Fits, to_z, of_z}
+use mir.Val.{SFits, to_z, of_z}
 use mir.Facts.{to_z-of_z}
+use Rattle.std.specs.Bool.{then_some}
+use Rattle.std.specs.Int.{FitsUnsignedBits}
+use Rattle.std.specs.List.{slice_get}
+use Rattle.std.specs.Option.{is_some, unwrap_or}
+use Rattle.std.specs.Prelude.{Option, None, Some, Result, Ok, Err, OkIff}
+use Rattle.std.specs.Result.{result_ok}
 use Rattle.runs.specs.Limits.{scale}
 use Rattle.runs.proofs.Contradictions.{true_false}
-use Rattle.run_judge.specs.Numbers.{capped, count_of}
+use Rattle.run_judge.specs.Numbers.{natural, capped, count_of}
+
+-- ---- as the code finds them
+abbrev pub bounded : ℕ → Option ℕ → Option ℕ
+bounded k None = None
+bounded k (Some n) = then_some (leb n k) n
 
 -- z as the code holds it
-module _ (z : ℤ) (h : SFits w64 z) where
+module _ (z : ℤ) (h : SFits w64 z) (k : ℕ) where
   abbrev held : ℤ
   held = to_z w64 (of_z w64 z)
 
-  is : to_z w64 (of_z w64 z) ≡ z
-  is = to_z-of_z h
-
-  pub capped_low : lt_z held (pos 0) ≡ true → 1000001 ≡ capped z
-  unfolding capped
-  capped_low e = go z (rw is at e)
+  pub natural_is : {E : Type 0} (r : Result ℕ E) → OkIff r (FitsUnsignedBits 64 held) (nat_abs held) → bounded k (result_ok r) ≡ natural z k
+  unfolding natural
+  natural_is r g = let is : held ≡ z = to_z-of_z h in go z h r (rw is at g)
     where
-      go : (y : ℤ) → lt_z y (pos 0) ≡ true → 1000001 ≡ capped y
-      go (pos n) f = absurd (omega (arith, ltb-true n 0 f))
-      go (negsuc n) f = refl
+      go : {E : Type 0} (y : ℤ) → SFits w64 y → (r : Result ℕ E) → OkIff r (FitsUnsignedBits 64 y) (nat_abs y) → bounded k (result_ok r) ≡ natural y k
+      go (pos m) s (Ok x) g = ap (λ (n : ℕ). then_some (leb n k) n) g.1
+      go (pos m) s (Err e) g = absurd (g (omega (arith, s.sfits)))
+      go (negsuc m) s (Ok x) g = absurd g.0
+      go (negsuc m) s (Err e) g = refl
 
-  pub capped_high : lt_z (pos 1000000) held ≡ true → 1000001 ≡ capped z
-  unfolding capped
-  capped_high e = go z (rw is at e)
+or_else : (n k d : ℕ) → unwrap_or (then_some (leb n k) n) d ≡ cond (ltb k n) d n
+or_else n k d = go (ltb k n) refl
+  where
+    go : (t : Bool) → ltb k n ≡ t → unwrap_or (then_some (leb n k) n) d ≡ cond t d n
+    go true e = rw (lt-leb n k (ltb-true k n e))
+    go false e = rw (le-leb n k (ltb-false k n e))
+
+module _ (z : ℤ) (h : SFits w64 z) where
+  pub capped_is : unwrap_or (natural (to_z w64 (of_z w64 z)) scale) (scale + 1) ≡ capped z
+  unfolding natural capped
+  capped_is = rw (to_z-of_z h) (go z)
     where
-      go : (y : ℤ) → lt_z (pos 1000000) y ≡ true → 1000001 ≡ capped y
-      go (pos n) f = rw f
-      go (negsuc n) f = refl
+      go : (y : ℤ) → unwrap_or (natural y scale) (scale + 1) ≡ capped y
+      go (pos n) = or_else n scale (scale + 1)
+      go (negsuc n) = refl
 
-  pub natural : lt_z held (pos 0) ≡ false → T (non_neg held) × Fits w64 (nat_abs held)
-  natural e = rw is (go z h (rw is at e))
+  pub count_is : (k : ℕ) → unwrap_or (natural (to_z w64 (of_z w64 z)) k) 0 ≡ count_of z k
+  unfolding natural count_of
+  count_is k = rw (to_z-of_z h) (go z)
     where
-      go : (y : ℤ) → SFits w64 y → lt_z y (pos 0) ≡ false → T (non_neg y) × Fits w64 (nat_abs y)
-      go (pos n) g f = (tt, record { fits = omega (arith, g.sfits) })
-      go (negsuc n) g f = true_false f
+      go : (y : ℤ) → unwrap_or (natural y k) 0 ≡ count_of y k
+      go (pos n) = or_else n k 0
+      go (negsuc n) = refl
 
-  pub capped_is : lt_z held (pos 0) ≡ false → lt_z (pos 1000000) held ≡ false → nat_abs held ≡ capped z
-  unfolding capped
-  capped_is e k = rw is (go z (rw is at e) (rw is at k))
-    where
-      go : (y : ℤ) → lt_z y (pos 0) ≡ false → lt_z (pos 1000000) y ≡ false → nat_abs y ≡ capped y
-      go (pos n) f g = rw g
-      go (negsuc n) f g = true_false f
-
-  module _ (k : ℕ) where
-    pub count_low : lt_z held (pos 0) ≡ true → 0 ≡ count_of z k
-    unfolding count_of
-    count_low e = go z (rw is at e)
-      where
-        go : (y : ℤ) → lt_z y (pos 0) ≡ true → 0 ≡ count_of y k
-        go (pos n) f = absurd (omega (arith, ltb-true n 0 f))
-        go (negsuc n) f = refl
-
-    pub count_high : lt_z held (pos 0) ≡ false → k < nat_abs held → 0 ≡ count_of z k
-    unfolding count_of
-    count_high e l = go z (rw is at e) (rw is at l)
-      where
-        go : (y : ℤ) → lt_z y (pos 0) ≡ false → k < nat_abs y → 0 ≡ count_of y k
-        go (pos n) f g = rw (lt-ltb k n g)
-        go (negsuc n) f g = true_false f
-
-    pub count_is : lt_z held (pos 0) ≡ false → nat_abs held ≤ k → nat_abs held ≡ count_of z k
-    unfolding count_of
-    count_is e l = rw is (go z (rw is at e) (rw is at l))
-      where
-        go : (y : ℤ) → lt_z y (pos 0) ≡ false → nat_abs y ≤ k → nat_abs y ≡ count_of y k
-        go (pos n) f g = rw (le-ltb k n g)
-        go (negsuc n) f g = true_false f
+-- the count, of the first number
+pub counted : (r : List ℤ) {z : ℤ} → SFits w64 z → Some z ≡ slice_get r 0 → to_z w64 (of_z w64 z) ≡ get_or r 0 (pos 0)
+counted [] h e = true_false (ap is_some e)
+counted (x ∷ xs) {z} h e = to_z-of_z h ∙ ap (λ (o : Option ℤ). unwrap_or o z) e
 
 -- ---- of any number
 pub capped_top : (z : ℤ) → capped z ≤ 1000001

@@ -8,8 +8,9 @@ use Rattle.automata.specs.Automata.{clocks, edge_at}
 use Rattle.automata.proofs.fields.Counting.{clocks≡, edge≡, few_clocks, asks_edge}
 use Rattle.automata.proofs.fields.Places.{edge-within}
 use Rattle.run_judge.specs.Clocks.{within_at}
-use Rattle.run_judge.proofs.clocks.meets_guard.Goals as goal
-use Rattle.run_judge.proofs.clocks.meets_guard.Goals.{After-edge_at}
+use Rattle.run_judge.proofs.clocks.Showing.{all_within}
+use Rattle.run_judge.proofs.state.State.meets_guard.Goals as goal
+use Rattle.run_judge.proofs.state.State.meets_guard.Goals.{After-edge_at}
 
 pub edge_at-requires : goal.edge_at-requires
 edge_at-requires c = let pre = c.requires in asks_edge _ c.counts_of-counts.ensures pre.0 pre.1
@@ -30,18 +31,10 @@ overflow_add-edge_at c = let w = (goal.at.overflow_add-edge_at c).After-edge_at 
 
 pub within-requires : goal.within-requires
 within-requires c =
-    let pre = c.requires in (
-      pre.0,
-      few_clocks _ c.counts_of-counts.ensures pre.0,
-      omega (
-        arith,
-        size≡ (goal.at.within-requires c).After-edge_at,
-        at≡ (goal.at.within-requires c).After-edge_at,
-        inside (goal.at.within-requires c).After-edge_at,
-      ),
-    )
+    let w = (goal.at.within-requires c).After-edge_at in
+    (c.requires.0, few_clocks _ c.counts_of-counts.ensures c.requires.0, omega (arith, size≡ w, at≡ w, inside w))
 
 pub returns : goal.returns
 returns c =
-    c.within.ensures ∙ (λ j. within_at c.args.automaton.now (at≡ (goal.at.returns c).After-edge_at j + 3) c.args.clocks
-    (size≡ (goal.at.returns c).After-edge_at j))
+    let w = (goal.at.returns c).After-edge_at in
+    all_within _ _ _ _ c.within.ensures ∙ (λ j. within_at c.args.automaton.now (at≡ w j + 3) c.args.self.clocks (size≡ w j))
