@@ -1,10 +1,10 @@
 -- The judge, as a definition over the automaton's bytes and the buffer's numbers.
-use Rattle.std.specs.Prelude.{ℕ, Bool, true, false, cond, List, [], ◌∷◌, eqb, ℤ, pos, length, get_or, Some, None}
+use Rattle.std.specs.Prelude.{ℕ, Bool, false, cond, List, [], ◌∷◌, eqb, ℤ, pos, length, get_or, Some, None, Result, Ok, Err}
 use Rattle.std.proofs.Math.Seq.{slice}
 use Rattle.automata.specs.Automata.{target}
+use Rattle.automata.specs.Numbers.{named}
 use Rattle.automata.specs.Refusals.{refusal_of}
-use Rattle.run_judge.specs.declared.judgement.Judgement.{Judgement}
-use Rattle.run_judge.specs.declared.judgement.Judgement.TheVariants.{Refused, Yes, No}
+use Rattle.automata.specs.declared.refusals.Refusal.{Refusal}
 use Rattle.run_judge.specs.declared.state.State.{State}
 use Rattle.run_judge.specs.Moves.{first_move, wait_move, jump_move}
 use Rattle.run_judge.specs.Numbers.{capped, count_of}
@@ -28,10 +28,6 @@ begins b zs = elim (first_move b) [ Some q ↦ waits_from b zs q | None ↦ fals
 unfoldable pub passes_to : List ℕ → List ℤ → ℕ → Bool
 passes_to b r end = cond (eqb end 0) false (begins b (slice 1 end r))
 
-abbrev pub answer : Bool → Judgement
-answer true = Yes
-answer false = No
-
 -- "refuses by 1 to 8", else yes or no. That yes is said exactly of runs is the second clause of `judge`, by `Passes`
-unfoldable pub judgement_of : List ℕ → List ℤ → Judgement
-judgement_of b r = cond (eqb (refusal_of b) 0) (answer (passes_to b r (count_of (get_or r 0 (pos 0)) (length r)))) (Refused (refusal_of b))
+unfoldable pub judgement_of : List ℕ → List ℤ → Result Bool Refusal
+judgement_of b r = cond (eqb (refusal_of b) 0) (Ok (passes_to b r (count_of (get_or r 0 (pos 0)) (length r)))) (Err (named (refusal_of b)))

@@ -7,16 +7,16 @@ use Rattle.run_judge.specs.Judging.{waits_from, jumps_from}
 
 -- what is left to judge comes to: with a wait first, with a jump first
 abbrev pub waits : Left → Bool
-waits l = waits_from l.ready.automaton.now l.numbers.now l.ready.state
+waits l = waits_from l.ready.automaton.now.bytes.now l.numbers.now l.ready.state
 
 abbrev pub jumps : Left → Bool
-jumps l = jumps_from l.ready.automaton.now l.numbers.now l.ready.state
+jumps l = jumps_from l.ready.automaton.now.bytes.now l.numbers.now l.ready.state
 
 -- what is left of the automaton b comes to t
 pub record Rest (b : List ℕ) (t : Bool) (l : Left) : Type 0 where
-  pub automaton : l.ready.automaton.now ≡ b
+  pub automaton : l.ready.automaton.now.bytes.now ≡ b
   pub same : waits l ≡ t
 
 -- a stretch over l that was to come to t: it comes to t, or what is left does, and that is fewer numbers
 abbrev pub Handed : Left → Bool → ControlFlow Bool Left → Type 0
-Handed l t f = MatchControlFlow f (λ m. Rest l.ready.automaton.now t m × (length m.numbers.now < length l.numbers.now)) (λ u. u ≡ t)
+Handed l t f = MatchControlFlow f (λ m. Rest l.ready.automaton.now.bytes.now t m × (length m.numbers.now < length l.numbers.now)) (λ u. u ≡ t)

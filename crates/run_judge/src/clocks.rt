@@ -1,28 +1,24 @@
 // The clocks of a state in whole time units with no loosening: whether they are within limits, and what a wait and a reset leave.
 ghost use Rattle.std.specs.Prelude.{◌≡◌, ◌+◌, ◌*◌, ◌≤◌, ◌↔◌, IsTrue, length};
 ghost use Rattle.runs.specs.Limits.{scale};
-ghost use Rattle.automata.specs.Accepted.{Accepted};
 ghost use Rattle.run_judge.specs.Clocks.{holds, EachHolds, waited, reset_by, marked_in, LowClocks};
 
-use automata::fields::NO_UPPER;
-use automata::opened::limits_of;
+use automata::fields::Limits;
+use automata::opened::Automaton;
 
-// Whether a clock is within lo and hi.
-fn holds_limit(lo: u32, hi: u32, y: u64) -> bool
-    ensures { result ≡ holds lo hi y }
+// Whether a clock is within its limits.
+fn holds(limits: Limits, y: u64) -> bool
+    ensures { result ≡ holds limits.lo limits.hi y }
 {
-    lo as u64 <= y && (hi == NO_UPPER || y <= hi as u64)
+    u64::from(limits.lo) <= y && limits.upper().is_none_or(|hi| y <= u64::from(hi))
 }
 
-// Whether the first n clocks are within the limits at `at`.
-pub(crate) fn within(automaton: &[u8], at: usize, n: usize, clocks: [u64; 8]) -> bool
-    requires { Accepted automaton.now × (n ≤ 8) × (at + 8 * n ≤ length automaton.now) }
-    ensures { IsTrue result ↔ EachHolds automaton.now at clocks n }
+// Whether the automaton's clocks are within the limits at `at`.
+pub(crate) fn within(automaton: &Automaton, at: usize, clocks: [u64; 8]) -> bool
+    requires { at + 8 * automaton.now.clocks ≤ length automaton.now.bytes.now }
+    ensures { IsTrue result ↔ EachHolds automaton.now.bytes.now at clocks automaton.now.clocks }
 {
-    (0..n).all(|x| {
-        let limits = limits_of(automaton, at, x + 1);
-        holds_limit(limits.lo, limits.hi, clocks[x])
-    })
+    (0..automaton.clocks).all(|x| holds(automaton.limits(at, x + 1), clocks[x]))
 }
 
 // A wait adds its time units to the first n clocks.

@@ -3,41 +3,32 @@
 #![tactic(auto)]
 
 mod clocks;
-pub mod judgement;
 mod numbers;
 mod state;
 mod steps;
 mod stretches;
 
-ghost use Rattle.std.specs.Prelude.{◌↔◌, ◌≡◌};
-ghost use Rattle.run_judge.specs.declared.judgement.Judgement.TheVariants.{Yes};
+ghost use Rattle.std.specs.Prelude.{◌↔◌, ◌≡◌, Ok, true};
 ghost use Rattle.run_judge.specs.Judging.{judgement_of};
 ghost use Rattle.run_judge.specs.Passing.{Passes};
 
-use automata::refusal;
-use judgement::Judgement;
+use automata::opened::Automaton;
+use automata::refusals::Refusal;
 use numbers::count;
 use stretches::passes;
 
 // Whether the buffer begins with a run of the automaton that ends at the target.
-pub fn judge(automaton: &[u8], run: &[i64]) -> Judgement
+pub fn judge(automaton: &[u8], run: &[i64]) -> Result<bool, Refusal>
     ensures value { result ≡ judgement_of automaton.now run.now }
-    ensures yes { (result ≡ Yes) ↔ Passes automaton.now run.now }
+    ensures yes { (result ≡ Ok true) ↔ Passes automaton.now run.now }
 {
-    let number = refusal(automaton);
-    if number != 0 {
-        return Judgement::Refused(number);
-    }
+    let automaton = Automaton::open(automaton)?;
     let Some(first) = run.first() else {
-        return Judgement::No;
+        return Ok(false);
     };
     let end = count(*first, run.len());
     if end == 0 {
-        return Judgement::No;
+        return Ok(false);
     }
-    if passes(automaton, &run[1..end]) {
-        Judgement::Yes
-    } else {
-        Judgement::No
-    }
+    Ok(passes(&automaton, &run[1..end]))
 }

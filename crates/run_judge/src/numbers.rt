@@ -2,8 +2,7 @@
 ghost use Rattle.std.specs.Prelude.{◌≡◌};
 ghost use Rattle.run_judge.specs.Numbers.{natural, capped, count_of};
 
-// The largest lo and hi.
-pub(crate) const SCALE: u64 = 1000000;
+use automata::refusals::SCALE;
 
 // A number from 0 to `most`.
 fn natural(z: i64, most: u64) -> Option<u64>
@@ -17,7 +16,8 @@ fn natural(z: i64, most: u64) -> Option<u64>
 pub(crate) fn step(z: i64) -> u64
     ensures { result ≡ capped z }
 {
-    natural(z, SCALE).unwrap_or(SCALE + 1)
+    let scale = u64::from(SCALE);
+    natural(z, scale).unwrap_or(scale + 1)
 }
 
 // The count that a run begins with, or 0 where it is negative or there are fewer numbers.

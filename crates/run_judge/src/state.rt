@@ -1,11 +1,10 @@
 // A state in whole time units with no loosening, and the tests of its clocks.
 ghost use Rattle.std.specs.Prelude.{◌≡◌, ◌<◌};
-ghost use Rattle.automata.specs.Accepted.{Accepted};
 ghost use Rattle.automata.specs.Automata.{edges, locations};
 ghost use Rattle.run_judge.specs.Clocks.{meets_invariant, meets_guard};
 
 use crate::clocks::within;
-use automata::opened::counts_of;
+use automata::opened::Automaton;
 
 // A location and eight clocks, clock 1 first, of which those of the automaton count.
 #[derive(Clone, Copy)]
@@ -16,25 +15,22 @@ pub(crate) struct State {
 
 impl State {
     // Whether the clocks are within the invariant of the location.
-    pub(crate) fn meets_invariant(self, automaton: &[u8]) -> bool
-        requires { Accepted automaton.now × (self.location < locations automaton.now) }
-        ensures { result ≡ meets_invariant automaton.now self.location self.clocks }
+    pub(crate) fn meets_invariant(self, automaton: &Automaton) -> bool
+        requires { self.location < locations automaton.now.bytes.now }
+        ensures { result ≡ meets_invariant automaton.now.bytes.now self.location self.clocks }
     {
-        let counts = counts_of(automaton);
         within(
             automaton,
-            counts.invariant_at(self.location),
-            counts.clocks,
+            automaton.invariant_at(self.location),
             self.clocks,
         )
     }
 
     // Whether the clocks are within the guard of edge i.
-    pub(crate) fn meets_guard(self, automaton: &[u8], i: usize) -> bool
-        requires { Accepted automaton.now × (i < edges automaton.now) }
-        ensures { result ≡ meets_guard automaton.now i self.clocks }
+    pub(crate) fn meets_guard(self, automaton: &Automaton, i: usize) -> bool
+        requires { i < edges automaton.now.bytes.now }
+        ensures { result ≡ meets_guard automaton.now.bytes.now i self.clocks }
     {
-        let counts = counts_of(automaton);
-        within(automaton, counts.edge_at(i) + 3, counts.clocks, self.clocks)
+        within(automaton, automaton.edge_at(i) + 3, self.clocks)
     }
 }

@@ -1,13 +1,12 @@
 // "a wait is followed by a jump and a jump by a wait, waits at both ends": a run is judged in stretches of 64 numbers, so that the depth
 // of the calls does not grow with the buffer.
 ghost use Rattle.std.specs.Prelude.{◌≡◌};
-ghost use Rattle.automata.specs.Accepted.{Accepted};
 ghost use Rattle.run_judge.specs.Judging.{begins};
 ghost use Rattle.run_judge.specs.Stretches.{waits, jumps, Handed};
 
 use crate::numbers::step;
 use crate::steps::Ready;
-use automata::fields::target;
+use automata::opened::Automaton;
 use std::ops::ControlFlow;
 use std::ops::ControlFlow::{Break, Continue};
 
@@ -44,7 +43,7 @@ fn jump_step<'a>(left: Left<'a>, further: usize) -> Stretch<'a>
     ensures { Handed left.entry (jumps left.entry) result }
 {
     let Some((z, numbers)) = left.numbers.split_first() else {
-        return Break(left.ready.state.location == target(left.ready.automaton));
+        return Break(left.ready.state.location == left.ready.automaton.target());
     };
     let Some(ready) = left.ready.jump(step(*z) as usize) else {
         return Break(false);
@@ -57,9 +56,8 @@ fn jump_step<'a>(left: Left<'a>, further: usize) -> Stretch<'a>
 }
 
 // Whether the numbers are those of a run that ends at the target.
-pub(crate) fn passes<'a>(automaton: &'a [u8], numbers: &'a [i64]) -> bool
-    requires { Accepted automaton.now }
-    ensures { result ≡ begins automaton.now numbers.now }
+pub(crate) fn passes<'a>(automaton: &'a Automaton<'a>, numbers: &'a [i64]) -> bool
+    ensures { result ≡ begins automaton.now.bytes.now numbers.now }
 {
     let Some(ready) = Ready::first(automaton) else {
         return false;

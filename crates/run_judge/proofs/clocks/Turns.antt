@@ -2,14 +2,16 @@
 -- Assumes nothing.
 use Prim.Native.Nat.{ℕ, ◌+◌, ◌≤◌, ◌<◌}
 use mathlib.Core.Path.{◌≡◌, refl}
-use mathlib.Core.Bool.{Bool, true, false}
+use mathlib.Core.Bool.{Bool, true, false, cond}
 use mathlib.Core.List.{List}
 use native.Mathlib.Omega.{arith}
 use native.Mathlib.Numerals.{add-one}
-use borrow.Author.Tests.{lt-ltb, le-ltb, eq-eqb, ne_eqb}
-use lib.Dec.{leb}
+use borrow.Author.Tests.{lt-ltb, le-ltb}
+use lib.Dec.{leb, eqb}
 use lib.ListN.{get_or, set}
+use Rattle.std.specs.Prelude.{Option, None, Some, MatchOption, IsTrue}
 use Rattle.automata.specs.Automata.{no_upper}
+use Rattle.automata.specs.Opened.{upper_of}
 use Rattle.run_judge.specs.Clocks.{holds, waited, reset_by}
 use Rattle.run_judge.proofs.clocks.Showing.{waited_past}
 
@@ -19,13 +21,14 @@ module _ (lo hi y : ℕ) where
   unfolding holds
   holds_low h = rw (lt-ltb y lo h)
 
-  pub holds_free : lo ≤ y → hi ≡ no_upper → true ≡ holds lo hi y
-  unfolding holds
-  holds_free h e = rw (le-ltb y lo h) (rw (eq-eqb hi no_upper e))
-
-  pub holds_most : lo ≤ y → (hi ≡ no_upper → ⊥) → leb y hi ≡ holds lo hi y
-  unfolding holds
-  holds_most h e = rw (le-ltb y lo h) (rw (ne_eqb hi no_upper e))
+  -- where there is a hi it decides
+  pub holds_upper : lo ≤ y → {o : Option ℕ} {r : Bool} → o ≡ upper_of hi → MatchOption o (IsTrue r) (λ x. r ≡ leb y x) → r ≡ holds lo hi y
+  unfolding holds upper_of
+  holds_upper h {o} {r} e m = rw (le-ltb y lo h) (go (eqb hi no_upper) (rw e at m))
+    where
+      go : (t : Bool) → MatchOption (cond t None (Some hi)) (IsTrue r) (λ x. r ≡ leb y x) → r ≡ cond t true (leb y hi)
+      go true g = g
+      go false g = g
 
 -- ---- the steps, upwards
 pub waited_next : (t k : ℕ) (c d : List ℕ) → d ≡ waited t k c → set d k (get_or d k 0 + t) ≡ waited t (k + 1) c

@@ -1,30 +1,33 @@
 -- `judge` meets its contract.
 -- Assumes nothing.
-use Prim.Native.Nat.{◌≤◌}
+use Prim.Native.Nat.{ℕ, ◌≤◌}
 use mathlib.Core.Path.{◌≡◌, sym, ap, ◌∙◌}
 use native.Mathlib.Omega.{arith}
 use borrow.Author.Rules.{rules}
+use denote.Ref.{Bor}
+use mathlib.Core.List.{List}
 use lib.IntN.{ℤ, pos}
 use lib.ListN.{length, get_or}
+use Rattle.std.proofs.lemmas.Result.{err_from_is_err_and}
 use Rattle.automata.specs.Refusals.{refusal_of}
-use Rattle.automata.proofs.accepting.Accepting.{accepted}
 use Rattle.run_judge.specs.Numbers.{count_of}
 use Rattle.run_judge.proofs.numbers.Numbers.{counted, count_top}
 use Rattle.run_judge.proofs.passing.Passing.{refused_says, empty_says, none_says, some_says, says}
 use Rattle.run_judge.proofs.judge.Goals as goal
-use Rattle.run_judge.proofs.judge.Goals.{Else-number-ne0, After-count-end}
+use Rattle.run_judge.proofs.judge.Goals.{In_ok-automaton, After-count-end}
 
-pub returns-then-number-ne0 : goal.returns-then-number-ne0
-returns-then-number-ne0 c =
-    let e = refused_says _ _ c.refusal-number.ensures c.if-number-ne0.true in
-    record { value = e; yes = says _ _ _ e }
+pub returns-in_err-automaton : goal.returns-in_err-automaton
+returns-in_err-automaton c =
+    let p = err_from_is_err_and c.from_residual.result c.from_residual.ensures.1 in
+    let e = refused_says _ _ c.in_err-automaton.ensures.refusal in
+    rw (p.1, p.2) (record { value = e; yes = says _ _ _ e })
 
-free : (c : Else-number-ne0) → refusal_of c.args.automaton.now ≡ 0
-free c = sym c.refusal-number.ensures ∙ c.if-number-ne0.false
+free : (c : In_ok-automaton) → refusal_of c.args.automaton.now ≡ 0
+free c = sym c.in_ok-automaton.ensures.refusal
 
 pub returns-in_default : goal.returns-in_default
 returns-in_default c =
-    let e = empty_says _ _ (free (goal.at.returns-in_default c).Else-number-ne0) c.in_default.ensures.value in
+    let e = empty_says _ _ (free (goal.at.returns-in_default c).In_ok-automaton) c.in_default.ensures.value in
     record { value = e; yes = says _ _ _ e }
 
 -- ---- with a first number
@@ -38,25 +41,15 @@ module _ (c : After-count-end) where
 pub returns-then-end-eq0 : goal.returns-then-end-eq0
 returns-then-end-eq0 c =
     let w = goal.at.returns-then-end-eq0 c in
-    let e = none_says _ _ (free w.Else-number-ne0) (is w.After-count-end) c.if-end-eq0.true in
+    let e = none_says _ _ (free w.In_ok-automaton) (is w.After-count-end) c.if-end-eq0.true in
     record { value = e; yes = says _ _ _ e }
 
 pub slice_bounds-passes-end : goal.slice_bounds-passes-end
 slice_bounds-passes-end c = let w = inside (goal.at.slice_bounds-passes-end c).After-count-end in search rules
 
-pub passes-requires : goal.passes-requires
-passes-requires c = accepted _ (free (goal.at.passes-requires c).Else-number-ne0)
-
-pub returns-then-passes : goal.returns-then-passes
-returns-then-passes c =
-    let w = goal.at.returns-then-passes c in
-    let e = some_says c.args.automaton.now c.args.run.now (free w.Else-number-ne0) (is w.After-count-end) c.if-end-eq0.false
-    (sym c.if-passes.true ∙ c.passes.ensures) in
-    record { value = e; yes = says _ _ _ e }
-
-pub returns-else-passes : goal.returns-else-passes
-returns-else-passes c =
-    let w = goal.at.returns-else-passes c in
-    let e = some_says c.args.automaton.now c.args.run.now (free w.Else-number-ne0) (is w.After-count-end) c.if-end-eq0.false
-    (sym c.if-passes.false ∙ c.passes.ensures) in
+pub returns : goal.returns
+returns c =
+    let w = goal.at.returns c in
+    let e = some_says c.args.automaton.now c.args.run.now (free w.In_ok-automaton) (is w.After-count-end) c.if-end-eq0.false
+    (rw (ap (λ (x : Bor (List ℕ)). x.now) c.in_ok-automaton.ensures.opened) at c.passes.ensures) in
     record { value = e; yes = says _ _ _ e }

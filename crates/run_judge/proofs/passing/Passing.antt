@@ -14,21 +14,22 @@ use lib.Seq.{slice, length-take-le, take_at}
 use Rattle.std.proofs.lemmas.List.{drop-take}
 use Rattle.std.specs.List.{slice_get}
 use Rattle.std.specs.Option.{is_some}
-use Rattle.std.specs.Prelude.{Some, None}
+use Rattle.std.specs.Prelude.{Some, None, Result, Ok, Err}
 use Rattle.runs.specs.Runs.{Stand, Step, wait, jump, jumps, first, last, Can, Steps, Run}
 use Rattle.runs.specs.Timed.{Valuation, later, zeroed}
 use Rattle.runs.specs.Written.{numbers, ByTurns, alone, then, written}
 use Rattle.runs.proofs.Contradictions.{true_false}
 use Rattle.automata.specs.Accepted.{Accepted}
 use Rattle.automata.specs.Automata.{clocks, locations, start, target, to, resets_of}
+use Rattle.automata.specs.Numbers.{number, named}
 use Rattle.automata.specs.Refusals.{refusal_of}
 use Rattle.automata.specs.Semantics.{system_of}
+use Rattle.automata.specs.declared.refusals.Refusal.{Refusal}
 use Rattle.automata.proofs.accepting.Accepting.{accepted}
-use Rattle.run_judge.specs.declared.judgement.Judgement.{Judgement}
-use Rattle.run_judge.specs.declared.judgement.Judgement.TheVariants.{Refused, Yes, No}
+use Rattle.automata.proofs.accepting.Numbering.{above, named_number}
 use Rattle.run_judge.specs.declared.state.State.{State}
 use Rattle.run_judge.specs.Clocks.{meets_invariant, waited}
-use Rattle.run_judge.specs.Judging.{waits_from, jumps_from, begins, passes_to, answer, judgement_of}
+use Rattle.run_judge.specs.Judging.{waits_from, jumps_from, begins, passes_to, judgement_of}
 use Rattle.run_judge.specs.Moves.{wait_move, jump_move}
 use Rattle.run_judge.specs.Numbers.{capped, count_of}
 use Rattle.run_judge.specs.Passing.{Passes}
@@ -124,14 +125,9 @@ module _ (b : List ℕ) (a : Accepted b) where
       waits_some b (pos t) (pos i ∷ numbers xs) q m ∙ jumps_some b (pos i) (numbers xs) d o ∙ r
 
 -- ---- the whole buffer, of an automaton that is not turned down
-abbrev is_yes : Judgement → Bool
-is_yes (Refused k) = false
-is_yes Yes = true
-is_yes No = false
-
-answer_yes : (t : Bool) → answer t ≡ Yes → t ≡ true
-answer_yes true e = refl
-answer_yes false e = ap is_yes e
+abbrev is_yes : Result Bool Refusal → Bool
+is_yes (Ok t) = t
+is_yes (Err k) = false
 
 module _ (b : List ℕ) (free : refusal_of b ≡ 0) where
   a : Accepted b
@@ -182,10 +178,10 @@ module _ (b : List ℕ) (free : refusal_of b ≡ 0) where
       go false f r = passes_yes k xs (omega (arith, ltb-false (suc (length xs)) (suc k) f)) r
   count_yes (negsuc n) xs e = true_false (sym e)
 
-  said_passes : (r : List ℤ) → answer (passes_to b r (count_of (get_or r 0 (pos 0)) (length r))) ≡ Yes → Passes b r
+  said_passes : (r : List ℤ) → passes_to b r (count_of (get_or r 0 (pos 0)) (length r)) ≡ true → Passes b r
   unfolding count_of passes_to
-  said_passes [] e = true_false (sym (answer_yes _ e))
-  said_passes (z ∷ xs) e = count_yes z xs (answer_yes _ e)
+  said_passes [] e = true_false (sym e)
+  said_passes (z ∷ xs) e = count_yes z xs e
 
   -- and back: steps by turns, with their count before them
   passes-back : (xs : List Step) (rest : List ℤ) (z : ℤ) → ByTurns xs → Run (system_of b) 1 0 xs →
@@ -199,21 +195,21 @@ module _ (b : List ℕ) (free : refusal_of b ≡ 0) where
 
 -- ---- the judgement, by the refusal
 module _ (b : List ℕ) (r : List ℤ) where
-  pub refused_says : {k : ℕ} → k ≡ refusal_of b → (k ≡ 0 → ⊥) → Refused k ≡ judgement_of b r
+  pub refused_says : {k : Refusal} → number k ≡ refusal_of b → Err k ≡ judgement_of b r
   unfolding judgement_of
-  refused_says e h = rw (ne_eqb (refusal_of b) 0 (λ q. h (e ∙ q))) (ap (λ (n : ℕ). Refused n) e)
+  refused_says {k} e = rw (ne_eqb (refusal_of b) 0 (λ z. absurd (omega (arith, e, above k)))) (ap Err (sym (named_number k) ∙ ap named e))
 
   pub free_says : refusal_of b ≡ 0 → {end : ℕ} {t : Bool} → end ≡ count_of (get_or r 0 (pos 0)) (length r) → t ≡ passes_to b r end →
-      answer t ≡ judgement_of b r
+      Ok t ≡ judgement_of b r
   unfolding judgement_of
   free_says f e g = rw (eq-eqb (refusal_of b) 0 f) (rw g (rw e refl))
 
-  pub none_says : refusal_of b ≡ 0 → {end : ℕ} → end ≡ count_of (get_or r 0 (pos 0)) (length r) → end ≡ 0 → No ≡ judgement_of b r
+  pub none_says : refusal_of b ≡ 0 → {end : ℕ} → end ≡ count_of (get_or r 0 (pos 0)) (length r) → end ≡ 0 → Ok false ≡ judgement_of b r
   unfolding passes_to
   none_says f {end} e h = free_says f {t = false} e (rw (eq-eqb end 0 h) refl)
 
   pub some_says : refusal_of b ≡ 0 → {end : ℕ} {t : Bool} → end ≡ count_of (get_or r 0 (pos 0)) (length r) → (end ≡ 0 → ⊥) →
-      t ≡ begins b (take (end - 1) (drop 1 r)) → answer t ≡ judgement_of b r
+      t ≡ begins b (take (end - 1) (drop 1 r)) → Ok t ≡ judgement_of b r
   unfolding passes_to
   some_says f {end} e h g =
       let n : 1 + (end - 1) ≡ end = omega arith in
@@ -221,7 +217,7 @@ module _ (b : List ℕ) (r : List ℤ) where
       free_says f e (rw (ne_eqb end 0 h) (g ∙ ap (begins b) s))
 
   -- the numbers, as the code takes the first of them
-  pub empty_says : refusal_of b ≡ 0 → None ≡ slice_get r 0 → No ≡ judgement_of b r
+  pub empty_says : refusal_of b ≡ 0 → None ≡ slice_get r 0 → Ok false ≡ judgement_of b r
   unfolding count_of
   empty_says f e = none_says f (go r e) refl
     where
@@ -229,17 +225,17 @@ module _ (b : List ℕ) (r : List ℤ) where
       go [] e = refl
       go (z ∷ zs) e = true_false (sym (ap is_some e))
 
-  judged_passes : judgement_of b r ≡ Yes → Passes b r
+  judged_passes : judgement_of b r ≡ Ok true → Passes b r
   unfolding judgement_of
   judged_passes = go (eqb (refusal_of b) 0) refl
     where
       go : (t : Bool) → eqb (refusal_of b) 0 ≡ t →
-          cond t (answer (passes_to b r (count_of (get_or r 0 (pos 0)) (length r)))) (Refused (refusal_of b)) ≡ Yes → Passes b r
-      go true f e = said_passes b (eqb-true (refusal_of b) 0 f) r e
+          cond t (Ok (passes_to b r (count_of (get_or r 0 (pos 0)) (length r)))) (Err (named (refusal_of b))) ≡ Ok true → Passes b r
+      go true f e = said_passes b (eqb-true (refusal_of b) 0 f) r (ap is_yes e)
       go false f e = true_false (sym (ap is_yes e))
 
   -- what passes by the definition of runs, the judge passes
-  pub passes_judged : Passes b r → judgement_of b r ≡ Yes
+  pub passes_judged : Passes b r → judgement_of b r ≡ Ok true
   passes_judged p =
       let xs = p.steps in
       let n : 2 * length (jumps xs) + 2 ≡ suc (length xs) = omega (arith, turns_count p.turns) in
@@ -250,11 +246,11 @@ module _ (b : List ℕ) (r : List ℤ) where
       rw p.begins (rw n (sym (passes-back b p.accepted xs p.rest (pos (suc (length xs))) p.turns p.run p.there))) in
       sym (free_says p.accepted c t)
 
-  pub judged : (judgement_of b r ≡ Yes) ↔ Passes b r
+  pub judged : (judgement_of b r ≡ Ok true) ↔ Passes b r
   judged = (judged_passes, passes_judged)
 
   -- and so does whoever says what the judge's definition says
-  pub says : (j : Judgement) → j ≡ judgement_of b r → (j ≡ Yes) ↔ Passes b r
+  pub says : (j : Result Bool Refusal) → j ≡ judgement_of b r → (j ≡ Ok true) ↔ Passes b r
   says j e = (λ h. judged_passes (sym e ∙ h), λ p. e ∙ passes_judged p)
 
   -- what passes begins with an even count, from 2 to the length

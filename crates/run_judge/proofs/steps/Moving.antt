@@ -9,8 +9,7 @@ use lib.ListN.{replicate}
 use Rattle.std.specs.Prelude.{Some, None}
 use Rattle.runs.specs.Limits.{scale}
 use Rattle.automata.specs.Automata.{clocks, edges, start, from}
-use Rattle.automata.specs.Opened.{counts_of, edge_of}
-use Rattle.automata.specs.declared.fields.Counts.{Counts}
+use Rattle.automata.specs.Opened.{edge_of}
 use Rattle.automata.specs.declared.fields.Edge.{Edge}
 use Rattle.run_judge.specs.declared.state.State.{State}
 use Rattle.run_judge.specs.Clocks.{meets_invariant, meets_guard, waited, reset_by, marked_in}
@@ -41,7 +40,7 @@ module _ (b : List ℕ) (q : State) where
   take_is i e en ed eg ea = rw eg (rw ea (rw ed (rw en refl)))
 
   module _ (i : ℕ) where
-    pub jump_none : {k : Counts} → k ≡ counts_of b → k.edges ≤ i → jump_move b q i ≡ None
+    pub jump_none : {n : ℕ} → n ≡ edges b → n ≤ i → jump_move b q i ≡ None
     unfolding jump_move
     jump_none e h = rw (le-leb (edges b) i (rw e at h)) refl
 

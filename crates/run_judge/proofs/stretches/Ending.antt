@@ -22,7 +22,7 @@ module _ (b : List ℕ) (zs : List ℤ) where
   begins_some e = rw (e, begins) refl
 
 module _ (b : List ℕ) (t : Bool) (l : Left) (i : Rest b t l) where
-  pub rest_next : (m : Left) → Rest l.ready.automaton.now (waits l) m → Rest b t m
+  pub rest_next : (m : Left) → Rest l.ready.automaton.now.bytes.now (waits l) m → Rest b t m
   rest_next m k = record { automaton = k.automaton ∙ i.automaton; same = k.same ∙ i.same }
 
   pub rest_over : {u : Bool} → u ≡ waits l → u ≡ t

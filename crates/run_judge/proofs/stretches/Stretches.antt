@@ -29,15 +29,15 @@ module _ (l : Left) (h : length l.numbers.now ≡ 0) where
   unfolding waits_from
   wait_over = go l.numbers.now h
     where
-      go : (zs : List ℤ) → length zs ≡ 0 → false ≡ waits_from l.ready.automaton.now zs l.ready.state
+      go : (zs : List ℤ) → length zs ≡ 0 → false ≡ waits_from l.ready.automaton.now.bytes.now zs l.ready.state
       go [] e = refl
       go (z ∷ zs) e = absurd (omega (arith, e))
 
-  pub jump_over : {t : ℕ} → t ≡ target l.ready.automaton.now → eqb l.ready.state.location t ≡ jumps l
+  pub jump_over : {t : ℕ} → t ≡ target l.ready.automaton.now.bytes.now → eqb l.ready.state.location t ≡ jumps l
   unfolding jumps_from
   jump_over {t} f = go l.numbers.now h
     where
-      go : (zs : List ℤ) → length zs ≡ 0 → eqb l.ready.state.location t ≡ jumps_from l.ready.automaton.now zs l.ready.state
+      go : (zs : List ℤ) → length zs ≡ 0 → eqb l.ready.state.location t ≡ jumps_from l.ready.automaton.now.bytes.now zs l.ready.state
       go [] e = rw f refl
       go (z ∷ zs) e = absurd (omega (arith, e))
 
@@ -47,29 +47,29 @@ held h e = e ∙ ap capped (to_z-of_z h)
 
 module _ (l : Left) {z : ℤ} {zs : List ℤ} (f : IsFirstAndRest l.numbers.now z zs) (h : SFits w64 z) {n : ℕ}
     (en : n ≡ capped (to_z w64 (of_z w64 z))) where
-  pub wait_no : wait_move l.ready.automaton.now l.ready.state n ≡ None → false ≡ waits l
-  wait_no e = rw f.0 (sym (waits_none l.ready.automaton.now z zs l.ready.state (rw (held h en) at e)))
+  pub wait_no : wait_move l.ready.automaton.now.bytes.now l.ready.state n ≡ None → false ≡ waits l
+  wait_no e = rw f.0 (sym (waits_none l.ready.automaton.now.bytes.now z zs l.ready.state (rw (held h en) at e)))
 
-  pub jump_no : jump_move l.ready.automaton.now l.ready.state n ≡ None → false ≡ jumps l
-  jump_no e = rw f.0 (sym (jumps_none l.ready.automaton.now z zs l.ready.state (rw (held h en) at e)))
+  pub jump_no : jump_move l.ready.automaton.now.bytes.now l.ready.state n ≡ None → false ≡ jumps l
+  jump_no e = rw f.0 (sym (jumps_none l.ready.automaton.now.bytes.now z zs l.ready.state (rw (held h en) at e)))
 
 -- m is what is left after a step; what it hands on is shorter
 module _ (l m : Left) {z : ℤ} (f : IsFirstAndRest l.numbers.now z m.numbers.now) (h : SFits w64 z) {n : ℕ}
     (en : n ≡ capped (to_z w64 (of_z w64 z))) where
-  longer : (t : Bool) → m.ready.automaton.now ≡ l.ready.automaton.now → (s : ControlFlow Bool Left) → Handed m t s → Handed l t s
+  longer : (t : Bool) → m.ready.automaton.now.bytes.now ≡ l.ready.automaton.now.bytes.now → (s : ControlFlow Bool Left) → Handed m t s → Handed l t s
   longer t a (Continue r) k = (rw a at k.0, omega (arith, k.1, f.1))
   longer t a (Break u) k = k
 
-  module _ (k : Leads l.ready.automaton.now (wait_move l.ready.automaton.now l.ready.state n) (Some m.ready)) where
+  module _ (k : Leads l.ready.automaton.now.bytes.now (wait_move l.ready.automaton.now.bytes.now l.ready.state n) (Some m.ready)) where
     pub wait_on : (s : ControlFlow Bool Left) → Handed m (jumps m) s → Handed l (waits l) s
     wait_on s d =
         let e : waits l ≡ jumps m =
-        rw f.0 (rw k.0 (waits_some l.ready.automaton.now z m.numbers.now l.ready.state (rw (held h en) at k.1))) in
+        rw f.0 (rw k.0 (waits_some l.ready.automaton.now.bytes.now z m.numbers.now l.ready.state (rw (held h en) at k.1))) in
         rw e (longer _ k.0 s d)
 
-  module _ (k : Leads l.ready.automaton.now (jump_move l.ready.automaton.now l.ready.state n) (Some m.ready)) where
+  module _ (k : Leads l.ready.automaton.now.bytes.now (jump_move l.ready.automaton.now.bytes.now l.ready.state n) (Some m.ready)) where
     follows : jumps l ≡ waits m
-    follows = rw f.0 (rw k.0 (jumps_some l.ready.automaton.now z m.numbers.now l.ready.state (rw (held h en) at k.1)))
+    follows = rw f.0 (rw k.0 (jumps_some l.ready.automaton.now.bytes.now z m.numbers.now l.ready.state (rw (held h en) at k.1)))
 
     pub jump_on : (s : ControlFlow Bool Left) → Handed m (waits m) s → Handed l (jumps l) s
     jump_on s d = rw follows (longer _ k.0 s d)

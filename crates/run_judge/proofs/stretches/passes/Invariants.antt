@@ -5,7 +5,7 @@ use Rattle.run_judge.specs.Stretches.{Rest}
 use Rattle.run_judge.proofs.stretches.passes.Given as goal
 
 abbrev pub invariant-loop-passed : goal.invariant-loop-passed
-invariant-loop-passed l = Rest l.automaton (begins l.automaton l.numbers) l.left
+invariant-loop-passed l = Rest l.automaton.bytes.now (begins l.automaton.bytes.now l.numbers) l.left
 
 abbrev pub decreases-loop-passed : goal.decreases-loop-passed
 decreases-loop-passed l = length l.left.numbers.now

@@ -2,7 +2,6 @@
 -- Assumes nothing.
 use mathlib.Core.Bool.{cond}
 use mathlib.Core.Path.{◌≡◌, refl, sym, ◌∙◌}
-use Rattle.automata.proofs.fields.Counting.{clocks≡}
 use Rattle.std.specs.Prelude.{Some, None}
 use Rattle.run_judge.specs.Moves.{edge_move}
 use Rattle.run_judge.proofs.steps.Moving.{take_is}
@@ -11,19 +10,19 @@ use Rattle.run_judge.proofs.steps.Ready.take.Goals as goal
 use Rattle.run_judge.proofs.steps.Ready.take.Goals.{After-meets_invariant-arrives}
 use Rattle.run_judge.proofs.steps.Ready.take.Goals.{else-guarded-via-then-guarded+else-arrives, else-guarded-via-else-guarded}
 
-is : (c : After-meets_invariant-arrives) → edge_move c.args.self.automaton.now c.args.i c.args.edge c.args.self.state.clocks
+is : (c : After-meets_invariant-arrives) → edge_move c.args.self.automaton.now.bytes.now c.args.i c.args.edge c.args.self.state.clocks
     ≡ cond c.meets_guard-guarded.result
     (cond c.meets_invariant-arrives.result (Some (record { location = c.args.edge.to; clocks = c.reset.result })) None) None
 is c =
-    take_is _ c.args.self.state _ _ (clocks≡ _ c.counts_of.ensures) c.reset.ensures c.meets_guard-guarded.ensures
+    take_is _ c.args.self.state _ _ c.args.self.automaton.now.counted.clocks≡ c.reset.ensures c.meets_guard-guarded.ensures
     c.meets_invariant-arrives.ensures
 
 pub invariant_of-result : goal.invariant_of-result
 invariant_of-result c =
     let self = c.args.self in
+    let a = self.automaton.now in
     record {
-      accepted = self.accepted;
-      can_step = reset_ready _ self.accepted _ c.requires.1 self.can_step.clocks (clocks≡ _ c.counts_of.ensures) _ c.reset.ensures
+      can_step = reset_ready _ a.accepted _ c.requires.1 self.can_step.clocks a.counted.clocks≡ _ c.reset.ensures
           (sym c.meets_invariant-arrives.ensures ∙ c.if-arrives.true);
     }
 

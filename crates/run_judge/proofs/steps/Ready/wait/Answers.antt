@@ -3,7 +3,6 @@
 use mathlib.Core.Bool.{cond}
 use mathlib.Core.Path.{◌≡◌, refl, sym, ◌∙◌}
 use native.Mathlib.Omega.{arith}
-use Rattle.automata.proofs.fields.Counting.{clocks≡}
 use Rattle.std.specs.Prelude.{Some, None}
 use Rattle.run_judge.specs.Moves.{wait_move}
 use Rattle.run_judge.proofs.steps.Moving.{wait_high, wait_is}
@@ -11,19 +10,21 @@ use Rattle.run_judge.proofs.steps.Readying.{wait_ready}
 use Rattle.run_judge.proofs.steps.Ready.wait.Goals as goal
 use Rattle.run_judge.proofs.steps.Ready.wait.Goals.{After-meets_invariant-stays}
 
-pub returns-then-t-gt-SCALE : goal.returns-then-t-gt-SCALE
-returns-then-t-gt-SCALE c = wait_high _ _ _ (omega arith)
+pub returns-then-from-t : goal.returns-then-from-t
+returns-then-from-t c = wait_high _ _ _ (omega (arith, c.from.ensures, c.if-from-t.true))
 
-is : (c : After-meets_invariant-stays) → wait_move c.args.self.automaton.now c.args.self.state c.args.t
+is : (c : After-meets_invariant-stays) → wait_move c.args.self.automaton.now.bytes.now c.args.self.state c.args.t
     ≡ cond c.meets_invariant-stays.result (Some (record { location = c.args.self.state.location; clocks = c.later.result })) None
-is c = wait_is _ _ _ (omega arith) (clocks≡ _ c.counts_of.ensures) c.later.ensures c.meets_invariant-stays.ensures
+is c =
+    wait_is _ _ _ (omega (arith, c.from.ensures, c.if-from-t.false)) c.args.self.automaton.now.counted.clocks≡ c.later.ensures
+    c.meets_invariant-stays.ensures
 
 pub invariant_of-result : goal.invariant_of-result
 invariant_of-result c =
     let self = c.args.self in
+    let a = self.automaton.now in
     record {
-      accepted = self.accepted;
-      can_step = wait_ready _ self.accepted _ self.can_step.location self.can_step.clocks (clocks≡ _ c.counts_of.ensures) _ c.later.ensures
+      can_step = wait_ready _ a.accepted _ self.can_step.location self.can_step.clocks a.counted.clocks≡ _ c.later.ensures
           (sym c.meets_invariant-stays.ensures ∙ c.if-stays.true);
     }
 
