@@ -1,5 +1,5 @@
 -- The judge, as a definition over the automaton's bytes and the buffer's numbers.
-use Rattle.std.specs.Prelude.{ℕ, Bool, false, cond, List, [], ◌∷◌, eqb, ℤ, pos, length, get_or, Some, None, Result, Ok, Err}
+use Rattle.std.specs.Prelude.{ℕ, Bool, false, cond, List, [], ◌∷◌, eqb, ℤ, Some, None, Result, Ok, Err}
 use Rattle.std.proofs.Math.Seq.{slice}
 use Rattle.automata.specs.Automata.{target}
 use Rattle.automata.specs.Numbers.{named}
@@ -7,7 +7,7 @@ use Rattle.automata.specs.Refusals.{refusal_of}
 use Rattle.automata.specs.declared.refusals.Refusal.{Refusal}
 use Rattle.run_judge.specs.declared.state.State.{State}
 use Rattle.run_judge.specs.Moves.{first_move, wait_move, jump_move}
-use Rattle.run_judge.specs.Numbers.{capped, count_of}
+use Rattle.run_judge.specs.Numbers.{capped, announced}
 
 -- "a wait is followed by a jump and a jump by a wait, waits at both ends": whether the numbers are those of such steps from
 -- the state q, "ending at the target"
@@ -30,4 +30,4 @@ passes_to b r end = cond (eqb end 0) false (begins b (slice 1 end r))
 
 -- "refuses by 1 to 8", else yes or no. That yes is said exactly of runs is the second clause of `judge`, by `Passes`
 unfoldable pub judgement_of : List ℕ → List ℤ → Result Bool Refusal
-judgement_of b r = cond (eqb (refusal_of b) 0) (Ok (passes_to b r (count_of (get_or r 0 (pos 0)) (length r)))) (Err (named (refusal_of b)))
+judgement_of b r = cond (eqb (refusal_of b) 0) (Ok (passes_to b r (announced r))) (Err (named (refusal_of b)))

@@ -14,7 +14,7 @@ ghost use Rattle.run_judge.specs.Passing.{Passes};
 
 use automata::opened::Automaton;
 use automata::refusals::Refusal;
-use numbers::count;
+use numbers::counted;
 use stretches::passes;
 
 // Whether the buffer begins with a run of the automaton that ends at the target.
@@ -23,12 +23,8 @@ pub fn judge(automaton: &[u8], run: &[i64]) -> Result<bool, Refusal>
     ensures yes { (result ≡ Ok true) ↔ Passes automaton.now run.now }
 {
     let automaton = Automaton::open(automaton)?;
-    let Some(first) = run.first() else {
+    let Some(numbers) = counted(run) else {
         return Ok(false);
     };
-    let end = count(*first, run.len());
-    if end == 0 {
-        return Ok(false);
-    }
-    Ok(passes(&automaton, &run[1..end]))
+    Ok(passes(&automaton, numbers))
 }

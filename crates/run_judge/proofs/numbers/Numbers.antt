@@ -1,75 +1,107 @@
 -- What is made of the numbers of a buffer.
 -- Assumes nothing.
-use Prim.Native.Nat.{ℕ, ◌+◌, ◌≤◌}
+use Prim.Native.Nat.{ℕ, ◌+◌, ◌-◌, ◌≤◌, ◌<◌}
 use mathlib.Core.List.{List, [], ◌∷◌}
-use mathlib.Core.Path.{◌≡◌, refl, ap, ◌∙◌}
+use mathlib.Core.Logic.{⊎_elim}
+use mathlib.Core.Path.{◌≡◌, refl, sym, ap, ◌∙◌}
 use mathlib.Core.Bool.{Bool, true, false, cond}
 use native.Mathlib.Omega.{arith}
-use borrow.Author.Tests.{ltb-true, ltb-false, le-ltb, le-leb, lt-leb}
-use lib.Dec.{ltb, leb}
+use borrow.Author.Tests.{ltb-true, ltb-false, lt-ltb, le-ltb}
+use denote.Ref.{Bor}
+use lib.Dec.{ltb}
 use lib.IntN.{ℤ, pos, negsuc, nat_abs}
-use lib.ListN.{get_or}
+use lib.ListN.{length, take, drop}
+use lib.Seq.{slice}
 use mir.Syntax.{w64}
 use mir.Val.{SFits, to_z, of_z}
 use mir.Facts.{to_z-of_z}
-use Rattle.std.specs.Bool.{then_some}
+use Rattle.std.proofs.lemmas.List.{drop-take}
+use Rattle.std.proofs.Math.Nat.{min-eq_left, min-eq_right}
 use Rattle.std.specs.Int.{FitsUnsignedBits}
 use Rattle.std.specs.List.{slice_get}
 use Rattle.std.specs.Option.{is_some, unwrap_or}
-use Rattle.std.specs.Prelude.{Option, None, Some, Result, Ok, Err, OkIff}
+use Rattle.std.specs.Prelude.{min, Option, None, Some, MatchOption, Result, Ok, Err, OkIff, MatchResult}
 use Rattle.std.specs.Result.{result_ok}
+use Rattle.std.specs.Slice.{IsGetRangeResult}
 use Rattle.runs.specs.Limits.{scale}
 use Rattle.runs.proofs.Contradictions.{true_false}
-use Rattle.run_judge.specs.Numbers.{natural, capped, count_of}
+use Rattle.run_judge.specs.Numbers.{capped, count_of, announced, Announced}
 
--- ---- as the code finds them
-abbrev pub bounded : ℕ → Option ℕ → Option ℕ
-bounded k None = None
-bounded k (Some n) = then_some (leb n k) n
-
--- z as the code holds it
-module _ (z : ℤ) (h : SFits w64 z) (k : ℕ) where
+-- ---- z as the code holds it, and the natural r that is made of it, if it is one
+module _ {z : ℤ} (h : SFits w64 z) where
   abbrev held : ℤ
   held = to_z w64 (of_z w64 z)
 
-  pub natural_is : {E : Type 0} (r : Result ℕ E) → OkIff r (FitsUnsignedBits 64 held) (nat_abs held) → bounded k (result_ok r) ≡ natural z k
-  unfolding natural
-  natural_is r g = let is : held ≡ z = to_z-of_z h in go z h r (rw is at g)
+  pub capped_is : {E : Type 0} (r : Result ℕ E) {k n : ℕ} → k ≡ scale → OkIff r (FitsUnsignedBits 64 held) (nat_abs held) →
+      MatchResult r (λ x. n ≡ min x (k + 1)) (λ e. n ≡ k + 1) → n ≡ capped z
+  unfolding capped
+  capped_is r {k} {n} f g m = let is : held ≡ z = to_z-of_z h in go z h r (rw is at g) (rw f at m)
     where
-      go : {E : Type 0} (y : ℤ) → SFits w64 y → (r : Result ℕ E) → OkIff r (FitsUnsignedBits 64 y) (nat_abs y) → bounded k (result_ok r) ≡ natural y k
-      go (pos m) s (Ok x) g = ap (λ (n : ℕ). then_some (leb n k) n) g.1
-      go (pos m) s (Err e) g = absurd (g (omega (arith, s.sfits)))
-      go (negsuc m) s (Ok x) g = absurd g.0
-      go (negsuc m) s (Err e) g = refl
+      least : (x : ℕ) (t : Bool) → ltb scale x ≡ t → min x (scale + 1) ≡ cond t (scale + 1) x
+      least x true e = let l = ltb-true scale x e in min-eq_right (omega (arith, l))
+      least x false e = let l = ltb-false scale x e in min-eq_left (omega (arith, l))
 
-or_else : (n k d : ℕ) → unwrap_or (then_some (leb n k) n) d ≡ cond (ltb k n) d n
-or_else n k d = go (ltb k n) refl
-  where
-    go : (t : Bool) → ltb k n ≡ t → unwrap_or (then_some (leb n k) n) d ≡ cond t d n
-    go true e = rw (lt-leb n k (ltb-true k n e))
-    go false e = rw (le-leb n k (ltb-false k n e))
+      go : {E : Type 0} (y : ℤ) → SFits w64 y → (r : Result ℕ E) → OkIff r (FitsUnsignedBits 64 y) (nat_abs y) →
+          MatchResult r (λ x. n ≡ min x (scale + 1)) (λ e. n ≡ scale + 1) → n ≡ capped y
+      go (pos x) s (Ok x') g m = m ∙ ap (λ (x : ℕ). min x (scale + 1)) g.1 ∙ least x (ltb scale x) refl
+      go (pos x) s (Err e) g m = absurd (g (omega (arith, s.sfits)))
+      go (negsuc x) s (Ok x') g m = absurd g.0
+      go (negsuc x) s (Err e) g m = m
 
-module _ (z : ℤ) (h : SFits w64 z) where
-  pub capped_is : unwrap_or (natural (to_z w64 (of_z w64 z)) scale) (scale + 1) ≡ capped z
-  unfolding natural capped
-  capped_is = rw (to_z-of_z h) (go z)
+  -- the count that z is, if it is none, and if it is n
+  module _ {E : Type 0} (k : ℕ) where
+    pub count_none : (r : Result ℕ E) → OkIff r (FitsUnsignedBits 64 held) (nat_abs held) → None ≡ result_ok r → count_of z k ≡ 0
+    unfolding count_of
+    count_none r g f = let is : held ≡ z = to_z-of_z h in go z h r (rw is at g) f
+      where
+        go : (y : ℤ) → SFits w64 y → (r : Result ℕ E) → OkIff r (FitsUnsignedBits 64 y) (nat_abs y) → None ≡ result_ok r → count_of y k ≡ 0
+        go y s (Ok x) g f = true_false (sym (ap is_some f))
+        go (pos x) s (Err e) g f = absurd (g (omega (arith, s.sfits)))
+        go (negsuc x) s (Err e) g f = refl
+
+    pub count_some : (r : Result ℕ E) {n : ℕ} → OkIff r (FitsUnsignedBits 64 held) (nat_abs held) → Some n ≡ result_ok r →
+        count_of z k ≡ cond (ltb k n) 0 n
+    unfolding count_of
+    count_some r {n} g f = let is : held ≡ z = to_z-of_z h in go z r (rw is at g) f
+      where
+        go : (y : ℤ) (r : Result ℕ E) → OkIff r (FitsUnsignedBits 64 y) (nat_abs y) → Some n ≡ result_ok r → count_of y k ≡ cond (ltb k n) 0 n
+        go y (Err e) g f = true_false (ap is_some f)
+        go (pos x) (Ok x') g f = let e : x ≡ n = sym g.1 ∙ sym (ap (λ o. unwrap_or o x) f) in ap (λ (n : ℕ). cond (ltb k n) 0 n) e
+        go (negsuc x) (Ok x') g f = absurd g.0
+
+-- ---- the count of a buffer
+module _ (r : List ℤ) where
+  pub announced_none : None ≡ slice_get r 0 → announced r ≡ 0
+  unfolding count_of
+  announced_none = go r
     where
-      go : (y : ℤ) → unwrap_or (natural y scale) (scale + 1) ≡ capped y
-      go (pos n) = or_else n scale (scale + 1)
-      go (negsuc n) = refl
+      go : (r : List ℤ) → None ≡ slice_get r 0 → announced r ≡ 0
+      go [] e = refl
+      go (z ∷ zs) e = true_false (sym (ap is_some e))
 
-  pub count_is : (k : ℕ) → unwrap_or (natural (to_z w64 (of_z w64 z)) k) 0 ≡ count_of z k
-  unfolding natural count_of
-  count_is k = rw (to_z-of_z h) (go z)
+  pub announced_is : {z : ℤ} → Some z ≡ slice_get r 0 → announced r ≡ count_of z (length r)
+  announced_is {z} = go r
     where
-      go : (y : ℤ) → unwrap_or (natural y k) 0 ≡ count_of y k
-      go (pos n) = or_else n k 0
-      go (negsuc n) = refl
+      go : (r : List ℤ) → Some z ≡ slice_get r 0 → announced r ≡ count_of z (length r)
+      go [] e = true_false (ap is_some e)
+      go (x ∷ xs) e = ap (λ (o : Option ℤ). count_of (unwrap_or o x) (length (x ∷ xs))) (sym e)
 
--- the count, of the first number
-pub counted : (r : List ℤ) {z : ℤ} → SFits w64 z → Some z ≡ slice_get r 0 → to_z w64 (of_z w64 z) ≡ get_or r 0 (pos 0)
-counted [] h e = true_false (ap is_some e)
-counted (x ∷ xs) {z} h e = to_z-of_z h ∙ ap (λ (o : Option ℤ). unwrap_or o z) e
+  -- the part from 1 to n, where it is one
+  pub announced_part : {n : ℕ} → announced r ≡ cond (ltb (length r) n) 0 n → (o : Option (Bor (List ℤ))) → IsGetRangeResult r 1 n o →
+      MatchOption o (announced r ≡ 0) (λ zs. Announced r zs.now)
+  announced_part {n} e None g = e ∙ ⊎_elim (low (ltb (length r) n)) high g.0
+    where
+      low : (t : Bool) → n < 1 → cond t 0 n ≡ 0
+      low true h = refl
+      low false h = omega (arith, h)
+
+      high : length r < n → cond (ltb (length r) n) 0 n ≡ 0
+      high h = rw (lt-ltb (length r) n h) refl
+  announced_part {n} e (Some zs) g =
+      let f : announced r ≡ n = rw (le-ltb (length r) n g.0.1) at e in
+      let m : 1 + (n - 1) ≡ n = omega (arith, g.0.0) in
+      let s : take (n - 1) (drop 1 r) ≡ slice 1 n r = rw m at (sym (drop-take 1 (n - 1) r)) in
+      record { some = rw f g.0.0; numbers = rw f (g.0.2 ∙ s) }
 
 -- ---- of any number
 pub capped_top : (z : ℤ) → capped z ≤ 1000001

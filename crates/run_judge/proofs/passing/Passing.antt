@@ -1,6 +1,6 @@
 -- The judge "says yes exactly when the buffer begins with a run of the card in this form, ending at the target".
 -- Assumes nothing.
-use Prim.Native.Nat.{ℕ, zero, suc, ◌+◌, ◌-◌, ◌*◌, ◌≤◌, ◌<◌}
+use Prim.Native.Nat.{ℕ, zero, suc, ◌+◌, ◌*◌, ◌≤◌, ◌<◌}
 use mathlib.Core.Path.{◌≡◌, refl, sym, ap, ◌∙◌, subst}
 use mathlib.Core.Bool.{Bool, true, false, cond}
 use mathlib.Core.List.{List, [], ◌∷◌, ◌++◌}
@@ -10,11 +10,8 @@ use borrow.Author.Tests.{eqb-true, eq-eqb, ne_eqb, ltb-false}
 use lib.Dec.{ltb, eqb, eqb-suc-zero}
 use lib.IntN.{ℤ, pos, negsuc}
 use lib.ListN.{length, get_or, take, drop, replicate, length-append, take-append-drop}
-use lib.Seq.{slice, length-take-le, take_at}
-use Rattle.std.proofs.lemmas.List.{drop-take}
-use Rattle.std.specs.List.{slice_get}
-use Rattle.std.specs.Option.{is_some}
-use Rattle.std.specs.Prelude.{Some, None, Result, Ok, Err}
+use lib.Seq.{length-take-le, take_at}
+use Rattle.std.specs.Prelude.{Some, Result, Ok, Err}
 use Rattle.runs.specs.Runs.{Stand, Step, wait, jump, jumps, first, last, Can, Steps, Run}
 use Rattle.runs.specs.Timed.{Valuation, later, zeroed}
 use Rattle.runs.specs.Written.{numbers, ByTurns, alone, then, written}
@@ -31,7 +28,7 @@ use Rattle.run_judge.specs.declared.state.State.{State}
 use Rattle.run_judge.specs.Clocks.{meets_invariant, waited}
 use Rattle.run_judge.specs.Judging.{waits_from, jumps_from, begins, passes_to, judgement_of}
 use Rattle.run_judge.specs.Moves.{wait_move, jump_move}
-use Rattle.run_judge.specs.Numbers.{capped, count_of}
+use Rattle.run_judge.specs.Numbers.{capped, count_of, announced, Announced}
 use Rattle.run_judge.specs.Passing.{Passes}
 use Rattle.run_judge.proofs.numbers.Numbers.{capped_fits, count_same}
 use Rattle.run_judge.proofs.steps.Moving.{first_is}
@@ -204,26 +201,13 @@ module _ (b : List ℕ) (r : List ℤ) where
   unfolding judgement_of
   free_says f e g = rw (eq-eqb (refusal_of b) 0 f) (rw g (rw e refl))
 
-  pub none_says : refusal_of b ≡ 0 → {end : ℕ} → end ≡ count_of (get_or r 0 (pos 0)) (length r) → end ≡ 0 → Ok false ≡ judgement_of b r
+  pub none_says : refusal_of b ≡ 0 → announced r ≡ 0 → Ok false ≡ judgement_of b r
   unfolding passes_to
-  none_says f {end} e h = free_says f {t = false} e (rw (eq-eqb end 0 h) refl)
+  none_says f e = free_says f refl (rw (eq-eqb (announced r) 0 e) refl)
 
-  pub some_says : refusal_of b ≡ 0 → {end : ℕ} {t : Bool} → end ≡ count_of (get_or r 0 (pos 0)) (length r) → (end ≡ 0 → ⊥) →
-      t ≡ begins b (take (end - 1) (drop 1 r)) → Ok t ≡ judgement_of b r
+  pub some_says : refusal_of b ≡ 0 → {zs : List ℤ} {t : Bool} → Announced r zs → t ≡ begins b zs → Ok t ≡ judgement_of b r
   unfolding passes_to
-  some_says f {end} e h g =
-      let n : 1 + (end - 1) ≡ end = omega arith in
-      let s : take (end - 1) (drop 1 r) ≡ slice 1 end r = rw n at (sym (drop-take 1 (end - 1) r)) in
-      free_says f e (rw (ne_eqb end 0 h) (g ∙ ap (begins b) s))
-
-  -- the numbers, as the code takes the first of them
-  pub empty_says : refusal_of b ≡ 0 → None ≡ slice_get r 0 → Ok false ≡ judgement_of b r
-  unfolding count_of
-  empty_says f e = none_says f (go r e) refl
-    where
-      go : (r : List ℤ) → None ≡ slice_get r 0 → 0 ≡ count_of (get_or r 0 (pos 0)) (length r)
-      go [] e = refl
-      go (z ∷ zs) e = true_false (sym (ap is_some e))
+  some_says f e g = free_says f refl (rw (ne_eqb (announced r) 0 (λ z. absurd (omega (arith, e.some)))) (g ∙ ap (begins b) e.numbers))
 
   judged_passes : judgement_of b r ≡ Ok true → Passes b r
   unfolding judgement_of
