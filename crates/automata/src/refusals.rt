@@ -15,7 +15,7 @@ use encoding::be32;
 const VERSION: u8 = 1;
 
 // The largest lo and hi.
-const SCALE: u32 = 1000000;
+pub const SCALE: u32 = 1000000;
 
 // The table's refusals, each with its number and the trade's word for it.
 #[derive(Clone, Copy, Debug, PartialEq, Eq)]

@@ -7,7 +7,11 @@ use Rattle.automata.specs.Automata.{clocks, locations, invariant_at, edge_at, lo
 unfoldable pub holds : ℕ → ℕ → ℕ → Bool
 holds lo hi y = cond (ltb y lo) false (cond (eqb hi no_upper) true (leb y hi))
 
--- the first k clocks are within the limits at `at`
+-- each of the first n clocks is within its limits at `at`
+abbrev pub EachHolds : List ℕ → ℕ → List ℕ → ℕ → Type 0
+EachHolds b at c n = (x : ℕ) → x < n → holds (lo_at b at (x + 1)) (hi_at b at (x + 1)) (get_or c x 0) ≡ true
+
+-- the same as a test of the first k clocks
 unfoldable pub within_at : List ℕ → ℕ → List ℕ → ℕ → Bool
 within_at b at c zero = true
 within_at b at c (suc k) = cond (holds (lo_at b at (suc k)) (hi_at b at (suc k)) (get_or c k 0)) (within_at b at c k) false

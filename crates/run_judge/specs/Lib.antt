@@ -3,6 +3,7 @@ pub mod Passing
 pub mod Numbers
 pub mod Clocks
 pub mod Moves
+pub mod Steps
 pub mod Judging
 pub mod Stretches
 pub mod Examples

@@ -1,22 +1,22 @@
 -- A run judged in stretches: what holds where one ends.
-use Rattle.std.specs.Prelude.{ℕ, ◌≤◌, ◌<◌, ◌≡◌, Bool, true, cond, List, ℤ}
-use Rattle.run_judge.specs.declared.stretches.Stretch.{Stretch}
-use Rattle.run_judge.specs.Clocks.{CanStep}
-use Rattle.run_judge.specs.Judging.{waits_to, passes_to}
+use Rattle.std.specs.Prelude.{ℕ, ◌<◌, ◌≡◌, Bool, List, length}
+use Rattle.std.specs.ControlFlow.{MatchControlFlow}
+use Rattle.std.specs.declared.ops.ControlFlow.{ControlFlow}
+use Rattle.run_judge.specs.declared.stretches.Left.{Left}
+use Rattle.run_judge.specs.Judging.{waits_from, jumps_from}
 
--- what the rest of the judging comes to
-unfoldable pub finish : List ℕ → List ℤ → ℕ → Stretch → Bool
-finish b r end q = cond q.going (waits_to b r end q.at q.location q.clocks) q.passed
+-- what is left to judge comes to: with a wait first, with a jump first
+abbrev pub waits : Left → Bool
+waits l = waits_from l.ready.automaton.now.bytes.now l.numbers.now l.ready.state
 
--- a stretch from `at` that was to come to t: it comes to t, and if it goes on, it is further on
-pub record Handed (b : List ℕ) (r : List ℤ) (end at : ℕ) (t : Bool) (q : Stretch) : Type 0 where
-  pub same : finish b r end q ≡ t
-  pub further : q.going ≡ true → at < q.at
-  pub inside : q.going ≡ true → q.at ≤ end
-  pub ready : q.going ≡ true → CanStep b q.location q.clocks
+abbrev pub jumps : Left → Bool
+jumps l = jumps_from l.ready.automaton.now.bytes.now l.numbers.now l.ready.state
 
--- between stretches: the rest comes to the whole's verdict
-pub record Rest (b : List ℕ) (r : List ℤ) (end : ℕ) (q : Stretch) : Type 0 where
-  pub same : finish b r end q ≡ passes_to b r end
-  pub inside : q.going ≡ true → q.at ≤ end
-  pub ready : q.going ≡ true → CanStep b q.location q.clocks
+-- what is left of the automaton b comes to t
+pub record Rest (b : List ℕ) (t : Bool) (l : Left) : Type 0 where
+  pub automaton : l.ready.automaton.now.bytes.now ≡ b
+  pub same : waits l ≡ t
+
+-- a stretch over l that was to come to t: it comes to t, or what is left does, and that is fewer numbers
+abbrev pub Handed : Left → Bool → ControlFlow Bool Left → Type 0
+Handed l t f = MatchControlFlow f (λ m. Rest l.ready.automaton.now.bytes.now t m × (length m.numbers.now < length l.numbers.now)) (λ u. u ≡ t)

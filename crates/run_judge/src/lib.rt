@@ -3,37 +3,28 @@
 #![tactic(auto)]
 
 mod clocks;
-pub mod judgement;
 mod numbers;
+mod state;
 mod steps;
 mod stretches;
 
-ghost use Rattle.std.specs.Prelude.{◌↔◌, ◌≡◌};
-ghost use Rattle.run_judge.specs.declared.judgement.Judgement.TheVariants.{Yes};
+ghost use Rattle.std.specs.Prelude.{◌↔◌, ◌≡◌, Ok, true};
 ghost use Rattle.run_judge.specs.Judging.{judgement_of};
 ghost use Rattle.run_judge.specs.Passing.{Passes};
 
-use automata::refusal;
-use judgement::Judgement;
-use numbers::count_at;
+use automata::opened::Automaton;
+use automata::refusals::Refusal;
+use numbers::counted;
 use stretches::passes;
 
 // Whether the buffer begins with a run of the automaton that ends at the target.
-pub fn judge(automaton: &[u8], run: &[i64]) -> Judgement
+pub fn judge(automaton: &[u8], run: &[i64]) -> Result<bool, Refusal>
     ensures value { result ≡ judgement_of automaton.now run.now }
-    ensures yes { (result ≡ Yes) ↔ Passes automaton.now run.now }
+    ensures yes { (result ≡ Ok true) ↔ Passes automaton.now run.now }
 {
-    let number = refusal(automaton);
-    if number != 0 {
-        return Judgement::Refused(number);
-    }
-    if run.len() == 0 {
-        return Judgement::No;
-    }
-    let end = count_at(run);
-    if passes(automaton, run, end) {
-        Judgement::Yes
-    } else {
-        Judgement::No
-    }
+    let automaton = Automaton::open(automaton)?;
+    let Some(numbers) = counted(run) else {
+        return Ok(false);
+    };
+    Ok(passes(&automaton, numbers))
 }

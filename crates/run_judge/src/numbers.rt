@@ -1,47 +1,22 @@
 // The numbers of a buffer as naturals: "It begins with its own count of numbers"; then waits and edges.
-ghost use Rattle.std.specs.Prelude.{◌≡◌, ◌<◌, pos, length, get_or};
-ghost use Rattle.run_judge.specs.Numbers.{capped, count_of};
+ghost use Rattle.std.specs.Prelude.{◌≡◌, MatchOption};
+ghost use Rattle.run_judge.specs.Numbers.{capped, announced, Announced};
 
-// The largest lo and hi.
-const SCALE: i64 = 1000000;
+use automata::refusals::SCALE;
 
-// No wait and no edge of a run is so large.
-const NEITHER: u64 = 1000001;
-
-// A number as a natural; one that is no wait and no edge of any run is capped.
-fn number(z: i64) -> u64
+// A wait or an edge; a number that is none of any run is capped.
+pub(crate) fn step(z: i64) -> u64
     ensures { result ≡ capped z }
 {
-    if z < 0 {
-        return NEITHER;
-    }
-    if SCALE < z {
-        return NEITHER;
-    }
-    z as u64
+    let above = u64::from(SCALE) + 1;
+    u64::try_from(z).map_or(above, |n| n.min(above))
 }
 
-pub(crate) fn number_at(run: &[i64], at: usize) -> u64
-    requires { at < length run.now }
-    ensures { result ≡ capped (get_or run.now at (pos 0)) }
+// The numbers of a run behind their count, where there are so many.
+pub(crate) fn counted(run: &[i64]) -> Option<&[i64]>
+    ensures { MatchOption result (announced run.now ≡ 0) (λ numbers. Announced run.now numbers.now) }
 {
-    number(run[at])
-}
-
-// The count that a run begins with, or 0 where it is negative or there are fewer numbers.
-fn count(z: i64, length: usize) -> usize
-    ensures { result ≡ count_of z length }
-{
-    if z < 0 {
-        return 0;
-    }
-    let n = z as usize;
-    if length < n { 0 } else { n }
-}
-
-pub(crate) fn count_at(run: &[i64]) -> usize
-    requires { 0 < length run.now }
-    ensures { result ≡ count_of (get_or run.now 0 (pos 0)) (length run.now) }
-{
-    count(run[0], run.len())
+    let first = run.first()?;
+    let end = usize::try_from(*first).ok()?;
+    run.get(1..end)
 }

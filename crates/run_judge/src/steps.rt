@@ -1,80 +1,94 @@
 // One step of a run from a state: a wait, a jump.
-ghost use Rattle.std.specs.Prelude.{◌≡◌, ◌<◌};
-ghost use Rattle.automata.specs.Accepted.{Accepted};
+ghost use Rattle.std.specs.Prelude.{◌<◌};
 ghost use Rattle.automata.specs.Automata.{edges, locations};
 ghost use Rattle.run_judge.specs.Clocks.{CanStep};
-ghost use Rattle.run_judge.specs.Moves.{not_made, wait_move, edge_move, jump_move};
 
-use crate::clocks::{later, meets_guard, meets_invariant, reset};
+use crate::clocks::{later, reset};
+use crate::state::State;
 use automata::fields::Edge;
-use automata::opened::{counts_of, edge_of};
+use automata::opened::Automaton;
+use automata::refusals::SCALE;
 
-// The largest lo and hi.
-const SCALE: u64 = 1000000;
-
-// The state after a step that may be made; where it may not, `made` is false.
+// A state of an automaton from which the sums of a step fit.
 #[derive(Clone, Copy)]
-pub(crate) struct Moved {
-    pub made: bool,
-    pub location: usize,
-    pub clocks: [u64; 8],
+pub(crate) struct Ready<'a> {
+    pub automaton: &'a Automaton<'a>,
+    pub state: State,
+    ghost can_step: { CanStep automaton.now.bytes.now state.location state.clocks },
 }
 
-// A step that may not be made: the state as it was.
-fn stop(location: usize, clocks: [u64; 8]) -> Moved
-    ensures { result ≡ not_made location clocks }
-{
-    Moved {
-        made: false,
-        location,
-        clocks,
-    }
-}
+impl<'a> Ready<'a> {
+    ghost use Rattle.run_judge.specs.Moves.{first_move, wait_move, edge_move, jump_move};
+    ghost use Rattle.run_judge.specs.Steps.{Leads};
 
-// A wait. One above every limit is not made.
-pub(crate) fn wait_move(automaton: &[u8], location: usize, clocks: [u64; 8], t: u64) -> Moved
-    requires { Accepted automaton.now × CanStep automaton.now location clocks }
-    ensures { result ≡ wait_move automaton.now location clocks t }
-{
-    if SCALE < t {
-        return stop(location, clocks);
+    // The first state of a run, if its invariant holds.
+    pub(crate) fn first(automaton: &'a Automaton<'a>) -> Option<Ready<'a>>
+        ensures { Leads automaton.now.bytes.now (first_move automaton.now.bytes.now) result }
+    {
+        let state = State {
+            location: automaton.start(),
+            clocks: [0; 8],
+        };
+        let stays = state.meets_invariant(automaton);
+        if stays {
+            Some(Ready { automaton, state })
+        } else {
+            None
+        }
     }
-    let after = later(clocks, t, counts_of(automaton).clocks);
-    Moved {
-        made: meets_invariant(automaton, location, after),
-        location,
-        clocks: after,
-    }
-}
 
-// Edge i, which was fetched: the guard must hold before the reset, the invariant at arrival after it.
-fn take(automaton: &[u8], i: usize, edge: Edge, clocks: [u64; 8]) -> Moved
-    requires { Accepted automaton.now × (i < edges automaton.now) × (edge.to < locations automaton.now) }
-    ensures { result ≡ edge_move automaton.now i edge clocks }
-{
-    let to = edge.to;
-    let resets = edge.resets;
-    let after = reset(clocks, resets, counts_of(automaton).clocks);
-    let guarded = meets_guard(automaton, i, clocks);
-    let arrives = meets_invariant(automaton, to, after);
-    Moved {
-        made: guarded && arrives,
-        location: to,
-        clocks: after,
+    // The state after a wait. One above every limit is not made.
+    pub(crate) fn wait(self, t: u64) -> Option<Ready<'a>>
+        ensures { Leads self.entry.automaton.now.bytes.now (wait_move self.entry.automaton.now.bytes.now self.entry.state t) result }
+    {
+        if u64::from(SCALE) < t {
+            return None;
+        }
+        let automaton = self.automaton;
+        let state = State {
+            location: self.state.location,
+            clocks: later(self.state.clocks, t, automaton.clocks),
+        };
+        let stays = state.meets_invariant(automaton);
+        if stays {
+            Some(Ready { automaton, state })
+        } else {
+            None
+        }
     }
-}
 
-// A jump by edge i.
-pub(crate) fn jump_move(automaton: &[u8], location: usize, clocks: [u64; 8], i: usize) -> Moved
-    requires { Accepted automaton.now × CanStep automaton.now location clocks }
-    ensures { result ≡ jump_move automaton.now location clocks i }
-{
-    if counts_of(automaton).edges <= i {
-        return stop(location, clocks);
+    // By edge i, which was fetched: the guard must hold before the reset, the invariant at arrival after it.
+    fn take(self, i: usize, edge: Edge) -> Option<Ready<'a>>
+        requires { (i < edges self.automaton.now.bytes.now) × (edge.to < locations self.automaton.now.bytes.now) }
+        ensures { Leads self.entry.automaton.now.bytes.now
+            (edge_move self.entry.automaton.now.bytes.now i edge self.entry.state.clocks) result }
+    {
+        let automaton = self.automaton;
+        let state = State {
+            location: edge.to,
+            clocks: reset(self.state.clocks, edge.resets, automaton.clocks),
+        };
+        let guarded = self.state.meets_guard(automaton, i);
+        let arrives = state.meets_invariant(automaton);
+        if guarded && arrives {
+            Some(Ready { automaton, state })
+        } else {
+            None
+        }
     }
-    let edge = edge_of(automaton, i);
-    if edge.from != location {
-        return stop(location, clocks);
+
+    // The state after a jump by edge i.
+    pub(crate) fn jump(self, i: usize) -> Option<Ready<'a>>
+        ensures { Leads self.entry.automaton.now.bytes.now (jump_move self.entry.automaton.now.bytes.now self.entry.state i) result }
+    {
+        let automaton = self.automaton;
+        if automaton.edges <= i {
+            return None;
+        }
+        let edge = automaton.edge(i);
+        if edge.from != self.state.location {
+            return None;
+        }
+        self.take(i, edge)
     }
-    take(automaton, i, edge, clocks)
 }

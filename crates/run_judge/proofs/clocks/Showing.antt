@@ -4,7 +4,9 @@ use Prim.Native.Nat.{ℕ, zero, suc, ◌+◌, ◌≤◌, ◌<◌}
 use mathlib.Core.Path.{◌≡◌, refl, sym, ◌∙◌, subst}
 use mathlib.Core.Bool.{Bool, true, false, cond}
 use mathlib.Core.List.{List}
+use mathlib.Core.Logic.{◌↔◌}
 use native.Mathlib.Omega.{arith}
+use native.Mathlib.Numerals.{add-one}
 use native.Mathlib.Decide.{ℕ_discrete}
 use native.Mathlib.Nat.{not-suc-le-zero}
 use borrow.Author.Tests.{ltb-false, leb-true, le-leb, le-ltb}
@@ -13,7 +15,7 @@ use lib.ListN.{length, get_or, set, length-set}
 use lib.Seq.{get_or-set_same, get_or-set_other}
 use Rattle.runs.proofs.Contradictions.{true_false}
 use Rattle.automata.specs.Automata.{lo_at, hi_at, no_upper}
-use Rattle.run_judge.specs.Clocks.{holds, within_at, waited, reset_by}
+use Rattle.run_judge.specs.Clocks.{holds, EachHolds, within_at, waited, reset_by}
 
 -- ---- one limit
 pub record Held (lo hi y : ℕ) : Type 0 where
@@ -65,6 +67,16 @@ module _ (b : List ℕ) (at : ℕ) (c : List ℕ) where
   unfolding within_at
   shows_within zero h = refl
   shows_within (suc k) h = rw (shows_holds _ _ _ (h k (omega arith))) (shows_within k (λ x l. h x (omega arith)))
+
+  -- so a test of them all is the definition's
+  pub all_within : (k : ℕ) {r : Bool} → (r ≡ true) ↔ EachHolds b at c k → r ≡ within_at b at c k
+  all_within k {r} e = go r e (within_at b at c k) refl
+    where
+      go : (r : Bool) → (r ≡ true) ↔ EachHolds b at c k → (t : Bool) → within_at b at c k ≡ t → r ≡ t
+      go true e true w = refl
+      go true e false w = true_false (sym (shows_within k (λ x h. holds_shows _ _ _ (rw add-one at (e.0 refl x h)))) ∙ w)
+      go false e true w = e.1 (λ x h. let i = within_shows k w x h in rw add-one (shows_holds _ _ _ i))
+      go false e false w = refl
 
 -- ---- the clocks after a wait
 module _ (t : ℕ) (c : List ℕ) where

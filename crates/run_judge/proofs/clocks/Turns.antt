@@ -1,19 +1,19 @@
--- One turn of each loop over the clocks.
+-- One limit, and one turn of each loop over the clocks.
 -- Assumes nothing.
-use Prim.Native.Nat.{ℕ, zero, suc, ◌+◌, ◌-◌, ◌≤◌, ◌<◌}
-use mathlib.Core.Path.{◌≡◌, refl, sym, ap, ◌∙◌}
-use mathlib.Core.Bool.{Bool, true, false}
+use Prim.Native.Nat.{ℕ, ◌+◌, ◌≤◌, ◌<◌}
+use mathlib.Core.Path.{◌≡◌, refl}
+use mathlib.Core.Bool.{Bool, true, false, cond}
 use mathlib.Core.List.{List}
 use native.Mathlib.Omega.{arith}
 use native.Mathlib.Numerals.{add-one}
-use native.Mathlib.Nat.{not-suc-le-zero}
-use borrow.Author.Tests.{lt-ltb, le-ltb, eq-eqb, ne_eqb}
-use lib.Dec.{leb}
+use borrow.Author.Tests.{lt-ltb, le-ltb}
+use lib.Dec.{leb, eqb}
 use lib.ListN.{get_or, set}
-use Rattle.automata.specs.Automata.{lo_at, hi_at, no_upper}
-use Rattle.automata.specs.Opened.{limits_of}
-use Rattle.automata.specs.declared.fields.Limits.{Limits}
-use Rattle.run_judge.specs.Clocks.{holds, within_at, waited, reset_by}
+use Rattle.std.specs.Prelude.{Option, None, Some, MatchOption, IsTrue}
+use Rattle.automata.specs.Automata.{no_upper}
+use Rattle.automata.specs.Opened.{upper_of}
+use Rattle.run_judge.specs.Clocks.{holds, waited, reset_by}
+use Rattle.run_judge.proofs.clocks.Showing.{waited_past}
 
 -- ---- one limit
 module _ (lo hi y : ℕ) where
@@ -21,41 +21,19 @@ module _ (lo hi y : ℕ) where
   unfolding holds
   holds_low h = rw (lt-ltb y lo h)
 
-  pub holds_free : lo ≤ y → hi ≡ no_upper → true ≡ holds lo hi y
-  unfolding holds
-  holds_free h e = rw (le-ltb y lo h) (rw (eq-eqb hi no_upper e))
-
-  pub holds_most : lo ≤ y → (hi ≡ no_upper → ⊥) → leb y hi ≡ holds lo hi y
-  unfolding holds
-  holds_most h e = rw (le-ltb y lo h) (rw (ne_eqb hi no_upper e))
-
--- ---- all limits, downwards; those of clock x as they were fetched
-module _ (b : List ℕ) (at : ℕ) (c : List ℕ) where
-  held : (k : ℕ) {L : Limits} → L ≡ limits_of b at (suc k) → {t : Bool} → holds L.lo L.hi (get_or c (suc k - 1) 0) ≡ t →
-      holds (lo_at b at (suc k)) (hi_at b at (suc k)) (get_or c k 0) ≡ t
-  held k e t = let f : k ≡ suc k - 1 = omega arith in (λ j. holds (sym e j).lo (sym e j).hi (get_or c (f j) 0)) ∙ t
-
-  pub within_on : (x : ℕ) {L : Limits} → L ≡ limits_of b at x → 0 < x → holds L.lo L.hi (get_or c (x - 1) 0) ≡ true →
-      within_at b at c x ≡ within_at b at c (x - 1)
-  unfolding within_at
-  within_on zero e h t = absurd (not-suc-le-zero h)
-  within_on (suc k) e h t = let f : k ≡ suc k - 1 = omega arith in rw (held k e t) (ap (within_at b at c) f)
-
-  pub within_off : (x : ℕ) {L : Limits} → L ≡ limits_of b at x → 0 < x → holds L.lo L.hi (get_or c (x - 1) 0) ≡ false →
-      within_at b at c x ≡ false
-  unfolding within_at
-  within_off zero e h t = absurd (not-suc-le-zero h)
-  within_off (suc k) e h t = rw (held k e t)
-
-  pub within_all : (x : ℕ) → x ≤ 0 → within_at b at c x ≡ true
-  unfolding within_at
-  within_all zero h = refl
-  within_all (suc k) h = absurd (not-suc-le-zero h)
+  -- where there is a hi it decides
+  pub holds_upper : lo ≤ y → {o : Option ℕ} {r : Bool} → o ≡ upper_of hi → MatchOption o (IsTrue r) (λ x. r ≡ leb y x) → r ≡ holds lo hi y
+  unfolding holds upper_of
+  holds_upper h {o} {r} e m = rw (le-ltb y lo h) (go (eqb hi no_upper) (rw e at m))
+    where
+      go : (t : Bool) → MatchOption (cond t None (Some hi)) (IsTrue r) (λ x. r ≡ leb y x) → r ≡ cond t true (leb y hi)
+      go true g = g
+      go false g = g
 
 -- ---- the steps, upwards
-pub waited_next : (t k : ℕ) (c d : List ℕ) → d ≡ waited t k c → set d k (get_or c k 0 + t) ≡ waited t (k + 1) c
+pub waited_next : (t k : ℕ) (c d : List ℕ) → d ≡ waited t k c → set d k (get_or d k 0 + t) ≡ waited t (k + 1) c
 unfolding waited
-waited_next t k c d e = rw add-one (rw e refl)
+waited_next t k c d e = let f : k ≤ k = omega arith in rw add-one (rw e (rw (waited_past t c k k f) refl))
 
 module _ (R : ℕ → Bool) (k : ℕ) (c d : List ℕ) (e : d ≡ reset_by R k c) where
   pub reset_put : R k ≡ true → set d k 0 ≡ reset_by R (k + 1) c

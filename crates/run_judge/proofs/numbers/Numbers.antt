@@ -1,83 +1,107 @@
--- What the tests of `number` and `count` show.
+-- What is made of the numbers of a buffer.
 -- Assumes nothing.
-use Prim.Native.Nat.{ℕ, ◌≤◌, ◌<◌}
-use mathlib.Core.Path.{◌≡◌, refl}
+use Prim.Native.Nat.{ℕ, ◌+◌, ◌-◌, ◌≤◌, ◌<◌}
+use mathlib.Core.List.{List, [], ◌∷◌}
+use mathlib.Core.Logic.{⊎_elim}
+use mathlib.Core.Path.{◌≡◌, refl, sym, ap, ◌∙◌}
 use mathlib.Core.Bool.{Bool, true, false, cond}
 use native.Mathlib.Omega.{arith}
 use borrow.Author.Tests.{ltb-true, ltb-false, lt-ltb, le-ltb}
-use lib.Dec.{T, ltb}
+use denote.Ref.{Bor}
+use lib.Dec.{ltb}
 use lib.IntN.{ℤ, pos, negsuc, nat_abs}
-use lib.Signed.{lt_z, non_neg}
+use lib.ListN.{length, take, drop}
+use lib.Seq.{slice}
 use mir.Syntax.{w64}
-use mir.Val.{SFits, Fits, to_z, of_z}
+use mir.Val.{SFits, to_z, of_z}
 use mir.Facts.{to_z-of_z}
+use Rattle.std.proofs.lemmas.List.{drop-take}
+use Rattle.std.proofs.Math.Nat.{min-eq_left, min-eq_right}
+use Rattle.std.specs.Int.{FitsUnsignedBits}
+use Rattle.std.specs.List.{slice_get}
+use Rattle.std.specs.Option.{is_some, unwrap_or}
+use Rattle.std.specs.Prelude.{min, Option, None, Some, MatchOption, Result, Ok, Err, OkIff, MatchResult}
+use Rattle.std.specs.Result.{result_ok}
+use Rattle.std.specs.Slice.{IsGetRangeResult}
 use Rattle.runs.specs.Limits.{scale}
 use Rattle.runs.proofs.Contradictions.{true_false}
-use Rattle.run_judge.specs.Numbers.{capped, count_of}
+use Rattle.run_judge.specs.Numbers.{capped, count_of, announced, Announced}
 
--- z as the code holds it
-module _ (z : ℤ) (h : SFits w64 z) where
+-- ---- z as the code holds it, and the natural r that is made of it, if it is one
+module _ {z : ℤ} (h : SFits w64 z) where
   abbrev held : ℤ
   held = to_z w64 (of_z w64 z)
 
-  is : to_z w64 (of_z w64 z) ≡ z
-  is = to_z-of_z h
-
-  pub capped_low : lt_z held (pos 0) ≡ true → 1000001 ≡ capped z
+  pub capped_is : {E : Type 0} (r : Result ℕ E) {k n : ℕ} → k ≡ scale → OkIff r (FitsUnsignedBits 64 held) (nat_abs held) →
+      MatchResult r (λ x. n ≡ min x (k + 1)) (λ e. n ≡ k + 1) → n ≡ capped z
   unfolding capped
-  capped_low e = go z (rw is at e)
+  capped_is r {k} {n} f g m = let is : held ≡ z = to_z-of_z h in go z h r (rw is at g) (rw f at m)
     where
-      go : (y : ℤ) → lt_z y (pos 0) ≡ true → 1000001 ≡ capped y
-      go (pos n) f = absurd (omega (arith, ltb-true n 0 f))
-      go (negsuc n) f = refl
+      least : (x : ℕ) (t : Bool) → ltb scale x ≡ t → min x (scale + 1) ≡ cond t (scale + 1) x
+      least x true e = let l = ltb-true scale x e in min-eq_right (omega (arith, l))
+      least x false e = let l = ltb-false scale x e in min-eq_left (omega (arith, l))
 
-  pub capped_high : lt_z (pos 1000000) held ≡ true → 1000001 ≡ capped z
-  unfolding capped
-  capped_high e = go z (rw is at e)
-    where
-      go : (y : ℤ) → lt_z (pos 1000000) y ≡ true → 1000001 ≡ capped y
-      go (pos n) f = rw f
-      go (negsuc n) f = refl
+      go : {E : Type 0} (y : ℤ) → SFits w64 y → (r : Result ℕ E) → OkIff r (FitsUnsignedBits 64 y) (nat_abs y) →
+          MatchResult r (λ x. n ≡ min x (scale + 1)) (λ e. n ≡ scale + 1) → n ≡ capped y
+      go (pos x) s (Ok x') g m = m ∙ ap (λ (x : ℕ). min x (scale + 1)) g.1 ∙ least x (ltb scale x) refl
+      go (pos x) s (Err e) g m = absurd (g (omega (arith, s.sfits)))
+      go (negsuc x) s (Ok x') g m = absurd g.0
+      go (negsuc x) s (Err e) g m = m
 
-  pub natural : lt_z held (pos 0) ≡ false → T (non_neg held) × Fits w64 (nat_abs held)
-  natural e = rw is (go z h (rw is at e))
-    where
-      go : (y : ℤ) → SFits w64 y → lt_z y (pos 0) ≡ false → T (non_neg y) × Fits w64 (nat_abs y)
-      go (pos n) g f = (tt, record { fits = omega (arith, g.sfits) })
-      go (negsuc n) g f = true_false f
-
-  pub capped_is : lt_z held (pos 0) ≡ false → lt_z (pos 1000000) held ≡ false → nat_abs held ≡ capped z
-  unfolding capped
-  capped_is e k = rw is (go z (rw is at e) (rw is at k))
-    where
-      go : (y : ℤ) → lt_z y (pos 0) ≡ false → lt_z (pos 1000000) y ≡ false → nat_abs y ≡ capped y
-      go (pos n) f g = rw g
-      go (negsuc n) f g = true_false f
-
-  module _ (k : ℕ) where
-    pub count_low : lt_z held (pos 0) ≡ true → 0 ≡ count_of z k
+  -- the count that z is, if it is none, and if it is n
+  module _ {E : Type 0} (k : ℕ) where
+    pub count_none : (r : Result ℕ E) → OkIff r (FitsUnsignedBits 64 held) (nat_abs held) → None ≡ result_ok r → count_of z k ≡ 0
     unfolding count_of
-    count_low e = go z (rw is at e)
+    count_none r g f = let is : held ≡ z = to_z-of_z h in go z h r (rw is at g) f
       where
-        go : (y : ℤ) → lt_z y (pos 0) ≡ true → 0 ≡ count_of y k
-        go (pos n) f = absurd (omega (arith, ltb-true n 0 f))
-        go (negsuc n) f = refl
+        go : (y : ℤ) → SFits w64 y → (r : Result ℕ E) → OkIff r (FitsUnsignedBits 64 y) (nat_abs y) → None ≡ result_ok r → count_of y k ≡ 0
+        go y s (Ok x) g f = true_false (sym (ap is_some f))
+        go (pos x) s (Err e) g f = absurd (g (omega (arith, s.sfits)))
+        go (negsuc x) s (Err e) g f = refl
 
-    pub count_high : lt_z held (pos 0) ≡ false → k < nat_abs held → 0 ≡ count_of z k
+    pub count_some : (r : Result ℕ E) {n : ℕ} → OkIff r (FitsUnsignedBits 64 held) (nat_abs held) → Some n ≡ result_ok r →
+        count_of z k ≡ cond (ltb k n) 0 n
     unfolding count_of
-    count_high e l = go z (rw is at e) (rw is at l)
+    count_some r {n} g f = let is : held ≡ z = to_z-of_z h in go z r (rw is at g) f
       where
-        go : (y : ℤ) → lt_z y (pos 0) ≡ false → k < nat_abs y → 0 ≡ count_of y k
-        go (pos n) f g = rw (lt-ltb k n g)
-        go (negsuc n) f g = true_false f
+        go : (y : ℤ) (r : Result ℕ E) → OkIff r (FitsUnsignedBits 64 y) (nat_abs y) → Some n ≡ result_ok r → count_of y k ≡ cond (ltb k n) 0 n
+        go y (Err e) g f = true_false (ap is_some f)
+        go (pos x) (Ok x') g f = let e : x ≡ n = sym g.1 ∙ sym (ap (λ o. unwrap_or o x) f) in ap (λ (n : ℕ). cond (ltb k n) 0 n) e
+        go (negsuc x) (Ok x') g f = absurd g.0
 
-    pub count_is : lt_z held (pos 0) ≡ false → nat_abs held ≤ k → nat_abs held ≡ count_of z k
-    unfolding count_of
-    count_is e l = rw is (go z (rw is at e) (rw is at l))
-      where
-        go : (y : ℤ) → lt_z y (pos 0) ≡ false → nat_abs y ≤ k → nat_abs y ≡ count_of y k
-        go (pos n) f g = rw (le-ltb k n g)
-        go (negsuc n) f g = true_false f
+-- ---- the count of a buffer
+module _ (r : List ℤ) where
+  pub announced_none : None ≡ slice_get r 0 → announced r ≡ 0
+  unfolding count_of
+  announced_none = go r
+    where
+      go : (r : List ℤ) → None ≡ slice_get r 0 → announced r ≡ 0
+      go [] e = refl
+      go (z ∷ zs) e = true_false (sym (ap is_some e))
+
+  pub announced_is : {z : ℤ} → Some z ≡ slice_get r 0 → announced r ≡ count_of z (length r)
+  announced_is {z} = go r
+    where
+      go : (r : List ℤ) → Some z ≡ slice_get r 0 → announced r ≡ count_of z (length r)
+      go [] e = true_false (ap is_some e)
+      go (x ∷ xs) e = ap (λ (o : Option ℤ). count_of (unwrap_or o x) (length (x ∷ xs))) (sym e)
+
+  -- the part from 1 to n, where it is one
+  pub announced_part : {n : ℕ} → announced r ≡ cond (ltb (length r) n) 0 n → (o : Option (Bor (List ℤ))) → IsGetRangeResult r 1 n o →
+      MatchOption o (announced r ≡ 0) (λ zs. Announced r zs.now)
+  announced_part {n} e None g = e ∙ ⊎_elim (low (ltb (length r) n)) high g.0
+    where
+      low : (t : Bool) → n < 1 → cond t 0 n ≡ 0
+      low true h = refl
+      low false h = omega (arith, h)
+
+      high : length r < n → cond (ltb (length r) n) 0 n ≡ 0
+      high h = rw (lt-ltb (length r) n h) refl
+  announced_part {n} e (Some zs) g =
+      let f : announced r ≡ n = rw (le-ltb (length r) n g.0.1) at e in
+      let m : 1 + (n - 1) ≡ n = omega (arith, g.0.0) in
+      let s : take (n - 1) (drop 1 r) ≡ slice 1 n r = rw m at (sym (drop-take 1 (n - 1) r)) in
+      record { some = rw f g.0.0; numbers = rw f (g.0.2 ∙ s) }
 
 -- ---- of any number
 pub capped_top : (z : ℤ) → capped z ≤ 1000001

@@ -11,26 +11,29 @@ use lib.Dec.{ltb, eqb, eqb-suc-zero}
 use lib.IntN.{ℤ, pos, negsuc}
 use lib.ListN.{length, get_or, take, drop, replicate, length-append, take-append-drop}
 use lib.Seq.{length-take-le, take_at}
+use Rattle.std.specs.Prelude.{Some, Result, Ok, Err}
 use Rattle.runs.specs.Runs.{Stand, Step, wait, jump, jumps, first, last, Can, Steps, Run}
 use Rattle.runs.specs.Timed.{Valuation, later, zeroed}
 use Rattle.runs.specs.Written.{numbers, ByTurns, alone, then, written}
 use Rattle.runs.proofs.Contradictions.{true_false}
 use Rattle.automata.specs.Accepted.{Accepted}
 use Rattle.automata.specs.Automata.{clocks, locations, start, target, to, resets_of}
+use Rattle.automata.specs.Numbers.{number, named}
 use Rattle.automata.specs.Refusals.{refusal_of}
 use Rattle.automata.specs.Semantics.{system_of}
+use Rattle.automata.specs.declared.refusals.Refusal.{Refusal}
 use Rattle.automata.proofs.accepting.Accepting.{accepted}
-use Rattle.run_judge.specs.declared.judgement.Judgement.{Judgement}
-use Rattle.run_judge.specs.declared.judgement.Judgement.TheVariants.{Refused, Yes, No}
+use Rattle.automata.proofs.accepting.Numbering.{above, named_number}
+use Rattle.run_judge.specs.declared.state.State.{State}
 use Rattle.run_judge.specs.Clocks.{meets_invariant, waited}
-use Rattle.run_judge.specs.Judging.{waits_from, jumps_from, passes_to, answer, judgement_of}
+use Rattle.run_judge.specs.Judging.{waits_from, jumps_from, begins, passes_to, judgement_of}
 use Rattle.run_judge.specs.Moves.{wait_move, jump_move}
-use Rattle.run_judge.specs.Numbers.{capped, count_of}
+use Rattle.run_judge.specs.Numbers.{capped, count_of, announced, Announced}
 use Rattle.run_judge.specs.Passing.{Passes}
-use Rattle.run_judge.proofs.numbers.Numbers.{capped_fits, count_top, count_same}
-use Rattle.run_judge.proofs.steps.Readying.{both}
-use Rattle.run_judge.proofs.stretches.Ending.{passes_none}
-use Rattle.run_judge.proofs.stretches.Following.{waits_cons, jumps-cons}
+use Rattle.run_judge.proofs.numbers.Numbers.{capped_fits, count_same}
+use Rattle.run_judge.proofs.steps.Moving.{first_is}
+use Rattle.run_judge.proofs.stretches.Ending.{begins_none, begins_some}
+use Rattle.run_judge.proofs.stretches.Following.{waits_some, jumps_some, waits_made, jumps_made}
 use Rattle.run_judge.proofs.passing.Agreeing.{Agrees, start_agrees}
 use Rattle.run_judge.proofs.passing.Telling.{reset_of, wait_tells, jump_tells, wait_made, jump_made, waits_agree, jumps_agree}
 use Rattle.run_judge.proofs.passing.Telling.{invariant_means, means_invariant}
@@ -71,63 +74,57 @@ module _ (b : List ℕ) (a : Accepted b) where
     there = r.there;
   }
 
-  told : (zs : List ℤ) (l : ℕ) (c : List ℕ) (v : Valuation) → Agrees (clocks b) c v → waits_from b zs l c ≡ true →
-      Told zs (record { at = l; clocks = v })
+  told : (zs : List ℤ) (q : State) (v : Valuation) → Agrees (clocks b) q.clocks v → waits_from b zs q ≡ true →
+      Told zs (record { at = q.location; clocks = v })
   unfolding waits_from
-  told [] l c v y e = true_false (sym e)
-  told (z ∷ []) l c v y e =
-      let t = capped z in
-      let m = wait_move b l c t in
-      let s = both m.made (jumps_from b [] m.location m.clocks) (sym (waits_cons b z [] l c) ∙ e) in
-      let w = wait_tells b a l c v y t s.0 in
+  told [] q v y e = true_false (sym e)
+  told (z ∷ []) q v y e =
+      let s = waits_made b z [] q e in
+      let w = wait_tells b a q v y (capped z) s.1 in
       record {
-        steps = wait t ∷ [];
+        steps = wait (capped z) ∷ [];
         is = ap (λ (n : ℤ). n ∷ []) (sym (capped_fits z w.0));
-        turns = alone t;
+        turns = alone (capped z);
         made = (w.1.can, tt);
-        there = sym w.1.location ∙ eqb-true m.location (target b) s.1;
+        there = sym w.1.location ∙ eqb-true s.0.location (target b) s.2;
       }
-  told (z ∷ u ∷ zs) l c v y e =
-      let t = capped z in
+  told (z ∷ u ∷ zs) q v y e =
       let i = capped u in
-      let m = wait_move b l c t in
-      let s = both m.made (jumps_from b (u ∷ zs) m.location m.clocks) (sym (waits_cons b z (u ∷ zs) l c) ∙ e) in
-      let w = wait_tells b a l c v y t s.0 in
-      let k = jump_move b m.location m.clocks i in
-      let d = both k.made (waits_from b zs k.location k.clocks) (sym (jumps-cons b u zs m.location m.clocks) ∙ s.1) in
-      let j = jump_tells b a m.location m.clocks (later t v) w.1.agrees i d.0 in
-      let r = told zs k.location k.clocks (zeroed (resets_of b i) 1 (later t v)) j.1.agrees d.1 in
-      joined z u zs l v t i (capped_fits z w.0) (capped_fits u (omega (arith, j.0, a.complete.edges≤))) w.1.can
-      (subst (λ (n : ℕ). Can (system_of b) 1 0 (record { at = n; clocks = later t v }) (jump i)) w.1.location j.1.can)
-      (subst (λ (n : ℕ). Told zs (record { at = n; clocks = zeroed (resets_of b i) 1 (later t v) })) j.1.location r)
+      let s = waits_made b z (u ∷ zs) q e in
+      let w = wait_tells b a q v y (capped z) s.1 in
+      let d = jumps_made b u zs s.0 s.2 in
+      let x = later (capped z) v in
+      let j = jump_tells b a s.0 x w.1.agrees i d.1 in
+      let r = told zs d.0 (zeroed (resets_of b i) 1 x) j.1.agrees d.2 in
+      joined z u zs q.location v (capped z) i (capped_fits z w.0) (capped_fits u (omega (arith, j.0, a.complete.edges≤))) w.1.can
+      (subst (λ (n : ℕ). Can (system_of b) 1 0 (record { at = n; clocks = x }) (jump i)) w.1.location j.1.can)
+      (subst (λ (n : ℕ). Told zs (record { at = n; clocks = zeroed (resets_of b i) 1 x })) j.1.location r)
 
   -- and back: steps by turns to the target are judged so
-  untold : (l : ℕ) (c : List ℕ) (v : Valuation) {xs : List Step} → ByTurns xs → Agrees (clocks b) c v → l < locations b →
-      Steps (system_of b) 1 0 (record { at = l; clocks = v }) xs → (last (system_of b) (record { at = l; clocks = v }) xs).at ≡ target b →
-      waits_from b (numbers xs) l c ≡ true
+  untold : (q : State) (v : Valuation) {xs : List Step} → ByTurns xs → Agrees (clocks b) q.clocks v → q.location < locations b →
+      Steps (system_of b) 1 0 (record { at = q.location; clocks = v }) xs →
+      (last (system_of b) (record { at = q.location; clocks = v }) xs).at ≡ target b → waits_from b (numbers xs) q ≡ true
   unfolding jumps_from
-  untold l c v (alone t) y h s e =
-      let w = wait_made b a l c v y t h s.0 in
-      waits_cons b (pos t) [] l c ∙ rw w.0 (rw w.1 (eq-eqb l (target b) e))
-  untold l c v (then t i {xs} k) y h s e =
-      let w = wait_made b a l c v y t h s.0 in
-      let d = waited t (clocks b) c in
-      let z = waits_agree b a c v y l t in
-      let j = jump_made b a l d (later t v) z i s.1.0 in
-      let r = untold (to b i) (reset_of b a i d) (zeroed (resets_of b i) 1 (later t v)) k (jumps_agree b a d (later t v) z l i) (a.to< i s.1.0.0)
-      s.1.1 e in
-      waits_cons b (pos t) (pos i ∷ numbers xs) l c
-      ∙ rw w.0 (rw w.1 (jumps-cons b (pos i) (numbers xs) l d ∙ rw j.0 (rw j.1 r)))
+  untold q v (alone t) y h s e =
+      let w = wait_made b a q v y t h s.0 in
+      let d : State = record { location = q.location; clocks = waited t (clocks b) q.clocks } in
+      let m : wait_move b q (capped (pos t)) ≡ Some d = rw w.0 w.1 in
+      waits_some b (pos t) [] q m ∙ eq-eqb q.location (target b) e
+  untold q v (then t i {xs} k) y h s e =
+      let w = wait_made b a q v y t h s.0 in
+      let d : State = record { location = q.location; clocks = waited t (clocks b) q.clocks } in
+      let z = waits_agree b a q.clocks v y q.location t in
+      let j = jump_made b a d (later t v) z i s.1.0 in
+      let c : State = record { location = to b i; clocks = reset_of b a i d.clocks } in
+      let r = untold c (zeroed (resets_of b i) 1 (later t v)) k (jumps_agree b a d.clocks (later t v) z q.location i) (a.to< i s.1.0.0) s.1.1 e in
+      let m : wait_move b q (capped (pos t)) ≡ Some d = rw w.0 w.1 in
+      let o : jump_move b d (capped (pos i)) ≡ Some c = rw j.0 j.1 in
+      waits_some b (pos t) (pos i ∷ numbers xs) q m ∙ jumps_some b (pos i) (numbers xs) d o ∙ r
 
 -- ---- the whole buffer, of an automaton that is not turned down
-abbrev is_yes : Judgement → Bool
-is_yes (Refused k) = false
-is_yes Yes = true
-is_yes No = false
-
-answer_yes : (t : Bool) → answer t ≡ Yes → t ≡ true
-answer_yes true e = refl
-answer_yes false e = ap is_yes e
+abbrev is_yes : Result Bool Refusal → Bool
+is_yes (Ok t) = t
+is_yes (Err k) = false
 
 module _ (b : List ℕ) (free : refusal_of b ≡ 0) where
   a : Accepted b
@@ -136,12 +133,22 @@ module _ (b : List ℕ) (free : refusal_of b ≡ 0) where
   start_same : Agrees (clocks b) (replicate 8 0) (replicate (clocks b) 0)
   start_same = start_agrees (clocks b) a.complete.clocks≤
 
+  abbrev zeros : State
+  zeros = record { location = start b; clocks = replicate 8 0 }
+
+  begins_yes : (zs : List ℤ) → begins b zs ≡ true → (meets_invariant b (start b) (replicate 8 0) ≡ true) × (waits_from b zs zeros ≡ true)
+  begins_yes zs e = go (meets_invariant b (start b) (replicate 8 0)) refl
+    where
+      go : (t : Bool) → meets_invariant b (start b) (replicate 8 0) ≡ t → (t ≡ true) × (waits_from b zs zeros ≡ true)
+      go true f = (refl, sym (begins_some b zs (first_is b refl (sym f))) ∙ e)
+      go false f = true_false (sym e ∙ begins_none b zs (first_is b refl (sym f)))
+
   -- a buffer that begins with its count k + 1
   passes_yes : (k : ℕ) (xs : List ℤ) → k ≤ length xs → passes_to b (pos (suc k) ∷ xs) (suc k) ≡ true → Passes b (pos (suc k) ∷ xs)
   unfolding passes_to
   passes_yes k xs h e =
-      let s = both (meets_invariant b (start b) (replicate 8 0)) (waits_from b (take k xs) (start b) (replicate 8 0)) (rw (eqb-suc-zero k) at e) in
-      let t = told b a (take k xs) (start b) (replicate 8 0) (replicate (clocks b) 0) start_same s.1 in
+      let s = begins_yes (take k xs) (rw (eqb-suc-zero k) at e) in
+      let t = told b a (take k xs) zeros (replicate (clocks b) 0) start_same s.1 in
       let n : suc k ≡ 2 * length (jumps t.steps) + 2 =
       omega (arith, turns_count t.turns, numbers-length t.steps, ap length t.is, length-take-le k xs h) in
       record {
@@ -168,45 +175,51 @@ module _ (b : List ℕ) (free : refusal_of b ≡ 0) where
       go false f r = passes_yes k xs (omega (arith, ltb-false (suc (length xs)) (suc k) f)) r
   count_yes (negsuc n) xs e = true_false (sym e)
 
-  said_passes : (r : List ℤ) → answer (passes_to b r (count_of (get_or r 0 (pos 0)) (length r))) ≡ Yes → Passes b r
+  said_passes : (r : List ℤ) → passes_to b r (count_of (get_or r 0 (pos 0)) (length r)) ≡ true → Passes b r
   unfolding count_of passes_to
-  said_passes [] e = true_false (sym (answer_yes _ e))
-  said_passes (z ∷ xs) e = count_yes z xs (answer_yes _ e)
+  said_passes [] e = true_false (sym e)
+  said_passes (z ∷ xs) e = count_yes z xs e
 
   -- and back: steps by turns, with their count before them
   passes-back : (xs : List Step) (rest : List ℤ) (z : ℤ) → ByTurns xs → Run (system_of b) 1 0 xs →
       (last (system_of b) (first (system_of b)) xs).at ≡ target b → passes_to b (z ∷ (numbers xs ++ rest)) (suc (length xs)) ≡ true
   unfolding passes_to
   passes-back xs rest z t u e =
-      let w = untold b a (start b) (replicate 8 0) (replicate (clocks b) 0) t start_same a.start< u.1 e in
-      rw (eqb-suc-zero (length xs)) (rw (means_invariant b a (replicate 8 0) (replicate (clocks b) 0) start_same (start b) u.0)
-      (rw (take_at (numbers xs) rest (length xs) (numbers-length xs)) w))
+      let w = untold b a zeros (replicate (clocks b) 0) t start_same a.start< u.1 e in
+      let i = means_invariant b a (replicate 8 0) (replicate (clocks b) 0) start_same (start b) u.0 in
+      rw (eqb-suc-zero (length xs)) (rw (take_at (numbers xs) rest (length xs) (numbers-length xs))
+      (begins_some b (numbers xs) (first_is b refl (sym i)) ∙ w))
 
 -- ---- the judgement, by the refusal
 module _ (b : List ℕ) (r : List ℤ) where
-  pub refused_says : {k : ℕ} → k ≡ refusal_of b → (k ≡ 0 → ⊥) → Refused k ≡ judgement_of b r
+  pub refused_says : {k : Refusal} → number k ≡ refusal_of b → Err k ≡ judgement_of b r
   unfolding judgement_of
-  refused_says e h = rw (ne_eqb (refusal_of b) 0 (λ q. h (e ∙ q))) (ap (λ (n : ℕ). Refused n) e)
+  refused_says {k} e = rw (ne_eqb (refusal_of b) 0 (λ z. absurd (omega (arith, e, above k)))) (ap Err (sym (named_number k) ∙ ap named e))
 
   pub free_says : refusal_of b ≡ 0 → {end : ℕ} {t : Bool} → end ≡ count_of (get_or r 0 (pos 0)) (length r) → t ≡ passes_to b r end →
-      answer t ≡ judgement_of b r
+      Ok t ≡ judgement_of b r
   unfolding judgement_of
   free_says f e g = rw (eq-eqb (refusal_of b) 0 f) (rw g (rw e refl))
 
-  pub none_says : refusal_of b ≡ 0 → length r ≡ 0 → No ≡ judgement_of b r
-  none_says f h = free_says f (omega (arith, count_top (get_or r 0 (pos 0)) (length r))) (passes_none b r 0 refl)
+  pub none_says : refusal_of b ≡ 0 → announced r ≡ 0 → Ok false ≡ judgement_of b r
+  unfolding passes_to
+  none_says f e = free_says f refl (rw (eq-eqb (announced r) 0 e) refl)
 
-  judged_passes : judgement_of b r ≡ Yes → Passes b r
+  pub some_says : refusal_of b ≡ 0 → {zs : List ℤ} {t : Bool} → Announced r zs → t ≡ begins b zs → Ok t ≡ judgement_of b r
+  unfolding passes_to
+  some_says f e g = free_says f refl (rw (ne_eqb (announced r) 0 (λ z. absurd (omega (arith, e.some)))) (g ∙ ap (begins b) e.numbers))
+
+  judged_passes : judgement_of b r ≡ Ok true → Passes b r
   unfolding judgement_of
   judged_passes = go (eqb (refusal_of b) 0) refl
     where
       go : (t : Bool) → eqb (refusal_of b) 0 ≡ t →
-          cond t (answer (passes_to b r (count_of (get_or r 0 (pos 0)) (length r)))) (Refused (refusal_of b)) ≡ Yes → Passes b r
-      go true f e = said_passes b (eqb-true (refusal_of b) 0 f) r e
+          cond t (Ok (passes_to b r (count_of (get_or r 0 (pos 0)) (length r)))) (Err (named (refusal_of b))) ≡ Ok true → Passes b r
+      go true f e = said_passes b (eqb-true (refusal_of b) 0 f) r (ap is_yes e)
       go false f e = true_false (sym (ap is_yes e))
 
   -- what passes by the definition of runs, the judge passes
-  pub passes_judged : Passes b r → judgement_of b r ≡ Yes
+  pub passes_judged : Passes b r → judgement_of b r ≡ Ok true
   passes_judged p =
       let xs = p.steps in
       let n : 2 * length (jumps xs) + 2 ≡ suc (length xs) = omega (arith, turns_count p.turns) in
@@ -217,11 +230,11 @@ module _ (b : List ℕ) (r : List ℤ) where
       rw p.begins (rw n (sym (passes-back b p.accepted xs p.rest (pos (suc (length xs))) p.turns p.run p.there))) in
       sym (free_says p.accepted c t)
 
-  pub judged : (judgement_of b r ≡ Yes) ↔ Passes b r
+  pub judged : (judgement_of b r ≡ Ok true) ↔ Passes b r
   judged = (judged_passes, passes_judged)
 
   -- and so does whoever says what the judge's definition says
-  pub says : (j : Judgement) → j ≡ judgement_of b r → (j ≡ Yes) ↔ Passes b r
+  pub says : (j : Result Bool Refusal) → j ≡ judgement_of b r → (j ≡ Ok true) ↔ Passes b r
   says j e = (λ h. judged_passes (sym e ∙ h), λ p. e ∙ passes_judged p)
 
   -- what passes begins with an even count, from 2 to the length

@@ -1,13 +1,15 @@
 -- One step: the judge's test and a run's step are the same.
 -- Assumes nothing.
 use Prim.Native.Nat.{ℕ, suc, ◌+◌, ◌≤◌, ◌<◌}
-use mathlib.Core.Path.{◌≡◌, refl, sym}
+use mathlib.Core.Path.{◌≡◌, refl, sym, ap, subst}
 use mathlib.Core.Bool.{Bool, true, false, cond}
 use mathlib.Core.List.{List}
 use native.Mathlib.Omega.{arith}
 use borrow.Author.Tests.{ltb-false, leb-false, lt-leb, le-ltb, eqb-true, eq-eqb}
 use lib.Dec.{ltb, leb, eqb}
 use lib.IntN.{pos}
+use Rattle.std.specs.Option.{is_some, unwrap_or}
+use Rattle.std.specs.Prelude.{Some, None}
 use Rattle.runs.specs.Limits.{scale, Within}
 use Rattle.runs.specs.Runs.{Stand, Step, wait, jump, after, Can}
 use Rattle.runs.specs.Timed.{Valuation, ticks}
@@ -18,12 +20,12 @@ use Rattle.automata.specs.Automata.{clocks, locations, edges, from, to, edge_at,
 use Rattle.automata.specs.Opened.{edge_of}
 use Rattle.automata.specs.Semantics.{system_of}
 use Rattle.automata.proofs.fields.Resets.{resets_at}
-use Rattle.run_judge.specs.declared.steps.Moved.{Moved}
+use Rattle.run_judge.specs.declared.state.State.{State}
 use Rattle.run_judge.specs.Clocks.{meets_invariant, meets_guard, waited, reset_by, marked_in}
-use Rattle.run_judge.specs.Moves.{not_made, wait_move, edge_move, jump_move}
+use Rattle.run_judge.specs.Moves.{wait_move, edge_move, jump_move}
 use Rattle.run_judge.specs.Numbers.{capped}
 use Rattle.run_judge.proofs.numbers.Numbers.{capped_same}
-use Rattle.run_judge.proofs.steps.Readying.{both, present, on_scale}
+use Rattle.run_judge.proofs.steps.Readying.{present, on_scale}
 use Rattle.run_judge.proofs.passing.Agreeing.{Agrees, wait_agrees, reset_agrees, within_means, means_within}
 
 module _ (b : List ℕ) (a : Accepted b) where
@@ -37,11 +39,11 @@ module _ (b : List ℕ) (a : Accepted b) where
   abbrev pub reset_of : ℕ → List ℕ → List ℕ
   reset_of i c = reset_by (marked_in (edge_of b i).resets) (clocks b) c
 
-  -- a move that was made is the step x
-  pub record Made (l : ℕ) (v : Valuation) (m : Moved) (x : Step) : Type 0 where
+  -- a move to p is the step x
+  pub record Made (l : ℕ) (v : Valuation) (p : State) (x : Step) : Type 0 where
     pub can : Can (system_of b) 1 0 (stand l v) x
-    pub location : m.location ≡ (after (system_of b) (stand l v) x).at
-    pub agrees : Agrees (clocks b) m.clocks (after (system_of b) (stand l v) x).clocks
+    pub location : p.location ≡ (after (system_of b) (stand l v) x).at
+    pub agrees : Agrees (clocks b) p.clocks (after (system_of b) (stand l v) x).clocks
 
   module _ (c : List ℕ) (v : Valuation) (y : Agrees (clocks b) c v) where
     -- ---- limits and resets
@@ -68,40 +70,48 @@ module _ (b : List ℕ) (a : Accepted b) where
     jumps_agree l i = reset_agrees (clocks b) n≤ c v y _ (resets_of b i) (λ x h. resets_at b i (suc x) (omega (arith, n≤)))
 
   -- ---- what is made is a step
-  module _ (l : ℕ) (c : List ℕ) (v : Valuation) (y : Agrees (clocks b) c v) where
-    pub wait_tells : (t : ℕ) → (wait_move b l c t).made ≡ true → (t ≤ scale) × Made l v (wait_move b l c t) (wait t)
-    unfolding wait_move
-    wait_tells t = go (ltb scale t) refl
-      where
-        go : (u : Bool) → ltb scale t ≡ u →
-            let d = waited t (clocks b) c in
-            let m : Moved = cond u (not_made l c) (record { made = meets_invariant b l d; location = l; clocks = d }) in
-            m.made ≡ true → (t ≤ scale) × Made l v m (wait t)
-        go true f e = true_false (sym e)
-        go false f e =
-            let w = waits_agree c v y l t in
-            (ltb-false scale t f, record { can = invariant_means _ _ w l e; location = refl; agrees = w })
+  module _ (q : State) (v : Valuation) (y : Agrees (clocks b) q.clocks v) where
+    abbrev l : ℕ
+    l = q.location
 
-    pub jump_tells : (i : ℕ) → (jump_move b l c i).made ≡ true → (i < edges b) × Made l v (jump_move b l c i) (jump i)
-    unfolding jump_move edge_move
-    jump_tells i = go (leb (edges b) i) refl (eqb (from b i) l) refl
+    pub wait_tells : (t : ℕ) {p : State} → wait_move b q t ≡ Some p → (t ≤ scale) × Made l v p (wait t)
+    unfolding wait_move
+    wait_tells t {p} = go (ltb scale t) refl (meets_invariant b l (waited t (clocks b) q.clocks)) refl
       where
-        go : (t : Bool) → leb (edges b) i ≡ t → (u : Bool) → eqb (from b i) l ≡ u →
-            let m : Moved = cond t (not_made l c) (cond u (edge_move b i (edge_of b i) c) (not_made l c)) in
-            m.made ≡ true → (i < edges b) × Made l v m (jump i)
-        go true p u q e = true_false (sym e)
-        go false p true q e =
-            let h = leb-false (edges b) i p in
-            let z = jumps_agree c v y l i in
-            let s = both (meets_guard b i c) (meets_invariant b (to b i) (reset_of i c)) e in (
-              h,
-              record {
-                can = (h, eqb-true (from b i) l q, guard_means c v y i s.0, invariant_means _ _ z (to b i) s.1);
-                location = refl;
-                agrees = z;
-              },
-            )
-        go false p false q e = true_false (sym e)
+        go : (u : Bool) → ltb scale t ≡ u → (w : Bool) → meets_invariant b l (waited t (clocks b) q.clocks) ≡ w →
+            cond u None (cond w (Some (record { location = l; clocks = waited t (clocks b) q.clocks })) None) ≡ Some p →
+            (t ≤ scale) × Made l v p (wait t)
+        go true f w g e = true_false (sym (ap is_some e))
+        go false f false g e = true_false (sym (ap is_some e))
+        go false f true g e =
+            let s = waits_agree q.clocks v y l t in
+            let made : Made l v (record { location = l; clocks = waited t (clocks b) q.clocks }) (wait t) =
+            record { can = invariant_means _ _ s l g; location = refl; agrees = s } in
+            (ltb-false scale t f, subst (λ p. Made l v p (wait t)) (ap (λ o. unwrap_or o p) e) made)
+
+    pub jump_tells : (i : ℕ) {p : State} → jump_move b q i ≡ Some p → (i < edges b) × Made l v p (jump i)
+    unfolding jump_move edge_move
+    jump_tells i {p} =
+        go (leb (edges b) i) refl (eqb (from b i) l) refl (meets_guard b i q.clocks) refl (meets_invariant b (to b i) (reset_of i q.clocks)) refl
+      where
+        go : (t : Bool) → leb (edges b) i ≡ t → (u : Bool) → eqb (from b i) l ≡ u → (g : Bool) → meets_guard b i q.clocks ≡ g →
+            (w : Bool) → meets_invariant b (to b i) (reset_of i q.clocks) ≡ w →
+            cond t None (cond u (cond g (cond w (Some (record { location = to b i; clocks = reset_of i q.clocks })) None) None) None) ≡ Some p →
+            (i < edges b) × Made l v p (jump i)
+        go true f u h g k w m e = true_false (sym (ap is_some e))
+        go false f false h g k w m e = true_false (sym (ap is_some e))
+        go false f true h false k w m e = true_false (sym (ap is_some e))
+        go false f true h true k false m e = true_false (sym (ap is_some e))
+        go false f true h true k true m e =
+            let there = leb-false (edges b) i f in
+            let z = jumps_agree q.clocks v y l i in
+            let made : Made l v (record { location = to b i; clocks = reset_of i q.clocks }) (jump i) =
+            record {
+              can = (there, eqb-true (from b i) l h, guard_means q.clocks v y i k, invariant_means _ _ z (to b i) m);
+              location = refl;
+              agrees = z;
+            } in
+            (there, subst (λ p. Made l v p (jump i)) (ap (λ o. unwrap_or o p) e) made)
 
     -- ---- and a step is made: no wait of a run is above every limit, as every clock has an upper one
     wait_low : (t : ℕ) → l < locations b → Can (system_of b) 1 0 (stand l v) (wait t) → t ≤ scale
@@ -116,17 +126,17 @@ module _ (b : List ℕ) (a : Accepted b) where
         )
 
     pub wait_made : (t : ℕ) → l < locations b → Can (system_of b) 1 0 (stand l v) (wait t) →
-        (capped (pos t) ≡ t) × (wait_move b l c t ≡ record { made = true; location = l; clocks = waited t (clocks b) c })
+        (capped (pos t) ≡ t) × (wait_move b q t ≡ Some (record { location = l; clocks = waited t (clocks b) q.clocks }))
     unfolding wait_move
     wait_made t h k =
         let s = wait_low t h k in
-        (capped_same t s, rw (le-ltb scale t s) (rw (means_invariant _ _ (waits_agree c v y l t) l k)))
+        (capped_same t s, rw (le-ltb scale t s) (rw (means_invariant _ _ (waits_agree q.clocks v y l t) l k)))
 
     pub jump_made : (i : ℕ) → Can (system_of b) 1 0 (stand l v) (jump i) →
-        (capped (pos i) ≡ i) × (jump_move b l c i ≡ record { made = true; location = to b i; clocks = reset_of i c })
+        (capped (pos i) ≡ i) × (jump_move b q i ≡ Some (record { location = to b i; clocks = reset_of i q.clocks }))
     unfolding jump_move edge_move
     jump_made i k = (
       capped_same i (omega (arith, k.0, a.complete.edges≤)),
-      rw (lt-leb (edges b) i k.0) (rw (eq-eqb (from b i) l k.1) (rw (means_guard c v y i k.2)
-          (rw (means_invariant _ _ (jumps_agree c v y l i) (to b i) k.3)))),
+      rw (lt-leb (edges b) i k.0) (rw (eq-eqb (from b i) l k.1) (rw (means_guard q.clocks v y i k.2)
+          (rw (means_invariant _ _ (jumps_agree q.clocks v y l i) (to b i) k.3)))),
     )

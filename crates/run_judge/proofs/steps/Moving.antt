@@ -2,53 +2,54 @@
 -- Assumes nothing.
 use Prim.Native.Nat.{ℕ, ◌≤◌, ◌<◌}
 use mathlib.Core.Path.{◌≡◌, refl, sym, ap, ◌∙◌}
-use mathlib.Core.Bool.{Bool, true, false}
+use mathlib.Core.Bool.{Bool, cond}
 use mathlib.Core.List.{List}
 use borrow.Author.Tests.{lt-ltb, le-ltb, le-leb, lt-leb, eq-eqb, ne_eqb}
+use lib.ListN.{replicate}
+use Rattle.std.specs.Prelude.{Some, None}
 use Rattle.runs.specs.Limits.{scale}
-use Rattle.automata.specs.Automata.{clocks, edges, from}
-use Rattle.automata.specs.Opened.{counts_of, edge_of}
-use Rattle.automata.specs.declared.fields.Counts.{Counts}
+use Rattle.automata.specs.Automata.{clocks, edges, start, from}
+use Rattle.automata.specs.Opened.{edge_of}
 use Rattle.automata.specs.declared.fields.Edge.{Edge}
-use Rattle.run_judge.specs.declared.steps.Moved.{Moved}
+use Rattle.run_judge.specs.declared.state.State.{State}
 use Rattle.run_judge.specs.Clocks.{meets_invariant, meets_guard, waited, reset_by, marked_in}
-use Rattle.run_judge.specs.Moves.{not_made, wait_move, edge_move, jump_move}
+use Rattle.run_judge.specs.Moves.{first_move, wait_move, edge_move, jump_move}
 
--- ---- a wait
-module _ (b : List ℕ) (l : ℕ) (c : List ℕ) where
-  pub wait_high : (t : ℕ) {m : Moved} → m ≡ not_made l c → scale < t → m ≡ wait_move b l c t
+-- ---- the first state
+pub first_is : (b : List ℕ) {l : ℕ} {stays : Bool} → l ≡ start b → stays ≡ meets_invariant b l (replicate 8 0) →
+    first_move b ≡ cond stays (Some (record { location = l; clocks = replicate 8 0 })) None
+unfolding first_move
+first_is b el em = rw em (rw el refl)
+
+module _ (b : List ℕ) (q : State) where
+  -- ---- a wait
+  pub wait_high : (t : ℕ) → scale < t → wait_move b q t ≡ None
   unfolding wait_move
-  wait_high t e h = rw (lt-ltb scale t h) e
+  wait_high t h = rw (lt-ltb scale t h) refl
 
-  pub wait_made : (t : ℕ) {n : ℕ} {d : List ℕ} {made : Bool} → t ≤ scale → n ≡ clocks b → d ≡ waited t n c → made ≡ meets_invariant b l d →
-      record { made = made; location = l; clocks = d } ≡ wait_move b l c t
+  pub wait_is : (t : ℕ) {n : ℕ} {d : List ℕ} {stays : Bool} → t ≤ scale → n ≡ clocks b → d ≡ waited t n q.clocks →
+      stays ≡ meets_invariant b q.location d → wait_move b q t ≡ cond stays (Some (record { location = q.location; clocks = d })) None
   unfolding wait_move
-  wait_made t h en ed em = rw (le-ltb scale t h) (rw em (rw ed (rw en refl)))
+  wait_is t h en ed em = rw (le-ltb scale t h) (rw em (rw ed (rw en refl)))
 
--- ---- a jump
-module _ (b : List ℕ) (c : List ℕ) where
-  module _ (i : ℕ) (e : Edge) {n : ℕ} {d : List ℕ} {guarded arrives : Bool} (en : n ≡ clocks b) (ed : d ≡ reset_by (marked_in e.resets) n c)
-      (eg : guarded ≡ meets_guard b i c) (ea : arrives ≡ meets_invariant b e.to d) where
-    pub take_guarded : guarded ≡ true → record { made = arrives; location = e.to; clocks = d } ≡ edge_move b i e c
-    unfolding edge_move
-    take_guarded g = rw (sym eg ∙ g) (rw ea (rw ed (rw en refl)))
+  -- ---- a jump
+  pub take_is : (i : ℕ) (e : Edge) {n : ℕ} {d : List ℕ} {guarded arrives : Bool} → n ≡ clocks b → d ≡ reset_by (marked_in e.resets) n q.clocks →
+      guarded ≡ meets_guard b i q.clocks → arrives ≡ meets_invariant b e.to d →
+      edge_move b i e q.clocks ≡ cond guarded (cond arrives (Some (record { location = e.to; clocks = d })) None) None
+  unfolding edge_move
+  take_is i e en ed eg ea = rw eg (rw ea (rw ed (rw en refl)))
 
-    pub take_barred : guarded ≡ false → record { made = guarded; location = e.to; clocks = d } ≡ edge_move b i e c
-    unfolding edge_move
-    take_barred g = rw (sym eg ∙ g) (rw g (rw ed (rw en refl)))
-
-  module _ (l i : ℕ) {m : Moved} where
-    pub jump_none : {k : Counts} → k ≡ counts_of b → k.edges ≤ i → m ≡ not_made l c → m ≡ jump_move b l c i
+  module _ (i : ℕ) where
+    pub jump_none : {n : ℕ} → n ≡ edges b → n ≤ i → jump_move b q i ≡ None
     unfolding jump_move
-    jump_none e h s = rw (le-leb (edges b) i (rw e at h)) s
+    jump_none e h = rw (le-leb (edges b) i (rw e at h)) refl
 
     module _ (h : i < edges b) {e : Edge} (fetched : e ≡ edge_of b i) where
-      pub jump_elsewhere : (e.from ≡ l → ⊥) → m ≡ not_made l c → m ≡ jump_move b l c i
+      pub jump_elsewhere : (e.from ≡ q.location → ⊥) → jump_move b q i ≡ None
       unfolding jump_move
-      jump_elsewhere f s = rw (lt-leb (edges b) i h) (rw (ne_eqb (from b i) l (λ q. f (ap (λ (x : Edge). x.from) fetched ∙ q))) s)
+      jump_elsewhere f = rw (lt-leb (edges b) i h) (rw (ne_eqb (from b i) q.location (λ p. f (ap (λ (x : Edge). x.from) fetched ∙ p))) refl)
 
-      pub jump_taken : e.from ≡ l → m ≡ edge_move b i e c → m ≡ jump_move b l c i
+      pub jump_taken : e.from ≡ q.location → jump_move b q i ≡ edge_move b i e q.clocks
       unfolding jump_move
-      jump_taken f s =
-          let g = eq-eqb (from b i) l (sym (ap (λ (x : Edge). x.from) fetched) ∙ f) in
-          rw (lt-leb (edges b) i h) (rw g (s ∙ ap (λ (x : Edge). edge_move b i x c) fetched))
+      jump_taken f =
+          rw (lt-leb (edges b) i h) (rw (eq-eqb (from b i) q.location (sym (ap (λ (x : Edge). x.from) fetched) ∙ f)) (rw fetched refl))

@@ -1,23 +1,45 @@
 -- A wait and what follows it, a jump and what follows it.
 -- Assumes nothing.
 use Prim.Native.Nat.{ℕ}
-use mathlib.Core.Path.{◌≡◌, refl}
-use mathlib.Core.Bool.{Bool, true, false, cond}
+use mathlib.Core.Path.{◌≡◌, refl, sym, ◌∙◌}
+use mathlib.Core.Bool.{true, false}
 use mathlib.Core.List.{List, ◌∷◌}
 use lib.IntN.{ℤ}
+use Rattle.std.specs.Prelude.{Option, Some, None}
+use Rattle.runs.proofs.Contradictions.{true_false}
+use Rattle.run_judge.specs.declared.state.State.{State}
 use Rattle.run_judge.specs.Judging.{waits_from, jumps_from}
 use Rattle.run_judge.specs.Moves.{wait_move, jump_move}
 use Rattle.run_judge.specs.Numbers.{capped}
 
-chosen : (t x y : Bool) → ◌≡◌ {A = Bool} (elim t as (λ u. Bool) [ true ↦ x | false ↦ y ]) (cond t x y)
-chosen true x y = refl
-chosen false x y = refl
-
-module _ (b : List ℕ) (z : ℤ) (zs : List ℤ) (l : ℕ) (c : List ℕ) where
-  pub waits_cons : let m = wait_move b l c (capped z) in waits_from b (z ∷ zs) l c ≡ cond m.made (jumps_from b zs m.location m.clocks) false
+module _ (b : List ℕ) (z : ℤ) (zs : List ℤ) (q : State) where
+  pub waits_none : wait_move b q (capped z) ≡ None → waits_from b (z ∷ zs) q ≡ false
   unfolding waits_from
-  waits_cons = let m = wait_move b l c (capped z) in chosen m.made (jumps_from b zs m.location m.clocks) false
+  waits_none e = rw (e, waits_from) refl
 
-  pub jumps-cons : let m = jump_move b l c (capped z) in jumps_from b (z ∷ zs) l c ≡ cond m.made (waits_from b zs m.location m.clocks) false
+  pub waits_some : {p : State} → wait_move b q (capped z) ≡ Some p → waits_from b (z ∷ zs) q ≡ jumps_from b zs p
+  unfolding waits_from
+  waits_some e = rw (e, waits_from) refl
+
+  pub jumps_none : jump_move b q (capped z) ≡ None → jumps_from b (z ∷ zs) q ≡ false
   unfolding jumps_from
-  jumps-cons = let m = jump_move b l c (capped z) in chosen m.made (waits_from b zs m.location m.clocks) false
+  jumps_none e = rw (e, jumps_from) refl
+
+  pub jumps_some : {p : State} → jump_move b q (capped z) ≡ Some p → jumps_from b (z ∷ zs) q ≡ waits_from b zs p
+  unfolding jumps_from
+  jumps_some e = rw (e, jumps_from) refl
+
+  -- ---- what passes begins with a step that is made
+  pub waits_made : waits_from b (z ∷ zs) q ≡ true → (p : State) × (wait_move b q (capped z) ≡ Some p) × (jumps_from b zs p ≡ true)
+  waits_made e = go (wait_move b q (capped z)) refl
+    where
+      go : (m : Option State) → wait_move b q (capped z) ≡ m → (p : State) × (wait_move b q (capped z) ≡ Some p) × (jumps_from b zs p ≡ true)
+      go None f = true_false (sym e ∙ waits_none f)
+      go (Some p) f = (p, f, sym (waits_some f) ∙ e)
+
+  pub jumps_made : jumps_from b (z ∷ zs) q ≡ true → (p : State) × (jump_move b q (capped z) ≡ Some p) × (waits_from b zs p ≡ true)
+  jumps_made e = go (jump_move b q (capped z)) refl
+    where
+      go : (m : Option State) → jump_move b q (capped z) ≡ m → (p : State) × (jump_move b q (capped z) ≡ Some p) × (waits_from b zs p ≡ true)
+      go None f = true_false (sym e ∙ jumps_none f)
+      go (Some p) f = (p, f, sym (jumps_some f) ∙ e)

@@ -1,18 +1,23 @@
 -- `later` meets its contract: what is done is the wait of the clocks passed.
 -- Assumes nothing.
-use mathlib.Core.Path.{◌≡◌, refl}
+use mathlib.Core.Path.{refl}
 use native.Mathlib.Omega.{arith}
 use lib.ListN.{length-set}
 use Rattle.run_judge.specs.Clocks.{waited}
+use Rattle.run_judge.proofs.clocks.Showing.{waited_past}
 use Rattle.run_judge.proofs.clocks.Turns.{waited_next}
 use Rattle.run_judge.proofs.clocks.later.Goals as goal
 
 pub loop-x-init : goal.loop-x-init
 unfolding waited
-loop-x-init c = (omega arith, c.requires.2.size, refl)
+loop-x-init c = (c.requires.2.size, refl)
+
+pub overflow_add-clocks : goal.overflow_add-clocks
+overflow_add-clocks c =
+    let pre = c.requires in
+    let x = c.loop-x.x in
+    rw c.loop-x.invariant.1
+    (record { fits = omega (arith, waited_past c.args.t c.args.clocks x x (omega arith), pre.2.low x (omega arith)) })
 
 pub loop-x-preserved : goal.loop-x-preserved
-loop-x-preserved c = (omega arith, simp length-set c.loop-x.invariant.1, waited_next _ _ _ _ c.loop-x.invariant.2)
-
-pub returns : goal.returns
-returns c = let e : c.loop-x.x ≡ c.args.n = omega arith in rw e at c.loop-x.invariant.2
+loop-x-preserved c = (simp length-set c.loop-x.invariant.0, waited_next _ _ _ _ c.loop-x.invariant.1)

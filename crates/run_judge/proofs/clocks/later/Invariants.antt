@@ -1,12 +1,8 @@
--- The loop of `later`: what it keeps, and what falls.
-use Prim.Native.Nat.{◌≤◌, ◌-◌}
+-- The loop of `later`: what it keeps.
 use mathlib.Core.Path.{◌≡◌}
 use lib.ListN.{length}
 use Rattle.run_judge.specs.Clocks.{waited}
 use Rattle.run_judge.proofs.clocks.later.Given as goal
 
 abbrev pub invariant-loop-x : goal.invariant-loop-x
-invariant-loop-x l = (l.x ≤ l.n) × (length l.clocks ≡ 8) × (l.clocks ≡ waited l.t l.x l.old)
-
-abbrev pub decreases-loop-x : goal.decreases-loop-x
-decreases-loop-x l = l.n - l.x
+invariant-loop-x l = (length l.clocks ≡ 8) × (l.clocks ≡ waited l.t l.x l.initial.clocks)
