@@ -8,7 +8,7 @@ use std::fmt;
 use zones::fraction::Fraction;
 
 // A part of the line, or all of it but its end: a newtype, since what it prints is another crate's.
-#[derive(Clone, Copy)]
+#[derive(Drop)]
 pub struct InWords<T>(pub T);
 
 impl fmt::Display for InWords<Holding> {
