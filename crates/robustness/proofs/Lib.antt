@@ -1,2 +1,4 @@
--- What is proved of the definition: the documents' lines. What stands beside the code is in the folder of its module: line.
+-- What is proved of the definition: the documents' lines, their length, and that std prints numbers as it has them.
 pub mod Examples
+pub mod Decimals
+pub mod Lengths

@@ -1,13 +1,12 @@
 -- The program "prints one line: verdict, then zones kept"; document 02: "The counts follow the zone count in the line". In ASCII:
 -- `holds 1/1 zones 1 again 0 inside 0`, `holds any zones 1 again 1 inside 0`, `reached zones 1 again 0 inside 0`, `refused 10`.
-use Rattle.std.specs.Prelude.{ℕ, zero, suc, ◌+◌, ◌/◌, ◌%◌, ◌≤◌, true, false, List, [], ◌∷◌, ◌++◌, ◌≡◌, ltb, length, take}
+use Rattle.std.specs.Prelude.{⊤, ℕ, zero, suc, ◌+◌, ◌/◌, ◌%◌, ◌^◌, ◌<◌, true, false, List, [], ◌∷◌, ◌++◌, ltb}
 use Rattle.search.specs.declared.verdict.Findings.{Findings}
 use Rattle.search.specs.declared.verdict.Findings.TheVariants.{Found, Refused}
 use Rattle.search.specs.declared.verdict.Holding.{Holding}
 use Rattle.search.specs.declared.verdict.Holding.TheVariants.{AnyError, Below}
 use Rattle.search.specs.declared.verdict.Verdict.{Verdict}
 use Rattle.search.specs.declared.verdict.Verdict.TheVariants.{Reached, Holds}
-use Rattle.robustness.specs.declared.line.Line.{Line}
 
 -- ---- the words
 -- "reached"
@@ -67,16 +66,12 @@ findings_text (Refused k) = refused ++ decimal k
 unfoldable pub line_of : Findings → List ℕ
 line_of r = findings_text r ++ (10 ∷ [])
 
--- ---- a line that is being written: of its 136 bytes the first `length` have been
-abbrev pub text_of : Line → List ℕ
-text_of l = take l.length l.bytes
+-- ---- its numbers have at most 64 bits, as they do in the program
+abbrev pub VerdictFits : Verdict → Type 0
+VerdictFits Reached = ⊤
+VerdictFits (Holds AnyError) = ⊤
+VerdictFits (Holds (Below f)) = (f.n < 2 ^ 64) × (f.d < 2 ^ 64)
 
--- a line of at most so many bytes
-pub record Writing (most : ℕ) (l : Line) : Type 0 where
-  pub room : length l.bytes ≡ 136
-  pub written : l.length ≤ most
-
--- r is the line l with the text t behind it, of at most `most` bytes
-pub record Behind (l : Line) (t : List ℕ) (most : ℕ) (r : Line) : Type 0 where
-  pub writing : Writing (l.length + most) r
-  pub text : text_of r ≡ text_of l ++ t
+abbrev pub FindingsFit : Findings → Type 0
+FindingsFit (Found v x) = VerdictFits v × (x.zones < 2 ^ 64) × (x.dropped.again < 2 ^ 64) × (x.dropped.inside < 2 ^ 64)
+FindingsFit (Refused k) = k < 2 ^ 64
