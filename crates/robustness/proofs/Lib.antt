@@ -1,4 +1,3 @@
--- What is proved of the definition: the documents' lines, their length, and that std prints numbers as it has them.
+-- What is proved of the definition: the documents' lines, and that std prints numbers as it has them.
 pub mod Examples
 pub mod Decimals
-pub mod Lengths

@@ -1,8 +1,9 @@
 -- The program "prints one line: verdict, then zones kept"; document 02: "The counts follow the zone count in the line". In ASCII:
 -- `holds 1/1 zones 1 again 0 inside 0`, `holds any zones 1 again 1 inside 0`, `reached zones 1 again 0 inside 0`, `refused 10`.
-use Rattle.std.specs.Prelude.{⊤, ℕ, zero, suc, ◌+◌, ◌/◌, ◌%◌, ◌^◌, ◌<◌, true, false, List, [], ◌∷◌, ◌++◌, ltb}
+use Rattle.std.specs.Prelude.{ℕ, zero, suc, ◌+◌, ◌/◌, ◌%◌, true, false, List, [], ◌∷◌, ◌++◌, ltb, Result, Ok, Err}
+use Rattle.automata.specs.Numbers.{number}
+use Rattle.automata.specs.declared.refusals.Refusal.{Refusal}
 use Rattle.search.specs.declared.verdict.Findings.{Findings}
-use Rattle.search.specs.declared.verdict.Findings.TheVariants.{Found, Refused}
 use Rattle.search.specs.declared.verdict.Holding.{Holding}
 use Rattle.search.specs.declared.verdict.Holding.TheVariants.{AnyError, Below}
 use Rattle.search.specs.declared.verdict.Verdict.{Verdict}
@@ -56,22 +57,12 @@ unfoldable pub verdict_text : Verdict → List ℕ
 verdict_text Reached = reached
 verdict_text (Holds h) = holds ++ holding_text h
 
-unfoldable pub findings_text : Findings → List ℕ
-findings_text (Found v x) =
-    verdict_text v ++ ((zones_word ++ decimal x.zones) ++
+unfoldable pub findings_text : Result Findings Refusal → List ℕ
+findings_text (Ok x) =
+    verdict_text x.answer.verdict ++ ((zones_word ++ decimal x.answer.zones) ++
     ((again_word ++ decimal x.dropped.again) ++ (inside_word ++ decimal x.dropped.inside)))
-findings_text (Refused k) = refused ++ decimal k
+findings_text (Err k) = refused ++ decimal (number k)
 
 -- with the end of the line
-unfoldable pub line_of : Findings → List ℕ
+unfoldable pub line_of : Result Findings Refusal → List ℕ
 line_of r = findings_text r ++ (10 ∷ [])
-
--- ---- its numbers have at most 64 bits, as they do in the program
-abbrev pub VerdictFits : Verdict → Type 0
-VerdictFits Reached = ⊤
-VerdictFits (Holds AnyError) = ⊤
-VerdictFits (Holds (Below f)) = (f.n < 2 ^ 64) × (f.d < 2 ^ 64)
-
-abbrev pub FindingsFit : Findings → Type 0
-FindingsFit (Found v x) = VerdictFits v × (x.zones < 2 ^ 64) × (x.dropped.again < 2 ^ 64) × (x.dropped.inside < 2 ^ 64)
-FindingsFit (Refused k) = k < 2 ^ 64

@@ -1,59 +1,86 @@
-// The documents' line for what a search finds, as text that is printed.
-ghost use Rattle.std.specs.Prelude.{Some};
-ghost use Rattle.robustness.specs.Lines.{holding_text, verdict_text, findings_text};
+// The documents' line for what a search finds, in texts whose types bound their length.
+// Pushed, and not printed by `Display`: no contract says when a `write!` is `Ok`, and the line is always made.
+ghost use Rattle.std.specs.Prelude.{◌≡◌};
+ghost use Rattle.robustness.specs.Lines.{decimal, holding_text, verdict_text, findings_text, line_of};
 
+use arrayvec::ArrayString;
+use automata::refusals::Refusal;
+use itoa::Buffer;
 use search::outcome::Dropped;
-use search::verdict::{Findings, Holding, Verdict};
-use std::fmt;
-use zones::fraction::Fraction;
+use search::verdict::{Answer, Findings, Holding, Verdict};
 
-// A part of the line, or all of it but its end: a newtype, since what it prints is another crate's.
-#[derive(Drop)]
-pub struct InWords<T>(pub T);
-
-impl fmt::Display for InWords<Holding> {
-    ghost output = { λ h. Some (holding_text h.0) };
-
-    #[tactic(auto, using(crate::proofs::Decimals::printed_decimal), unfolding(crate::specs::Lines::holding_text))]
-    fn fmt<W: fmt::Write>(&self, f: &mut fmt::Formatter<W>) -> fmt::Result {
-        match &self.0 {
-            Holding::AnyError => write!(f, "any"),
-            Holding::Below(x) => {
-                let Fraction { n, d } = *x;
-                write!(f, "{n}/{d}")
-            }
-        }
-    }
+#[tactic(auto, using(crate::proofs::Decimals::printed_decimal))]
+fn decimal(n: u64) -> ArrayString<20>
+    ensures { result.bytes ≡ decimal n }
+{
+    let mut text = ArrayString::new();
+    text.push_str(Buffer::new().format(n));
+    text
 }
 
-impl fmt::Display for InWords<Verdict> {
-    ghost output = { λ v. Some (verdict_text v.0) };
-
-    #[tactic(auto, unfolding(crate::specs::Lines::verdict_text))]
-    fn fmt<W: fmt::Write>(&self, f: &mut fmt::Formatter<W>) -> fmt::Result {
-        match &self.0 {
-            Verdict::Reached => write!(f, "reached"),
-            Verdict::Holds(h) => write!(f, "holds {}", InWords(*h)),
+#[tactic(auto, unfolding(crate::specs::Lines::holding_text))]
+fn holding_text(h: Holding) -> ArrayString<41>
+    ensures { result.bytes ≡ holding_text h }
+{
+    let mut text = ArrayString::new();
+    match h {
+        Holding::AnyError => text.push_str("any"),
+        Holding::Below(f) => {
+            text.push_str(&decimal(f.n));
+            text.push_str("/");
+            text.push_str(&decimal(f.d));
         }
     }
+    text
 }
 
-impl fmt::Display for InWords<Findings> {
-    ghost output = { λ x. Some (findings_text x.0) };
-
-    #[tactic(auto, using(crate::proofs::Decimals::printed_decimal), unfolding(crate::specs::Lines::findings_text))]
-    fn fmt<W: fmt::Write>(&self, f: &mut fmt::Formatter<W>) -> fmt::Result {
-        match &self.0 {
-            Findings::Found(v, x) => {
-                let verdict = InWords(*v);
-                let zones = x.zones;
-                let Dropped { again, inside } = x.dropped;
-                write!(f, "{verdict} zones {zones} again {again} inside {inside}")
-            }
-            Findings::Refused(k) => {
-                let k = *k;
-                write!(f, "refused {k}")
-            }
+#[tactic(auto, unfolding(crate::specs::Lines::verdict_text))]
+fn verdict_text(v: Verdict) -> ArrayString<47>
+    ensures { result.bytes ≡ verdict_text v }
+{
+    let mut text = ArrayString::new();
+    match v {
+        Verdict::Reached => text.push_str("reached"),
+        Verdict::Holds(h) => {
+            text.push_str("holds ");
+            text.push_str(&holding_text(h));
         }
     }
+    text
+}
+
+#[tactic(auto, unfolding(crate::specs::Lines::findings_text))]
+fn findings_text(found: Result<Findings, Refusal>) -> ArrayString<131>
+    ensures { result.bytes ≡ findings_text found }
+{
+    let mut text = ArrayString::new();
+    match found {
+        Ok(x) => {
+            let Answer { verdict, zones } = x.answer;
+            let Dropped { again, inside } = x.dropped;
+            text.push_str(&verdict_text(verdict));
+            text.push_str(" zones ");
+            text.push_str(&decimal(u64::from(zones)));
+            text.push_str(" again ");
+            text.push_str(&decimal(again));
+            text.push_str(" inside ");
+            text.push_str(&decimal(inside));
+        }
+        Err(k) => {
+            text.push_str("refused ");
+            text.push_str(&decimal(u64::from(k.number())));
+        }
+    }
+    text
+}
+
+// The whole line, its end included.
+#[tactic(auto, unfolding(crate::specs::Lines::line_of))]
+pub fn line_of(found: Result<Findings, Refusal>) -> ArrayString<132>
+    ensures { result.bytes ≡ line_of found }
+{
+    let mut line = ArrayString::new();
+    line.push_str(&findings_text(found));
+    line.push_str("\n");
+    line
 }

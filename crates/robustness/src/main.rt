@@ -8,7 +8,7 @@ ghost use Rattle.std.specs.Io.KnownBytes.{Appends};
 ghost use Rattle.search.specs.Answers.{search_findings};
 ghost use Rattle.robustness.specs.Lines.{line_of};
 
-use crate::line::InWords;
+use crate::line::line_of;
 use arrayvec::ArrayVec;
 use search::search;
 use std::io;
@@ -24,20 +24,16 @@ fn read_front<R: Read>(input: &mut R) -> io::Result<ArrayVec<u8, 21260>>
 }
 
 // Writes the line of what is found of an automaton with a store of 16,384 numbers.
-#[tactic(auto, unfolding(crate::specs::Lines::line_of))]
 fn answer<R: Read, W: Write>(input: &mut R, output: &mut W) -> io::Result<()>
     ensures { IfSome (R.remaining input.old) (λ all. OnOk result
         (Appends (W.contents output.old) (W.contents output.new) (line_of (search_findings (take 21260 all) 16384)))) }
 {
     let bytes = read_front(input)?;
     let mut store = [0i32; 16384];
-    let found = search(bytes.as_slice(), &mut store);
-    writeln!(output, "{}", InWords(found))
+    let line = line_of(search(bytes.as_slice(), &mut store));
+    output.write_all(line.as_bytes())
 }
 
 fn main(rt: HostRuntime) -> io::Result<()> {
-    // The line goes out at once. It has at most 132 bytes: proofs/Lengths.antt.
-    let mut line = ArrayVec::<u8, 132>::new();
-    answer(&mut rt.stdin(), &mut line)?;
-    rt.stdout().write_all(line.as_slice())
+    answer(&mut rt.stdin(), &mut rt.stdout())
 }
