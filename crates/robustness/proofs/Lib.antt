@@ -1,2 +1,3 @@
--- What is proved of the definition: the documents' lines. What stands beside the code is in the folder of its module: line.
+-- What is proved of the definition: the documents' lines, and that std prints numbers as it has them.
 pub mod Examples
+pub mod Decimals

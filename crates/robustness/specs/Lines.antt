@@ -1,13 +1,13 @@
 -- The program "prints one line: verdict, then zones kept"; document 02: "The counts follow the zone count in the line". In ASCII:
 -- `holds 1/1 zones 1 again 0 inside 0`, `holds any zones 1 again 1 inside 0`, `reached zones 1 again 0 inside 0`, `refused 10`.
-use Rattle.std.specs.Prelude.{ℕ, zero, suc, ◌+◌, ◌/◌, ◌%◌, ◌≤◌, true, false, List, [], ◌∷◌, ◌++◌, ◌≡◌, ltb, length, take}
+use Rattle.std.specs.Prelude.{ℕ, zero, suc, ◌+◌, ◌/◌, ◌%◌, true, false, List, [], ◌∷◌, ◌++◌, ltb, Result, Ok, Err}
+use Rattle.automata.specs.Numbers.{number}
+use Rattle.automata.specs.declared.refusals.Refusal.{Refusal}
 use Rattle.search.specs.declared.verdict.Findings.{Findings}
-use Rattle.search.specs.declared.verdict.Findings.TheVariants.{Found, Refused}
 use Rattle.search.specs.declared.verdict.Holding.{Holding}
 use Rattle.search.specs.declared.verdict.Holding.TheVariants.{AnyError, Below}
 use Rattle.search.specs.declared.verdict.Verdict.{Verdict}
 use Rattle.search.specs.declared.verdict.Verdict.TheVariants.{Reached, Holds}
-use Rattle.robustness.specs.declared.line.Line.{Line}
 
 -- ---- the words
 -- "reached"
@@ -57,26 +57,12 @@ unfoldable pub verdict_text : Verdict → List ℕ
 verdict_text Reached = reached
 verdict_text (Holds h) = holds ++ holding_text h
 
-unfoldable pub findings_text : Findings → List ℕ
-findings_text (Found v x) =
-    verdict_text v ++ ((zones_word ++ decimal x.zones) ++
+unfoldable pub findings_text : Result Findings Refusal → List ℕ
+findings_text (Ok x) =
+    verdict_text x.answer.verdict ++ ((zones_word ++ decimal x.answer.zones) ++
     ((again_word ++ decimal x.dropped.again) ++ (inside_word ++ decimal x.dropped.inside)))
-findings_text (Refused k) = refused ++ decimal k
+findings_text (Err k) = refused ++ decimal (number k)
 
 -- with the end of the line
-unfoldable pub line_of : Findings → List ℕ
+unfoldable pub line_of : Result Findings Refusal → List ℕ
 line_of r = findings_text r ++ (10 ∷ [])
-
--- ---- a line that is being written: of its 136 bytes the first `length` have been
-abbrev pub text_of : Line → List ℕ
-text_of l = take l.length l.bytes
-
--- a line of at most so many bytes
-pub record Writing (most : ℕ) (l : Line) : Type 0 where
-  pub room : length l.bytes ≡ 136
-  pub written : l.length ≤ most
-
--- r is the line l with the text t behind it, of at most `most` bytes
-pub record Behind (l : Line) (t : List ℕ) (most : ℕ) (r : Line) : Type 0 where
-  pub writing : Writing (l.length + most) r
-  pub text : text_of r ≡ text_of l ++ t

@@ -1,90 +1,86 @@
-// The documents' line for what a search finds, in bytes that are then written out at once.
-ghost use Rattle.std.specs.Prelude.{◌≡◌, ◌++◌, ◌+◌, ◌≤◌, length};
-ghost use Rattle.robustness.specs.Lines.{Writing, Behind, text_of, decimal, holding_text, verdict_text, findings_text, line_of};
+// The documents' line for what a search finds, in texts whose types bound their length.
+// Pushed, and not printed by `Display`: no contract says when a `write!` is `Ok`, and the line is always made.
+ghost use Rattle.std.specs.Prelude.{◌≡◌};
+ghost use Rattle.robustness.specs.Lines.{decimal, holding_text, verdict_text, findings_text, line_of};
 
+use arrayvec::ArrayString;
+use automata::refusals::Refusal;
 use itoa::Buffer;
-use search::verdict::{Findings, Holding, Verdict};
+use search::outcome::Dropped;
+use search::verdict::{Answer, Findings, Holding, Verdict};
 
-// A line that is being written: the first `length` bytes have been.
-#[derive(Clone, Copy)]
-pub struct Line {
-    pub bytes: [u8; 136],
-    pub length: usize,
+#[tactic(auto, using(crate::proofs::Decimals::printed_decimal))]
+fn decimal(n: u64) -> ArrayString<20>
+    ensures { result.bytes ≡ decimal n }
+{
+    let mut text = ArrayString::new();
+    text.push_str(Buffer::new().format(n));
+    text
 }
 
-fn with_text(line: Line, text: &[u8]) -> Line
-    requires whole { length line.bytes ≡ 136 }
-    requires text_fits { line.length + length text.now ≤ 136 }
-    ensures { Behind line text.now (length text.now) result }
+#[tactic(auto, unfolding(crate::specs::Lines::holding_text))]
+fn holding_text(h: Holding) -> ArrayString<41>
+    ensures { result.bytes ≡ holding_text h }
 {
-    let mut bytes = line.bytes;
-    let at = line.length;
-    let length = at + text.len();
-    bytes[at..length].copy_from_slice(text);
-    Line { bytes, length }
-}
-
-fn with_number(line: Line, n: u64) -> Line
-    requires { Writing 116 line }
-    ensures { Behind line (decimal n) 20 result }
-{
-    let mut digits = Buffer::new();
-    with_text(line, digits.format(n).as_bytes())
-}
-
-fn with_holding(line: Line, h: Holding) -> Line
-    requires { Writing 6 line }
-    ensures { Behind line (holding_text h) 41 result }
-{
+    let mut text = ArrayString::new();
     match h {
-        Holding::AnyError => with_text(line, b"any"),
+        Holding::AnyError => text.push_str("any"),
         Holding::Below(f) => {
-            let over = with_text(with_number(line, f.n), b"/");
-            with_number(over, f.d)
+            text.push_str(&decimal(f.n));
+            text.push_str("/");
+            text.push_str(&decimal(f.d));
         }
     }
+    text
 }
 
-fn with_verdict(line: Line, v: Verdict) -> Line
-    requires { Writing 0 line }
-    ensures { Behind line (verdict_text v) 47 result }
+#[tactic(auto, unfolding(crate::specs::Lines::verdict_text))]
+fn verdict_text(v: Verdict) -> ArrayString<47>
+    ensures { result.bytes ≡ verdict_text v }
 {
+    let mut text = ArrayString::new();
     match v {
-        Verdict::Reached => with_text(line, b"reached"),
-        Verdict::Holds(h) => with_holding(with_text(line, b"holds "), h),
-    }
-}
-
-// A word of at most eight bytes, and a number behind it.
-fn with_count(line: Line, word: &[u8], n: u64) -> Line
-    requires { Writing 108 line × (length word.now ≤ 8) }
-    ensures { Behind line (word.now ++ decimal n) 28 result }
-{
-    with_number(with_text(line, word), n)
-}
-
-fn with_findings(line: Line, found: Findings) -> Line
-    requires { Writing 0 line }
-    ensures { Behind line (findings_text found) 131 result }
-{
-    match found {
-        Findings::Found(v, x) => {
-            let dropped = x.dropped;
-            let zones = with_count(with_verdict(line, v), b" zones ", x.zones as u64);
-            let again = with_count(zones, b" again ", dropped.again);
-            with_count(again, b" inside ", dropped.inside)
+        Verdict::Reached => text.push_str("reached"),
+        Verdict::Holds(h) => {
+            text.push_str("holds ");
+            text.push_str(&holding_text(h));
         }
-        Findings::Refused(k) => with_count(line, b"refused ", k as u64),
     }
+    text
+}
+
+#[tactic(auto, unfolding(crate::specs::Lines::findings_text))]
+fn findings_text(found: Result<Findings, Refusal>) -> ArrayString<131>
+    ensures { result.bytes ≡ findings_text found }
+{
+    let mut text = ArrayString::new();
+    match found {
+        Ok(x) => {
+            let Answer { verdict, zones } = x.answer;
+            let Dropped { again, inside } = x.dropped;
+            text.push_str(&verdict_text(verdict));
+            text.push_str(" zones ");
+            text.push_str(&decimal(u64::from(zones)));
+            text.push_str(" again ");
+            text.push_str(&decimal(again));
+            text.push_str(" inside ");
+            text.push_str(&decimal(inside));
+        }
+        Err(k) => {
+            text.push_str("refused ");
+            text.push_str(&decimal(u64::from(k.number())));
+        }
+    }
+    text
 }
 
 // The whole line, its end included.
-pub fn line_of(found: Findings) -> Line
-    ensures { Writing 132 result × (text_of result ≡ line_of found) }
+#[tactic(auto, unfolding(crate::specs::Lines::line_of))]
+pub fn line_of(found: Result<Findings, Refusal>) -> ArrayString<132>
+    ensures { result.bytes ≡ line_of found }
 {
-    let line = Line {
-        bytes: [0u8; 136],
-        length: 0,
-    };
-    with_text(with_findings(line, found), b"\n")
+    let mut line = ArrayString::new();
+    line.push_str(&findings_text(found));
+    line.push_str("\n");
+    line
 }
