@@ -5,9 +5,14 @@ use mathlib.Core.Path.{◌≡◌, refl, sym, ap, ◌∙◌, subst}
 use borrow.Author.Tests.{lt-ltb, le-ltb, eq-eqb, ne_eqb}
 use lib.IntN.{ℤ}
 use lib.ListN.{length, drop}
+use Rattle.std.specs.Prelude.{Err}
 use native.Mathlib.Omega.{arith}
 use Rattle.automata.specs.Automata.{clocks}
+use Rattle.automata.specs.Numbers.{number}
 use Rattle.automata.specs.Refusals.{refusal_of}
+use Rattle.automata.specs.declared.refusals.Refusal.{Refusal}
+use Rattle.automata.specs.declared.refusals.Refusal.TheVariants.{RunTooLong}
+use Rattle.automata.proofs.accepting.Numbering.{above}
 use Rattle.automata.specs.Semantics.{system_of}
 use Rattle.automata.proofs.accepting.Accepting.{accepted}
 use Rattle.reachability.specs.Branches.{Branch, path_of}
@@ -22,7 +27,6 @@ use Rattle.runs.specs.Written.{written}
 use Rattle.search.specs.declared.outcome.Outcome as told
 use Rattle.search.specs.declared.outcome.Outcome.TheVariants.{Going, Reached, Refused}
 use Rattle.search.specs.declared.outcome.Turn.{Turn}
-use Rattle.search.specs.declared.verdict.Findings.TheVariants as findings
 use Rattle.search.specs.Answers.{findings_of, dropped_in, state_findings, state_of, search_findings}
 use Rattle.search.specs.Exploring.{Shown}
 use Rattle.search.specs.Instance.{zones_of, meaning_of}
@@ -49,11 +53,11 @@ module _ (b : List ℕ) (amount : ℕ) (none : run_numbers b amount ≡ []) wher
   none_buffer r = rw (run_buffer, none, le-ltb (length r) 0 (omega arith)) refl
 
 -- refused at reading
-pub refused_none : (b : List ℕ) (amount : ℕ) {k : ℕ} → k ≡ refusal_of b → (k ≡ 0 → ⊥) → run_numbers b amount ≡ []
+pub refused_none : (b : List ℕ) (amount : ℕ) (k : Refusal) → number k ≡ refusal_of b → run_numbers b amount ≡ []
 unfolding run_numbers
-refused_none b amount e h = rw (run_numbers, ne_eqb (refusal_of b) 0 (λ z. h (e ∙ z))) refl
+refused_none b amount k e = rw (run_numbers, ne_eqb (refusal_of b) 0 (λ z. absurd (omega (arith, e, above k)))) refl
 
-pub refused_tells : (b : List ℕ) (amount : ℕ) (run : List ℤ) (k : ℕ) → Tells b amount run (findings.Refused k)
+pub refused_tells : (b : List ℕ) (amount : ℕ) (run : List ℤ) (k : Refusal) → Tells b amount run (Err k)
 unfolding Tells
 refused_tells b amount run k = tt
 
@@ -83,7 +87,7 @@ module _ (b : List ℕ) (ok : refusal_of b ≡ 0) (s s' : List ℤ) (t : Turn) (
         go : (x : told.Outcome) → t.outcome ≡ x → P (outcome_of x)
         go Going e = y
         go (Reached o) e = absurd (g o e)
-        go (Refused k) e = n k
+        go (Refused k) e = n (number k)
 
     pub missed_none : run_numbers b (length s) ≡ []
     unfolding outcome_numbers
@@ -142,7 +146,7 @@ module _ (b : List ℕ) (ok : refusal_of b ≡ 0) (s s' : List ℤ) (t : Turn) (
 
     module _ {k : ℕ} (ek : k ≡ jumps_before b (length s) o) where
       -- there is no room for it
-      pub short_findings : (room : ℕ) → room < 2 * k + 2 → findings.Refused 14 ≡ run_findings b (length s) room
+      pub short_findings : (room : ℕ) → room < 2 * k + 2 → Err RunTooLong ≡ run_findings b (length s) room
       unfolding run_findings
       short_findings room l = rw (run_findings, numbers_here, lt-ltb room (length whole) (omega (arith, long, ek))) refl
 

@@ -1,6 +1,6 @@
 -- Worked examples: document 01's card B, and an automaton whose start is its target.
-use Rattle.std.specs.Prelude.{ℕ, List, [], ◌∷◌, ◌≡◌, ℤ, pos}
-use Rattle.search.specs.declared.verdict.Findings.TheVariants.{Found, Refused}
+use Rattle.std.specs.Prelude.{ℕ, List, [], ◌∷◌, ◌≡◌, ℤ, pos, Ok, Err}
+use Rattle.automata.specs.declared.refusals.Refusal.TheVariants.{StoreFull, RunTooLong}
 use Rattle.search.specs.declared.verdict.Verdict.TheVariants.{Reached}
 use Rattle.run_writer.specs.Writing.{run_findings, run_buffer}
 
@@ -24,13 +24,13 @@ short = pos 7 ∷ pos 7 ∷ pos 7 ∷ []
 pub record AllRight : Type 0 where
   -- wait 5, take edge 0, wait 0; the number behind is as it was
   pub told : run_findings card_b 11 5
-      ≡ Found Reached (record { zones = 1; exact = record { n = 5; d = 1 }; dropped = record { again = 0; inside = 0 } })
+      ≡ Ok (record { answer = record { verdict = Reached; zones = 1 }; exact = record { n = 5; d = 1 }; dropped = record { again = 0; inside = 0 } })
   pub run : run_buffer card_b 11 lent ≡ pos 4 ∷ pos 5 ∷ pos 0 ∷ pos 0 ∷ pos 7 ∷ []
   -- 14 where one number lacks
-  pub refused : run_findings card_b 11 3 ≡ Refused 14
+  pub refused : run_findings card_b 11 3 ≡ Err RunTooLong
   pub untouched : run_buffer card_b 11 short ≡ short
   -- 10, where the start's zone has no slot
-  pub full : run_findings card_b 10 5 ≡ Refused 10
+  pub full : run_findings card_b 10 5 ≡ Err StoreFull
   pub none : run_buffer card_b 10 lent ≡ lent
   -- with no jump the run is `2, 0`
   pub here : run_buffer at_once 0 short ≡ pos 2 ∷ pos 0 ∷ pos 7 ∷ []

@@ -11,6 +11,7 @@ ghost use Rattle.run_writer.specs.Writing.{run_findings, run_buffer};
 ghost use Rattle.run_writer.specs.Told.{Tells};
 
 use automata::opened::Automaton;
+use automata::refusals::Refusal;
 use branch::Branch;
 use search::exploration::explore;
 use search::findings;
@@ -19,20 +20,22 @@ use search::verdict::Findings;
 
 // The bare search's findings and store, or 14 where the target is reached and the buffer for the run is too short. Where the answer is
 // reached, the buffer begins with a run along the search's branch that ends at the target, and the judge passes it.
-pub fn write_run(automaton: &[u8], store: &mut [i32], run: &mut [i64]) -> Findings
+pub fn write_run(automaton: &[u8], store: &mut [i32], run: &mut [i64]) -> Result<Findings, Refusal>
     ensures value { result ≡ run_findings automaton.now (length store.old) (length run.old) }
     ensures store_after { store.new ≡ search_store automaton.now store.old }
     ensures run_after { run.new ≡ run_buffer automaton.now (length store.old) run.old }
     ensures tells { Tells automaton.now (length store.old) run.new result }
 {
-    match Automaton::open(automaton) {
-        Ok(automaton) => write_found(&automaton, store, run),
-        Err(k) => Findings::Refused(k.number()),
-    }
+    let automaton = Automaton::open(automaton)?;
+    write_found(&automaton, store, run)
 }
 
 // The same of an automaton that is not turned down.
-fn write_found(automaton: &Automaton, store: &mut [i32], run: &mut [i64]) -> Findings
+fn write_found(
+    automaton: &Automaton,
+    store: &mut [i32],
+    run: &mut [i64],
+) -> Result<Findings, Refusal>
     ensures value { result ≡ run_findings automaton.now.bytes.now (length store.old) (length run.old) }
     ensures store_after { store.new ≡ search_store automaton.now.bytes.now store.old }
     ensures run_after { run.new ≡ run_buffer automaton.now.bytes.now (length store.old) run.old }
@@ -48,7 +51,7 @@ fn write_found(automaton: &Automaton, store: &mut [i32], run: &mut [i64]) -> Fin
         };
         let k = branch.jumps();
         if run.len() < 2 * k + 2 {
-            return Findings::Refused(14);
+            return Err(Refusal::RunTooLong);
         }
         branch.write_back(run, k);
     }
