@@ -146,7 +146,8 @@ fn arrive(
 ) -> Turn
     requires accepted { (l < locations automaton.now.bytes.now) × Going automaton.now.bytes.now capacity store.old turn }
     requires sized { Sized (10 * counts) (suc (clocks automaton.now.bytes.now)) w × Settled (suc (clocks automaton.now.bytes.now)) w }
-    requires sound_result { SoundResult automaton.now.bytes.now (arrival_of automaton.now.bytes.now l (set_of resets) w) × Few most_offers turn.dropped }
+    requires sound_result { SoundResult automaton.now.bytes.now (arrival_of automaton.now.bytes.now l (set_of resets) w)
+        × Few most_offers turn.dropped }
     ensures { Offers automaton.now.bytes.now capacity store.old turn l origin
         (arrival_of automaton.now.bytes.now l (set_of resets) w) store.new result }
 {

@@ -125,7 +125,9 @@ module _ (b : List ℕ) (ok : refusal_of b ≡ 0) (amount : ℕ) where
 
 given : (b : List ℕ) (amount : ℕ) → Given b (search_answer b amount)
 unfolding answer_in Given
-given b amount = by_refusal b amount (λ r. Given b (answer_in r)) (λ e. state_given b e amount) (λ p. inl (named_refusal b p, rw (named_refusal b p) p, rw (named_refusal b p) (refusal_small b)))
+given b amount =
+    by_refusal b amount (λ r. Given b (answer_in r)) (λ e. state_given b e amount)
+    (λ p. let e = named_refusal b p in inl (e, rw e p, rw e (refusal_small b)))
 
 beside : (b : List ℕ) (amount : ℕ) → Beside (search_findings b amount)
 unfolding Beside

@@ -53,7 +53,8 @@ unfolding Given Lowest numbers_of verdict_of
 numbers-back b Reached zones g = refl
 numbers-back b (Holds h) zones g = ap Holds (sym g.0.1)
 
-pub numbers_are_sound : (b : List ℕ) (v : Verdict) (zones : ℕ) → Given b (Ok (record { verdict = v; zones = zones })) → sound_numbers (numbers_of v) ≡ true
+pub numbers_are_sound : (b : List ℕ) (v : Verdict) (zones : ℕ) → Given b (Ok (record { verdict = v; zones = zones })) →
+    sound_numbers (numbers_of v) ≡ true
 unfolding Given Lowest numbers_of sound_numbers
 numbers_are_sound b Reached zones g = refl
 numbers_are_sound b (Holds h) zones g =

@@ -32,7 +32,7 @@ use Rattle.automata.specs.Numbers.{number}
 use Rattle.automata.specs.declared.refusals.Refusal.{Refusal}
 use Rattle.automata.specs.declared.refusals.Refusal.TheVariants.{ErrorCountTooLarge, StoreFull}
 use Rattle.automata.specs.Automata.{clocks, locations, target}
-use Rattle.automata.specs.Opened.{Counted}
+use Rattle.automata.specs.declared.opened.Automaton.{Automaton}
 use Rattle.automata.proofs.fields.Counting.{size≡}
 use Rattle.search.specs.Exploring.{FirstHit, SoundNode, SoundState, Shown, Live, Continues, Led, node_at}
 use Rattle.search.specs.Exploring as exploring
@@ -151,7 +151,8 @@ module _ (b : List ℕ) (a : Accepted b) where
     shows {s'} {r} was e = subst (λ (x : ZoneState). Shown n s₀ x s' r) (sym (computes (system_of b) (zones_of b) was)) e
 
     -- a state with the same zones, refused by k
-    stopped_by : {k : Refusal} → Shown n s₀ (defined.stopped q (fractions_of w.fraction turn.safe) (refused (number k))) s (refused_by turn w.fraction k)
+    stopped_by : {k : Refusal} →
+        Shown n s₀ (defined.stopped q (fractions_of w.fraction turn.safe) (refused (number k))) s (refused_by turn w.fraction k)
     unfolding outcome_of
     stopped_by = record {
       number = d.shown.number;
@@ -255,17 +256,18 @@ pub record Entered (b : List ℕ) (l : ℕ) (o : Origin) (w : Work) (capacity : 
   pub size≡ : size ≡ suc (clocks b)
 
 -- by what `judge` requires
-pub enters : {b : List ℕ} {n m e : ℕ} {l : ℕ} {o : Origin} {w : Work} {capacity : ℕ} {turn : Turn} {s : List ℤ} → Accepted b → Counted b n m e →
-    (l < locations b) × (l ≡ target b → ⊥) → exploring.Going b capacity s turn × Few most_offers turn.dropped →
-    Sized last_counts (suc (clocks b)) w × Framed (suc (clocks b)) w.zone → Entered b l o w capacity turn s (n + 1)
-enters a k there going sized = record {
-  accepted = a;
+pub enters : (A : Automaton) (o : Origin) {l : ℕ} {w : Work} {capacity : ℕ} {turn : Turn} {s : List ℤ} →
+    (l < locations A.bytes.now) × (l ≡ target A.bytes.now → ⊥) → exploring.Going A.bytes.now capacity s turn × Few most_offers turn.dropped →
+    Sized last_counts (suc (clocks A.bytes.now)) w × Framed (suc (clocks A.bytes.now)) w.zone →
+    Entered A.bytes.now l o w capacity turn s (A.clocks + 1)
+enters A o there going sized = record {
+  accepted = A.accepted;
   location = there.0;
   away = there.1;
   sized = sized.0;
   progress = going.0;
   few = going.1;
-  size≡ = size≡ k;
+  size≡ = size≡ A.counted;
 }
 
 module _ {b : List ℕ} {l : ℕ} {o : Origin} {w : Work} {capacity : ℕ} {turn : Turn} {s : List ℤ} {size : ℕ}

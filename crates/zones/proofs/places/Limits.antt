@@ -20,7 +20,8 @@ use Rattle.runs.proofs.Contradictions.{true_false}
 use Rattle.zones.proofs.pairs.Choices.{smaller_same}
 use Rattle.zones.proofs.places.Places.{lower_off}
 use Rattle.runs.specs.Limits.{Limits}
-use Rattle.zones.specs.Zones.{pair_at, entry, lower_at, meet_limits, raise_limits, meet_upper, meet_clock, upper_met, upper_met_if, lower_met, bounds_met, upper_of}
+use Rattle.zones.specs.Zones.{pair_at, entry, lower_at, meet_limits, raise_limits, meet_upper, meet_clock}
+use Rattle.zones.specs.Zones.{upper_met, upper_met_if, lower_met, bounds_met, upper_of}
 use Rattle.zones.specs.Zones.{bounds_below}
 
 -- ---- as the code makes them

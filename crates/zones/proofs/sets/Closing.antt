@@ -62,7 +62,8 @@ empty_shows n w (suc k) e = go (empty_shows n w k) (is_empty (reduce_steps n k w
         (λ q. sym (seen_empty n _) ∙ q) g
 
 -- what the safe fraction is lowered by, of a zone that is empty
-safe_shows : (n : ℕ) (w : Work) (k : ℕ) → is_empty (reduce_steps n k w) ≡ true → safe_of (reduce_steps n k w) ≡ empty_below n (reduce_steps n k w).work
+safe_shows : (n : ℕ) (w : Work) (k : ℕ) → is_empty (reduce_steps n k w) ≡ true →
+    safe_of (reduce_steps n k w) ≡ empty_below n (reduce_steps n k w).work
 unfolding reduce_steps
 safe_shows n w zero e = true_false (sym e)
 safe_shows n w (suc k) e = go (safe_shows n w k) (is_empty (reduce_steps n k w)) refl

@@ -50,6 +50,7 @@ along-origin-requires c = (
 
 pub follow-t-requires : goal.follow-t-requires
 follow-t-requires c =
+    let a = c.args.automaton.now.accepted in
     let pre = c.requires.accepted in
     record {
       accepted = (
@@ -57,32 +58,34 @@ follow-t-requires c =
         c.edge-edge.ensures,
         between_few (some (goal.at.follow-t-requires c).After-edge-edge)
             (omega (arith, pre.0.live.shown.again, pre.0.live.shown.inside, c.requires.parent_kept.1.few))
-            c.requires.parent_kept.0 (omega (arith, within (goal.at.follow-t-requires c).After-edge-edge, c.args.automaton.now.accepted.complete.edges≤)),
+            c.requires.parent_kept.0 (omega (arith, within (goal.at.follow-t-requires c).After-edge-edge, a.complete.edges≤)),
       );
       going = (
         between_going (some (goal.at.follow-t-requires c).After-edge-edge) pre.0.long pre.0.few,
-        taken-sound (some (goal.at.follow-t-requires c).After-edge-edge) (within (goal.at.follow-t-requires c).After-edge-edge) c.args.automaton.now.accepted pre.1
+        taken-sound (some (goal.at.follow-t-requires c).After-edge-edge) (within (goal.at.follow-t-requires c).After-edge-edge) a pre.1
             (taken_is (goal.at.follow-t-requires c).After-edge-edge),
-        taken_fits (some (goal.at.follow-t-requires c).After-edge-edge) (within (goal.at.follow-t-requires c).After-edge-edge) c.args.automaton.now.accepted pre.1
+        taken_fits (some (goal.at.follow-t-requires c).After-edge-edge) (within (goal.at.follow-t-requires c).After-edge-edge) a pre.1
             (taken_is (goal.at.follow-t-requires c).After-edge-edge),
       );
     }
 
 pub shape_of-store-then-has_ended : goal.shape_of-store-then-has_ended
 shape_of-store-then-has_ended c =
+    let a = c.args.automaton.now.accepted in
     let pre = c.requires.accepted in
     offered_length (some (goal.at.shape_of-store-then-has_ended c).After-edge-edge)
-    (within (goal.at.shape_of-store-then-has_ended c).After-edge-edge) c.args.automaton.now.accepted pre.1
+    (within (goal.at.shape_of-store-then-has_ended c).After-edge-edge) a pre.1
     (taken_is (goal.at.shape_of-store-then-has_ended c).After-edge-edge)
     (leaves (goal.at.shape_of-store-then-has_ended c).After-edge-edge c.if-edge-l.true)
     c.along-origin.ensures c.follow-t.ensures pre.0.long
-    ∙ sym (going_length _ c.args.automaton.now.accepted pre.0)
+    ∙ sym (going_length _ a pre.0)
 
 pub returns-then-has_ended : goal.returns-then-has_ended
 returns-then-has_ended c =
+    let a = c.args.automaton.now.accepted in
     let pre = c.requires.accepted in
     λ x p. record {
-      shows = λ s₀ q₀ h. stops (c.loop-i.invariant.1 x p s₀ q₀ h) (within (goal.at.returns-then-has_ended c).After-edge-edge) c.args.automaton.now.accepted pre.1
+      shows = λ s₀ q₀ h. stops (c.loop-i.invariant.1 x p s₀ q₀ h) (within (goal.at.returns-then-has_ended c).After-edge-edge) a pre.1
           (taken_is (goal.at.returns-then-has_ended c).After-edge-edge)
           (leaves (goal.at.returns-then-has_ended c).After-edge-edge c.if-edge-l.true) c.along-origin.ensures c.follow-t.ensures
           (sym c.has_ended.ensures ∙ c.if-has_ended.true);
@@ -90,6 +93,7 @@ returns-then-has_ended c =
 
 pub loop-i-preserved : goal.loop-i-preserved
 loop-i-preserved c =
+    let a = c.args.automaton.now.accepted in
     let pre = c.requires.accepted in (
       elim c.if-edge-l.branch [
         | then-edge-l+else-has_ended x ↦ ap (λ (v : Work). v.zone) x.w-is ∙ c.loop-i.invariant.0
@@ -100,7 +104,7 @@ loop-i-preserved c =
           let here = (goal.at.loop-i-preserved c).After-edge-edge in
           elim c.if-edge-l.branch [
             | then-edge-l+else-has_ended x ↦
-                rw (x.store-is, x.t-is) (goes_on between (within here) c.args.automaton.now.accepted pre.1 (taken_is here) (leaves here x.if-edge-l.true)
+                rw (x.store-is, x.t-is) (goes_on between (within here) a pre.1 (taken_is here) (leaves here x.if-edge-l.true)
                 x.along-origin.ensures x.follow-t.ensures (sym x.has_ended.ensures ∙ x.if-has_ended.false))
             | else-edge-l x ↦
                 rw (x.store-is, x.t-is)
@@ -110,9 +114,10 @@ loop-i-preserved c =
 
 pub shape_of-store : goal.shape_of-store
 shape_of-store c =
+    let a = c.args.automaton.now.accepted in
     let pre = c.requires.accepted in
     let between = c.loop-i.invariant.1 first_zone [] pre.0.base pre.0.state pre.0.live in
-    live-length _ c.args.automaton.now.accepted pre.0.long between.live.shown between.live.sound ∙ sym (going_length _ c.args.automaton.now.accepted pre.0)
+    live-length _ a pre.0.long between.live.shown between.live.sound ∙ sym (going_length _ a pre.0)
 
 pub returns : goal.returns
 returns c =

@@ -57,7 +57,8 @@ emptied-requires c = (
 pub returns-in-Some : goal.returns-in-Some
 returns-in-Some c =
     follows_none _ c.args.automaton.now.accepted _ c.requires.accepted.0 _ c.requires.going.1 c.requires.going.2
-    (met (goal.at.returns-in-Some c).After-narrow-met) (ap is_some c.in-Some.is) _ _ _ _ (c.emptied.ensures ∙ lowers c.args.turn c.narrow-met.result.work.fraction c.in-Some.is)
+    (met (goal.at.returns-in-Some c).After-narrow-met) (ap is_some c.in-Some.is) _ _ _ _
+    (c.emptied.ensures ∙ lowers c.args.turn c.narrow-met.result.work.fraction c.in-Some.is)
 
 pub arrive-requires : goal.arrive-requires
 arrive-requires c =

@@ -10,7 +10,9 @@ emptied-requires c =
     (going_safe _ c.args.automaton.now.accepted c.requires.going.0, rw c.in-Some.is at c.requires.going.1.safe)
 
 pub returns-in-Some : goal.returns-in-Some
-returns-in-Some c = λ p. gives_empty _ _ _ _ _ c.args.r p (ap is_some c.in-Some.is) (c.emptied.ensures ∙ lowers c.args.turn c.args.r.work.fraction c.in-Some.is)
+returns-in-Some c =
+    λ p. gives_empty _ _ _ _ _ c.args.r p (ap is_some c.in-Some.is)
+    (c.emptied.ensures ∙ lowers c.args.turn c.args.r.work.fraction c.in-Some.is)
 
 pub returns-then-l-target : goal.returns-then-l-target
 returns-then-l-target c = λ p. gives_target _ _ _ _ _ c.args.r p (ap is_some c.in_default.is) (c.if-l-target.true ∙ c.target.ensures)

@@ -66,16 +66,17 @@ decode-z-requires c =
 
 pub expand-t-requires : goal.expand-t-requires
 expand-t-requires c =
+    let a = c.args.automaton.now.accepted in
     let pre = c.requires in
     record {
       accepted = (
-        onward c.args.automaton.now.accepted (on (goal.at.expand-t-requires c).At-loop-next) c.loop-next-test.true pre.0.long pre.0.few,
-        sound_zone c.args.automaton.now.accepted (on (goal.at.expand-t-requires c).At-loop-next) c.loop-next-test.true (place≡ (goal.at.expand-t-requires c).In-loop-next)
+        onward a (on (goal.at.expand-t-requires c).At-loop-next) c.loop-next-test.true pre.0.long pre.0.few,
+        sound_zone a (on (goal.at.expand-t-requires c).At-loop-next) c.loop-next-test.true (place≡ (goal.at.expand-t-requires c).In-loop-next)
             (rw c.loop-next.invariant.0 at c.decode-z.ensures),
       );
       parent_kept = (
         omega (arith, below (goal.at.expand-t-requires c).In-loop-next, pre.0.few),
-        onward_few c.args.automaton.now.accepted (on (goal.at.expand-t-requires c).At-loop-next) c.loop-next-test.true
+        onward_few a (on (goal.at.expand-t-requires c).At-loop-next) c.loop-next-test.true
             (omega (arith, pre.0.live.shown.again, pre.0.live.shown.inside, pre.1.few)),
       );
     }

@@ -65,7 +65,8 @@ unfolding invariant_of
 returns-then-is_some c =
     let met = meets _ _ (at≡ (goal.at.returns-then-is_some c).After-reset-cleared) (size≡ (goal.at.returns-then-is_some c).After-reset-cleared)
     c.narrow-met.ensures in
-    entered_none _ (n≤ (goal.at.returns-then-is_some c).After-reset-cleared) _ (one_more (size≡ (goal.at.returns-then-is_some c).After-reset-cleared)) _ met
+    entered_none _ (n≤ (goal.at.returns-then-is_some c).After-reset-cleared) _
+    (one_more (size≡ (goal.at.returns-then-is_some c).After-reset-cleared)) _ met
     (sym c.is_some.ensures ∙ c.if-is_some.true) ∙ ap (enter_of _ _) (cleared (goal.at.returns-then-is_some c).After-reset-cleared)
 
 pub raise-raised-requires : goal.raise-raised-requires
@@ -97,7 +98,8 @@ returns c =
     let at = at≡ (goal.at.returns c).After-reset-cleared in
     let n = size≡ (goal.at.returns c).After-reset-cleared in
     let met = meets _ _ at n c.narrow-met.ensures in
-    entered _ (n≤ (goal.at.returns c).After-reset-cleared) _ (one_more n) _ met (sym c.is_some.ensures ∙ c.if-is_some.false) (raises _ _ at n c.raise-raised.ensures)
+    entered _ (n≤ (goal.at.returns c).After-reset-cleared) _ (one_more n) _ met (sym c.is_some.ensures ∙ c.if-is_some.false)
+    (raises _ _ at n c.raise-raised.ensures)
     c.reduce_raised.ensures
     ∙ ap (enter_of _ _) (cleared (goal.at.returns c).After-reset-cleared)
 

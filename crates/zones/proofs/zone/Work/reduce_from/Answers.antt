@@ -12,7 +12,8 @@ use Rattle.zones.proofs.ranges.Ranges.{TurnReady, spread_small, sum-small, turn_
 use Rattle.zones.proofs.reductions.Rounds.{relaxed_is, relaxed_stays, row_next, row_all, round_all}
 use Rattle.zones.proofs.reductions.Progress.{seen_in, seen_none, seen_next, reduced_next, reduced_stop, is_none, leaves}
 use Rattle.zones.proofs.zone.Work.reduce_from.Goals as goal
-use Rattle.zones.proofs.zone.Work.reduce_from.Goals.{After-smaller-choice, In-loop-j, After-loop-d, then-lt, else-lt, then-i-k+else-loop-j-test, else-i-k}
+use Rattle.zones.proofs.zone.Work.reduce_from.Goals.{After-smaller-choice, In-loop-j, After-loop-d}
+use Rattle.zones.proofs.zone.Work.reduce_from.Goals.{then-lt, else-lt, then-i-k+else-loop-j-test, else-i-k}
 
 pub loop-i-init : goal.loop-i-init
 unfolding round_steps

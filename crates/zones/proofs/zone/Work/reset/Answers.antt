@@ -54,10 +54,13 @@ returns c =
     reset_all _ _ _ last c.loop-i.invariant.0 c.loop-i.invariant.1
 
 pub overflow_add-q : goal.overflow_add-q
-overflow_add-q c = omega (arith, (row (goal.at.overflow_add-q c).Joined-marked-i).0, (column (goal.at.overflow_add-q c).Joined-marked-j).0)
+overflow_add-q c =
+    omega (arith, (row (goal.at.overflow_add-q c).Joined-marked-i).0, (column (goal.at.overflow_add-q c).Joined-marked-j).0)
 
 pub offset_bounds-work-a : goal.offset_bounds-work-a
-offset_bounds-work-a c = omega (arith, (row (goal.at.offset_bounds-work-a c).Joined-marked-i).0, (column (goal.at.offset_bounds-work-a c).Joined-marked-j).0)
+offset_bounds-work-a c =
+    omega (arith, (row (goal.at.offset_bounds-work-a c).Joined-marked-i).0, (column (goal.at.offset_bounds-work-a c).Joined-marked-j).0)
 
 pub bounds-work-a : goal.bounds-work-a
-bounds-work-a c = omega (arith, (row (goal.at.bounds-work-a c).Joined-marked-i).0, (column (goal.at.bounds-work-a c).Joined-marked-j).0)
+bounds-work-a c =
+    omega (arith, (row (goal.at.bounds-work-a c).Joined-marked-i).0, (column (goal.at.bounds-work-a c).Joined-marked-j).0)
