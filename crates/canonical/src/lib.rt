@@ -1,6 +1,7 @@
 // Document 02, Change 1: automata with their edges in one order.
 #![tactic(auto)]
 
+mod comparing;
 mod edges;
 mod ordering;
 pub mod reply;
@@ -13,8 +14,8 @@ ghost use Rattle.automata.specs.Refusals.{refusal_of};
 ghost use Rattle.canonical.specs.Writing.{form_answer, form_buffer};
 
 use automata::refusal;
-use edges::{edges_of, sort};
-use ordering::is_rising;
+use edges::Edges;
+use ordering::Order;
 use reply::Reply;
 use writing::write_form;
 
@@ -23,8 +24,7 @@ fn in_order(automaton: &[u8]) -> bool
     requires { refusal_of automaton.now ≡ 0 }
     ensures { result ≡ in_order automaton.now }
 {
-    let edges = edges_of(automaton);
-    is_rising(automaton, edges.at, edges.count, edges.size)
+    Edges::of(automaton).is_rising()
 }
 
 // Whether bytes are an automaton in its own form.
@@ -48,12 +48,11 @@ pub fn write_canonical(automaton: &[u8], form: &mut [u8]) -> Reply
     if number != 0 {
         return Reply::Refused(number);
     }
-    let edges = edges_of(automaton);
-    let order = sort(automaton, edges);
-    let total = edges.at + order.count * edges.size;
+    let order = Order::of(Edges::of(automaton));
+    let total = order.edges.at + order.numbers.len() * order.edges.size;
     if form.len() < total {
         return Reply::Refused(13);
     }
-    write_form(form, automaton, edges, order, total);
+    write_form(form, automaton, &order, total);
     Reply::Written(total)
 }

@@ -1,24 +1,14 @@
 -- Edge after edge: those from `at` on, of which n are left, rise as the whole does.
 -- Assumes nothing.
-use Prim.Native.Nat.{ℕ, zero, suc, ◌+◌, ◌-◌, ◌*◌, ◌<◌, ◌≤◌}
+use Prim.Native.Nat.{ℕ, zero, suc, ◌+◌, ◌-◌, ◌<◌, ◌≤◌}
 use mathlib.Core.Bool.{Bool, true, false}
 use mathlib.Core.List.{List, ◌∷◌}
 use mathlib.Core.Path.{◌≡◌, refl, sym, ap, ◌∙◌}
-use lib.ListN.{length}
-use native.Mathlib.Nat.{suc-mul}
 use native.Mathlib.Omega.{arith}
 use Rattle.order.specs.Edges.{bytes_less, rising}
 use Rattle.order.specs.Laid.{edge_bytes, edges_from}
 
-peel : (n size : ℕ) → 0 < n → n * size ≡ (n - 1) * size + size
-peel zero size h = absurd (omega arith)
-peel (suc n) size h = let e : suc n - 1 ≡ n = omega arith in suc-mul n size ∙ ap (λ (m : ℕ). m * size + size) (sym e)
-
 module _ (size : ℕ) (s : List ℕ) (at n : ℕ) (h : 1 < n) where
-  -- two edges are there
-  pub two_whole : at + n * size ≤ length s → (at + size + size ≤ length s) × (at + size + (n - 1) * size ≤ length s)
-  two_whole l = (omega (arith, peel n size (omega arith), peel (n - 1) size (omega arith)), omega (arith, peel n size (omega arith)))
-
   two_edges : edges_from size s at n ≡ edge_bytes size s at ∷ edge_bytes size s (at + size) ∷ edges_from size s (at + size + size) (n - 1 - 1)
   unfolding edges_from
   two_edges = let e : n ≡ suc (suc (n - 1 - 1)) = omega arith in ap (edges_from size s at) e

@@ -1,0 +1,34 @@
+-- `less` meets its contract: the bytes from word i on decide as the whole strings do.
+use Prim.Native.Nat.{ℕ, ◌+◌, ◌-◌, ◌*◌, ◌/◌}
+use mathlib.Core.List.{List}
+use mathlib.Core.Path.{◌≡◌, sym, ap, ◌∙◌}
+use lib.ListN.{length, take, drop, length-drop}
+use lib.Seq.{take_all}
+use native.Mathlib.Omega.{arith}
+use Rattle.order.specs.Edges.{bytes_less}
+use Rattle.canonical.specs.Comparing.{less_from}
+use Rattle.canonical.proofs.comparing.Comparing.{slices_less, words_same, words_differ}
+use Rattle.canonical.proofs.comparing.less.Goals as goal
+
+pub returns-then-x-y : goal.returns-then-x-y
+returns-then-x-y c =
+    let a = c.args in
+    words_differ a.a.now a.b.now (4 * c.loop-i.i) (omega arith) (omega arith) c.word-x.ensures c.word-y.ensures c.if-x-y.true ∙ c.loop-i.invariant
+
+pub loop-i-preserved : goal.loop-i-preserved
+loop-i-preserved c =
+    let a = c.args in
+    let k : 4 * (c.loop-i.i + 1) ≡ 4 * c.loop-i.i + 4 = omega arith in
+    ap (less_from a.a.now a.b.now) k
+    ∙ words_same a.a.now a.b.now (4 * c.loop-i.i) (omega arith) (omega arith) c.word-x.ensures c.word-y.ensures c.if-x-y.false
+    ∙ c.loop-i.invariant
+
+pub returns : goal.returns
+returns c =
+    let a = c.args.a.now in
+    let b = c.args.b.now in
+    let k = 4 * (length a / 4) in
+    let rest : (s : List ℕ) → take (length s - k) (drop k s) ≡ drop k s = λ s. take_all (length s - k) (drop k s) (omega (arith, length-drop k s)) in
+    let i : c.loop-i.i ≡ length a / 4 = omega arith in
+    c.lt.ensures ∙ slices_less (take (length a - k) (drop k a)) (take (length b - k) (drop k b))
+    ∙ (λ j. bytes_less (rest a j) (rest b j)) ∙ ap (λ (n : ℕ). less_from a b (4 * n)) (sym i) ∙ c.loop-i.invariant

@@ -1,0 +1,22 @@
+// Document 02's one order: the first byte that differs decides.
+ghost use Rattle.std.specs.Prelude.{◌≡◌, length};
+ghost use Rattle.order.specs.Edges.{bytes_less};
+
+use encoding::word;
+
+// Whether bytes are less than as many others: four as one number, then the odd ones.
+pub(crate) fn less(a: &[u8], b: &[u8]) -> bool
+    requires { length a.now ≡ length b.now }
+    ensures { result ≡ bytes_less a.now b.now }
+{
+    let words = a.len() / 4;
+    for i in 0..words {
+        let k = 4 * i;
+        let x = word(a, k);
+        let y = word(b, k);
+        if x != y {
+            return x < y;
+        }
+    }
+    a[4 * words..] < b[4 * words..]
+}
