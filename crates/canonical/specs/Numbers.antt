@@ -1,5 +1,5 @@
 -- Numbers of edges in a list: what it means that they list the edges in order.
-use Rattle.std.specs.Prelude.{ℕ, ◌+◌, ◌-◌, ◌*◌, ◌<◌, ◌≤◌, Bool, true, false, cond, ◌&&◌, List, ◌≡◌, leb, length, get_or}
+use Rattle.std.specs.Prelude.{ℕ, ◌+◌, ◌-◌, ◌*◌, ◌<◌, ◌≤◌, Bool, true, false, cond, ◌&&◌, Option, Some, None, List, ◌≡◌, leb, length, get_or}
 use Rattle.order.specs.Edges.{Edge, bytes_less, insert_edge, sorted}
 use Rattle.order.specs.Laid.{nth_edge, edges_from, first_edges, numbered, joined}
 
@@ -18,6 +18,11 @@ pub record Positioned (size : ℕ) (s : List ℕ) (ns : List ℕ) (count : ℕ) 
   pub belongs : Belongs size s ns count x r
   pub fresh : isNew ≡ true → r < count → bytes_less (nth_edge size s x) (nth_edge size s (get_or ns r 0)) ≡ true
   pub there : isNew ≡ false → (r < count) × (bytes_less (nth_edge size s x) (nth_edge size s (get_or ns r 0)) ≡ false)
+
+-- what is found of edge x: the place where it is new among all that are listed, or none, as its bytes are there
+abbrev pub Found : ℕ → List ℕ → List ℕ → ℕ → Option ℕ → Type 0
+Found size s ns x (Some r) = Positioned size s ns (length ns) x r true
+Found size s ns x None = (r : ℕ) × Positioned size s ns (length ns) x r false
 
 -- edge x was put in its place, if its bytes were not there
 pub record Inserted (size : ℕ) (s : List ℕ) (old : List ℕ) (x : ℕ) (ns : List ℕ) : Type 0 where

@@ -14,8 +14,11 @@ pub(crate) fn less(a: &[u8], b: &[u8]) -> bool
         let k = 4 * i;
         let x = word(a, k);
         let y = word(b, k);
-        if x != y {
-            return x < y;
+        if x < y {
+            return true;
+        }
+        if y < x {
+            return false;
         }
     }
     a[4 * words..] < b[4 * words..]

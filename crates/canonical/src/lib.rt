@@ -15,7 +15,7 @@ ghost use Rattle.canonical.specs.Writing.{form_answer, form_buffer};
 
 use automata::refusal;
 use edges::Edges;
-use ordering::Order;
+use ordering::order_of;
 use reply::Reply;
 use writing::write_form;
 
@@ -48,7 +48,7 @@ pub fn write_canonical(automaton: &[u8], form: &mut [u8]) -> Reply
     if number != 0 {
         return Reply::Refused(number);
     }
-    let order = Order::of(Edges::of(automaton));
+    let order = order_of(Edges::of(automaton));
     let total = order.edges.at + order.numbers.len() * order.edges.size;
     if form.len() < total {
         return Reply::Refused(13);

@@ -1,9 +1,9 @@
 // The numbers of edges, sorted by the edges' bytes, repeats dropped.
-ghost use Rattle.std.specs.Prelude.{◌≡◌, ◌<◌, length, ℕ, All, IfSome, IfNone, [], true, false};
+ghost use Rattle.std.specs.Prelude.{◌≡◌, ◌<◌, length, All, [], true};
 ghost use Rattle.std.proofs.Props.{props};
 ghost use Rattle.order.specs.Edges.{rising};
 ghost use Rattle.order.specs.Laid.{numbered};
-ghost use Rattle.canonical.specs.Numbers.{Positioned, Inserted, Lists, taken_at};
+ghost use Rattle.canonical.specs.Numbers.{Found, Inserted, Lists, taken_at};
 
 use crate::edges::Edges;
 use arrayvec::ArrayVec;
@@ -15,14 +15,6 @@ pub(crate) struct Order<'a> {
     pub numbers: ArrayVec<u8, 256>,
     ghost there: { All (λ i. i < edges.count) numbers.items } by { Prim.hlevel props },
     ghost rises: { rising (numbered edges.size edges.bytes.now numbers.items) ≡ true },
-}
-
-// The edge that is taken after i others.
-fn next_taken(down: bool, edges: usize, i: usize) -> usize
-    requires { i < edges }
-    ensures { (result ≡ taken_at down edges i) × (result < edges) }
-{
-    if down { edges - 1 - i } else { i }
 }
 
 impl<'a> Order<'a> {
@@ -41,8 +33,7 @@ impl<'a> Order<'a> {
     // are placed by halving.
     fn place(&self, x: usize) -> Option<usize>
         requires { x < self.now.edges.count }
-        ensures fresh { IfSome result (λ r. Positioned self.now.edges.size self.now.edges.bytes.now self.now.numbers.items (length self.now.numbers.items) x r true) }
-        ensures there { IfNone result ((r : ℕ) × Positioned self.now.edges.size self.now.edges.bytes.now self.now.numbers.items (length self.now.numbers.items) x r false) }
+        ensures { Found self.now.edges.size self.now.edges.bytes.now self.now.numbers.items x result }
     {
         let edges = self.edges;
         let numbers = self.numbers.as_slice();
@@ -81,18 +72,26 @@ impl<'a> Order<'a> {
             self.numbers.insert(at, x as u8);
         }
     }
+}
 
-    // All of them. Where the first two fall they are taken from the last to the first, so that edges in falling order are behind all that are listed,
-    // too.
-    pub fn of(edges: Edges<'a>) -> Self
-        ensures same { result.edges ≡ edges.entry }
-        ensures lists { Lists edges.entry.size edges.entry.bytes.now edges.entry.count result.numbers.items }
-    {
-        let down = edges.falls();
-        let mut order = Order::new(edges);
-        for i in 0..edges.count {
-            order.insert(next_taken(down, edges.count, i));
-        }
-        order
+// The edge that is taken after i others.
+fn next_taken(down: bool, edges: usize, i: usize) -> usize
+    requires { i < edges }
+    ensures { (result ≡ taken_at down edges i) × (result < edges) }
+{
+    if down { edges - 1 - i } else { i }
+}
+
+// All of them. Where the first two fall they are taken from the last to the first, so that edges in falling order are behind all that are listed,
+// too.
+pub(crate) fn order_of<'a>(edges: Edges<'a>) -> Order<'a>
+    ensures same { result.edges ≡ edges.entry }
+    ensures lists { Lists edges.entry.size edges.entry.bytes.now edges.entry.count result.numbers.items }
+{
+    let down = edges.falls();
+    let mut order = Order::new(edges);
+    for i in 0..edges.count {
+        order.insert(next_taken(down, edges.count, i));
     }
+    order
 }

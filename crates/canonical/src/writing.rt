@@ -39,6 +39,7 @@ pub(crate) fn write_form(form: &mut [u8], automaton: &[u8], order: &Order, total
     requires total_value { (total ≡ length (canonical_of automaton.now)) × (total ≤ length form.old) }
     ensures { form.new ≡ placed 0 (canonical_of automaton.now) form.old }
 {
-    write_front(form, automaton, order.edges.at, total, order.numbers.len());
+    let count = order.numbers.len();
+    write_front(form, automaton, order.edges.at, total, count);
     write_edges(form, order);
 }

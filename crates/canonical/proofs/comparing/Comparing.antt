@@ -5,7 +5,6 @@ use mathlib.Core.Bool.{true, false}
 use mathlib.Core.List.{List, [], ◌∷◌}
 use mathlib.Core.Path.{◌≡◌, refl, sym, ap, ◌∙◌}
 use borrow.Author.Tests.{eq-eqb, ne_eqb, lt-ltb, le-ltb}
-use lib.Dec.{ltb}
 use lib.ListN.{length, get_or}
 use lib.Seq.{drop-cons}
 use native.Mathlib.Numerals.{add-one}
@@ -93,7 +92,7 @@ module _ (s t : List ℕ) where
     words : Decided s t k 4 x y
     words = rw (e.0, f.0) (four k p q e.1 f.1)
 
-    words_less : x < y → true ≡ less_from s t k
+    pub words_less : x < y → true ≡ less_from s t k
     words_less m = go words
       where
         go : Decided s t k 4 x y → true ≡ less_from s t k
@@ -101,7 +100,7 @@ module _ (s t : List ℕ) where
         go (higher r l) = absurd (omega arith)
         go (alike r l) = absurd (omega arith)
 
-    words_more : y < x → false ≡ less_from s t k
+    pub words_more : y < x → false ≡ less_from s t k
     words_more m = go words
       where
         go : Decided s t k 4 x y → false ≡ less_from s t k
@@ -116,11 +115,3 @@ module _ (s t : List ℕ) where
         go (lower r l) = absurd (omega arith)
         go (higher r l) = absurd (omega arith)
         go (alike r l) = sym r
-
-    pub words_differ : (x ≡ y → ⊥) → ltb x y ≡ less_from s t k
-    words_differ n = go (numbers x y)
-      where
-        go : Numbers x y → ltb x y ≡ less_from s t k
-        go (less l) = lt-ltb x y l ∙ words_less l
-        go (same l) = absurd (n l)
-        go (more l) = le-ltb x y (omega arith) ∙ words_more l

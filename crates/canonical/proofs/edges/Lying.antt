@@ -31,7 +31,8 @@ module _ (b : List ℕ) (w : Complete b) {at : ℕ} (a : at ≡ 11 + invariants_
       rw (c, s) (omega (arith, whole b w, k))
 
 -- those that lie there are those as drawn
-pub lying : (b : List ℕ) {e : Edges} → EdgesOf b e → first_edges e.size e.bytes.now e.count ≡ edges_from (edge_size b) b (11 + invariants_size b) (edges b)
+pub lying : (b : List ℕ) {e : Edges} → EdgesOf b e
+    → first_edges e.size e.bytes.now e.count ≡ edges_from (edge_size b) b (11 + invariants_size b) (edges b)
 lying b {e} q =
     let z : e.at + 0 ≡ 11 + invariants_size b = omega (arith, q.at) in
     ap (λ (s : List ℕ). edges_from e.size s 0 e.count) q.bytes

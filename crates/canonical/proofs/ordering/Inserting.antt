@@ -3,7 +3,7 @@
 use Prim.Native.Nat.{ℕ, ◌-◌, ◌<◌, ◌≤◌}
 use mathlib.Core.Bool.{true, false}
 use mathlib.Core.List.{List, ◌∷◌, ◌++◌, map-append}
-use mathlib.Core.Path.{◌≡◌, refl, sym, ap, ◌∙◌, subst}
+use mathlib.Core.Path.{◌≡◌, refl, sym, ap, ◌∙◌}
 use lib.ListN.{length, get_or, take, drop, length-map, get_or-map}
 use native.Mathlib.Omega.{arith}
 use Rattle.std.specs.List.{All, insert}
@@ -47,23 +47,23 @@ module _ (size : ℕ) (s : List ℕ) (ns : List ℕ) (r : rising (numbered size 
   insert_none p =
       let b = p.belongs in
       let t = p.there refl in record {
-      more = omega arith;
-      edges = sym (insert_there listed k (nth_edge size s x) (nth_edge size s 0) edges_rise (within-edges b) (less_before b)
-          (omega (arith, t.0, length-map ns (nth_edge size s)))
-          (ap (λ (z : Edge). bytes_less z (nth_edge size s x)) (here b) ∙ b.behind t.0)
-          (ap (bytes_less (nth_edge size s x)) (here b) ∙ t.1));
-    }
+        more = omega arith;
+        edges = sym (insert_there listed k (nth_edge size s x) (nth_edge size s 0) edges_rise (within-edges b) (less_before b)
+            (omega (arith, t.0, length-map ns (nth_edge size s)))
+            (ap (λ (z : Edge). bytes_less z (nth_edge size s x)) (here b) ∙ b.behind t.0)
+            (ap (bytes_less (nth_edge size s x)) (here b) ∙ t.1));
+      }
 
   -- they are not
   module _ (p : Positioned size s ns (length ns) x k true) where
     pub insert_put : Inserted size s ns x (insert ns k x)
     insert_put =
         let b = p.belongs in record {
-        more = omega (arith, length-insert ns k x b.inside);
-        edges = put_numbered ∙ sym (insert_here listed k (nth_edge size s x) (nth_edge size s 0) edges_rise (within-edges b) (less_before b)
-            (λ g. let m : k < length ns = omega (arith, length-map ns (nth_edge size s)) in
-            ap (bytes_less (nth_edge size s x)) (here b) ∙ p.fresh refl m));
-      }
+          more = omega (arith, length-insert ns k x b.inside);
+          edges = put_numbered ∙ sym (insert_here listed k (nth_edge size s x) (nth_edge size s 0) edges_rise (within-edges b) (less_before b)
+              (λ g. let m : k < length ns = omega (arith, length-map ns (nth_edge size s)) in
+              ap (bytes_less (nth_edge size s x)) (here b) ∙ p.fresh refl m));
+        }
 
     pub still_rises : rising (numbered size s (insert ns k x)) ≡ true
-    still_rises = subst (λ (es : List Edge). rising es ≡ true) (sym insert_put.edges) (rises_so _ (insert_rises (nth_edge size s x) listed edges_rise))
+    still_rises = rw insert_put.edges (rises_so _ (insert_rises (nth_edge size s x) listed edges_rise))

@@ -20,25 +20,28 @@ pub returns-then-form-total : goal.returns-then-form-total
 returns-then-form-total c =
     let a = c.args in
     let free = sym c.refusal-number.ensures ∙ c.if-number-ne0.false in
-    let s = sorted_in a.automaton.now c.of-order.result (accepted _ free).complete c.of.ensures c.of-order.ensures.same c.of-order.ensures.lists in
+    let o = c.order_of-order in
+    let s = sorted_in c.args.automaton.now o.result free c.of.ensures o.ensures.same o.ensures.lists in
     let w = short a.automaton.now a.form.now free (total≡ a.automaton.now _ s c.len.ensures.value) c.if-form-total.true in
     record { value = w.0; form_after = w.1; form_laws = form_laws _ }
 
 pub write_form-requires-clause-sorted : goal.write_form-requires-clause-sorted
 write_form-requires-clause-sorted c =
     let free = sym c.refusal-number.ensures ∙ c.if-number-ne0.false in
-    sorted_in _ _ (accepted _ free).complete c.of.ensures c.of-order.ensures.same c.of-order.ensures.lists
+    sorted_in _ _ free c.of.ensures c.order_of-order.ensures.same c.order_of-order.ensures.lists
 
 pub write_form-requires-clause-total_value : goal.write_form-requires-clause-total_value
 write_form-requires-clause-total_value c =
     let free = sym c.refusal-number.ensures ∙ c.if-number-ne0.false in
-    let s = sorted_in c.args.automaton.now c.of-order.result (accepted _ free).complete c.of.ensures c.of-order.ensures.same c.of-order.ensures.lists in
+    let o = c.order_of-order in
+    let s = sorted_in c.args.automaton.now o.result free c.of.ensures o.ensures.same o.ensures.lists in
     (total≡ c.args.automaton.now _ s c.len.ensures.value, c.if-form-total.false)
 
 pub returns : goal.returns
 returns c =
     let a = c.args in
     let free = sym c.refusal-number.ensures ∙ c.if-number-ne0.false in
-    let s = sorted_in a.automaton.now c.of-order.result (accepted _ free).complete c.of.ensures c.of-order.ensures.same c.of-order.ensures.lists in
+    let o = c.order_of-order in
+    let s = sorted_in c.args.automaton.now o.result free c.of.ensures o.ensures.same o.ensures.lists in
     let w = written a.automaton.now a.form.now free (total≡ a.automaton.now _ s c.len.ensures.value) c.if-form-total.false c.write_form.ensures in
     record { value = w.0; form_after = w.1; form_laws = form_laws _ }

@@ -10,8 +10,9 @@ use Rattle.encoding.specs.Placing.{placed}
 use Rattle.encoding.proofs.Placed.{goes_on}
 use Rattle.order.specs.Edges.{sorted}
 use Rattle.order.specs.Laid.{nth_edge, numbered, joined}
-use Rattle.automata.specs.Accepted.{Complete}
 use Rattle.automata.specs.Canonical.{invariants_size, ordered, form_length, canonical_of}
+use Rattle.automata.specs.Refusals.{refusal_of}
+use Rattle.automata.proofs.accepting.Accepting.{accepted}
 use Rattle.automata.proofs.canonical.Shape.{form_length_lem, small}
 use Rattle.canonical.specs.declared.edges.Edges.{Edges}
 use Rattle.canonical.specs.declared.ordering.Order.{Order}
@@ -21,9 +22,10 @@ use Rattle.canonical.specs.Parts.{Sorted, front_of}
 use Rattle.canonical.proofs.edges.Lying.{at_inside, lying}
 use Rattle.canonical.proofs.writing.Front.{front_length}
 
-pub sorted_in : (b : List ℕ) (o : Order) {e : Edges} → Complete b → EdgesOf b e → o.edges ≡ e → Lists e.size e.bytes.now e.count o.numbers.items → Sorted b o
-sorted_in b o w q h l = record {
-  complete = w;
+pub sorted_in : (b : List ℕ) (o : Order) {e : Edges} → refusal_of b ≡ 0 → EdgesOf b e → o.edges ≡ e
+    → Lists e.size e.bytes.now e.count o.numbers.items → Sorted b o
+sorted_in b o free q h l = record {
+  complete = (accepted b free).complete;
   edges = subst (EdgesOf b) (sym h) q;
   order = subst (λ (k : Edges). Lists k.size k.bytes.now k.count o.numbers.items) (sym h) l;
 }

@@ -7,20 +7,25 @@ use lib.Seq.{take_all}
 use native.Mathlib.Omega.{arith}
 use Rattle.order.specs.Edges.{bytes_less}
 use Rattle.canonical.specs.Comparing.{less_from}
-use Rattle.canonical.proofs.comparing.Comparing.{slices_less, words_same, words_differ}
+use Rattle.canonical.proofs.comparing.Comparing.{slices_less, words_less, words_more, words_same}
 use Rattle.canonical.proofs.comparing.less.Goals as goal
 
 pub returns-then-x-y : goal.returns-then-x-y
 returns-then-x-y c =
     let a = c.args in
-    words_differ a.a.now a.b.now (4 * c.loop-i.i) (omega arith) (omega arith) c.word-x.ensures c.word-y.ensures c.if-x-y.true ∙ c.loop-i.invariant
+    words_less a.a.now a.b.now (4 * c.loop-i.i) (omega arith) (omega arith) c.word-x.ensures c.word-y.ensures c.if-x-y.true ∙ c.loop-i.invariant
+
+pub returns-then-y-x : goal.returns-then-y-x
+returns-then-y-x c =
+    let a = c.args in
+    words_more a.a.now a.b.now (4 * c.loop-i.i) (omega arith) (omega arith) c.word-x.ensures c.word-y.ensures c.if-y-x.true ∙ c.loop-i.invariant
 
 pub loop-i-preserved : goal.loop-i-preserved
 loop-i-preserved c =
     let a = c.args in
     let k : 4 * (c.loop-i.i + 1) ≡ 4 * c.loop-i.i + 4 = omega arith in
     ap (less_from a.a.now a.b.now) k
-    ∙ words_same a.a.now a.b.now (4 * c.loop-i.i) (omega arith) (omega arith) c.word-x.ensures c.word-y.ensures c.if-x-y.false
+    ∙ words_same a.a.now a.b.now (4 * c.loop-i.i) (omega arith) (omega arith) c.word-x.ensures c.word-y.ensures (omega arith)
     ∙ c.loop-i.invariant
 
 pub returns : goal.returns

@@ -13,7 +13,7 @@ write_front-requires-clause-at_fits c =
 pub write_front-requires-clause-total_bound : goal.write_front-requires-clause-total_bound
 write_front-requires-clause-total_bound c =
     let a = c.args in
-    rw c.len.ensures.value
+    rw c.len-count.ensures.value
     (asks_front a.automaton.now a.order.now c.requires.sorted (length a.form.now) c.requires.total_value.0 c.requires.total_value.1).1
 
 pub write_edges-requires : goal.write_edges-requires
@@ -23,4 +23,4 @@ pub returns : goal.returns
 returns c =
     let a = c.args in
     form_put a.automaton.now a.order.now c.requires.sorted a.form.now c.requires.total_value.0
-    (rw c.len.ensures.value at c.write_front.ensures) c.write_edges.ensures
+    (rw c.len-count.ensures.value at c.write_front.ensures) c.write_edges.ensures

@@ -8,11 +8,11 @@ invariant_of-self c =
     let o = c.args.self.now in
     rw c.insert.ensures.items (record {
       there = all_inserted (λ (i : ℕ). i < o.edges.count) _ _ _ o.there c.requires.0;
-      rises = still_rises _ _ _ o.rises _ _ c.in-Some.ensures.fresh;
+      rises = still_rises _ _ _ o.rises _ _ c.in-Some.ensures;
     })
 
 pub returns-in-Some-clause-inserted : goal.returns-in-Some-clause-inserted
-returns-in-Some-clause-inserted c = let o = c.args.self.now in rw c.insert.ensures.items (insert_put _ _ _ o.rises _ _ c.in-Some.ensures.fresh)
+returns-in-Some-clause-inserted c = let o = c.args.self.now in rw c.insert.ensures.items (insert_put _ _ _ o.rises _ _ c.in-Some.ensures)
 
 pub returns-in_default-clause-inserted : goal.returns-in_default-clause-inserted
-returns-in_default-clause-inserted c = let p = c.in_default.ensures.there in insert_none _ _ _ c.args.self.now.rises _ p.0 p.1
+returns-in_default-clause-inserted c = let p = c.in_default.ensures in insert_none _ _ _ c.args.self.now.rises _ p.0 p.1

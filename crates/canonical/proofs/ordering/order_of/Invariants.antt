@@ -1,7 +1,7 @@
--- The loop of `of`: the edges that are taken are in order.
+-- The loop of `order_of`: the edges that are taken are in order.
 use Rattle.std.proofs.Common.{◌≡◌}
 use Rattle.canonical.specs.Numbers.{ListsOf, taken}
-use Rattle.canonical.proofs.ordering.Order.of.Given as goal
+use Rattle.canonical.proofs.ordering.order_of.Given as goal
 
 abbrev pub invariant-loop-i : goal.invariant-loop-i
 invariant-loop-i l =

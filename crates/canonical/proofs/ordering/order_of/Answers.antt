@@ -1,10 +1,10 @@
--- `of` meets its contract.
+-- `order_of` meets its contract.
 use mathlib.Core.Path.{◌∙◌, subst}
 use native.Mathlib.Omega.{arith}
 use Rattle.canonical.specs.declared.edges.Edges.{Edges}
 use Rattle.canonical.specs.Numbers.{Inserted}
 use Rattle.canonical.proofs.ordering.Ordering.{order_none, order_more}
-use Rattle.canonical.proofs.ordering.Order.of.Goals as goal
+use Rattle.canonical.proofs.ordering.order_of.Goals as goal
 
 pub loop-i-init : goal.loop-i-init
 loop-i-init c = (c.new-order.ensures.same, rw c.new-order.ensures.empty (order_none _ _ c.falls-down.result c.args.edges.count))
