@@ -38,7 +38,8 @@ module _ (size : ℕ) (s : List ℕ) (n i : ℕ) (h : 1 ≤ i) (g : i < n) {t : 
   pub falls_here : t ≡ false → rising (edges_from size s ((i - 1) * size) (n - (i - 1))) ≡ false
   falls_here = not_rising size s _ (n - (i - 1)) (omega arith) held
 
-  pub rises_on : t ≡ true → rising (edges_from size s ((i + 1 - 1) * size) (n - (i + 1 - 1))) ≡ rising (edges_from size s ((i - 1) * size) (n - (i - 1)))
+  pub rises_on : t ≡ true
+      → rising (edges_from size s ((i + 1 - 1) * size) (n - (i + 1 - 1))) ≡ rising (edges_from size s ((i - 1) * size) (n - (i - 1)))
   rises_on f =
       let k : i + 1 - 1 ≡ i = omega arith in
       let left : n - i ≡ n - (i - 1) - 1 = omega arith in
