@@ -49,29 +49,29 @@ module _ (b : List ℕ) (o : Order) (s : Sorted b o) where
   total-small = omega (arith, form_length_lem b s.complete, small b s.complete)
 
   -- ---- what its front asks of a buffer of n bytes that has room for it
-  module _ (n : ℕ) {total : ℕ} (t : total ≡ length (canonical_of b)) (h : total ≤ n) where
-    pub asks_front : ((11 ≤ o.edges.at) × (o.edges.at ≤ length b) × (o.edges.at ≤ n)) × ((total < 4294967296) × (length o.numbers.items < 4294967296))
+  module _ (n : ℕ) {total count : ℕ} (t : total ≡ length (canonical_of b)) (k : count ≡ length o.numbers.items) (h : total ≤ n) where
+    pub asks_front : ((11 ≤ o.edges.at) × (o.edges.at ≤ length b) × (o.edges.at ≤ n)) × ((total < 4294967296) × (count < 4294967296))
     asks_front = (
       (omega (arith, s.edges.at), at≤, omega (arith, total≡ refl)),
       (omega (arith, total-small), omega (arith, s.order.few, o.edges.few)),
     )
 
   -- ---- the whole of it
-  form_parts : (total : ℕ) → total ≡ length (canonical_of b)
-      → front_of b o.edges.at total (length o.numbers.items) ++ listed_bytes o.edges.size o.edges.bytes.now o.numbers.items ≡ canonical_of b
+  form_parts : (total count : ℕ) → total ≡ length (canonical_of b) → count ≡ length o.numbers.items
+      → front_of b o.edges.at total count ++ listed_bytes o.edges.size o.edges.bytes.now o.numbers.items ≡ canonical_of b
   unfolding front_of canonical_of
-  form_parts total t =
+  form_parts total count t c =
       let n : total ≡ form_length b = t ∙ form_length_lem b s.complete in
+      let m : count ≡ length (ordered b) = c ∙ count_ordered in
       let k : o.edges.at - 11 ≡ invariants_size b = omega (arith, s.edges.at) in
-      simp append_assoc
-      (λ i. be32 (n i) ++ (take 5 (drop 4 b) ++ (be16 (count_ordered i) ++ (take (k i) (drop 11 b) ++ joined (edges-ordered i)))))
+      simp append_assoc (λ i. be32 (n i) ++ (take 5 (drop 4 b) ++ (be16 (m i) ++ (take (k i) (drop 11 b) ++ joined (edges-ordered i)))))
 
   -- put one behind the other
-  pub form_put : (form : List ℕ) {total : ℕ} {one two : List ℕ} → total ≡ length (canonical_of b)
-      → one ≡ placed 0 (front_of b o.edges.at total (length o.numbers.items)) form
+  pub form_put : (form : List ℕ) {total count : ℕ} {one two : List ℕ} → total ≡ length (canonical_of b) → count ≡ length o.numbers.items
+      → one ≡ placed 0 (front_of b o.edges.at total count) form
       → two ≡ placed o.edges.at (listed_bytes o.edges.size o.edges.bytes.now o.numbers.items) one → two ≡ placed 0 (canonical_of b) form
-  form_put form {total} t p q =
-      let front = front_of b o.edges.at total (length o.numbers.items) in
-      let long = front_length b o.edges.at total (length o.numbers.items) (omega (arith, s.edges.at)) at≤ in
+  form_put form {total} {count} t c p q =
+      let front = front_of b o.edges.at total count in
+      let long = front_length b o.edges.at total count (omega (arith, s.edges.at)) at≤ in
       goes_on form front (listed_bytes o.edges.size o.edges.bytes.now o.numbers.items) 0 o.edges.at (omega arith) (omega (arith, long)) p refl q
-      ∙ ap (λ (l : List ℕ). placed 0 l form) (form_parts total t)
+      ∙ ap (λ (l : List ℕ). placed 0 l form) (form_parts total count t c)
