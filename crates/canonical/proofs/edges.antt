@@ -1,2 +1,3 @@
--- Where the edges of an automaton lie.
+-- Where the edges of an automaton lie, and whether they rise.
 pub mod Lying
+pub mod Rising

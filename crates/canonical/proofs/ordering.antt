@@ -1,8 +1,4 @@
--- The turns of the loops that compare edges and list them in order, each a law about lists.
-pub mod Comparing
-pub mod Rising
+-- The turns of the loops that list edges in order, each a law about lists.
 pub mod Placing
-pub mod Shifting
-pub mod Numbered
 pub mod Inserting
 pub mod Ordering

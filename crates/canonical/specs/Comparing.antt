@@ -1,7 +1,6 @@
--- Two edges compared by their bytes from k on.
-use Rattle.std.specs.Prelude.{ℕ, ◌+◌, ◌-◌, Bool, List}
+-- Two strings of bytes compared from byte k on.
+use Rattle.std.specs.Prelude.{ℕ, Bool, List, drop}
 use Rattle.order.specs.Edges.{bytes_less}
-use Rattle.order.specs.Laid.{edge_bytes}
 
-abbrev pub less_from : List ℕ → (a b size k : ℕ) → Bool
-less_from s a b size k = bytes_less (edge_bytes (size - k) s (a + k)) (edge_bytes (size - k) s (b + k))
+abbrev pub less_from : (s t : List ℕ) (k : ℕ) → Bool
+less_from s t k = bytes_less (drop k s) (drop k t)

@@ -1,37 +1,83 @@
-// Where the edges of an automaton lie, and their numbers in order.
-ghost use Rattle.std.specs.Prelude.{◌≡◌};
-ghost use Rattle.automata.specs.Accepted.{Complete, Accepted};
-ghost use Rattle.canonical.specs.Edges.{edges_in};
-ghost use Rattle.canonical.specs.Parts.{Sorted};
+// The edges of an automaton, as they lie one behind another.
+ghost use Rattle.std.specs.Prelude.{◌≡◌, ◌*◌, ◌≤◌, ◌<◌, length};
+ghost use Rattle.encoding.specs.Bytes.{same_bytes};
+ghost use Rattle.order.specs.Edges.{bytes_less, rising};
+ghost use Rattle.order.specs.Laid.{nth_edge, first_edges};
+ghost use Rattle.canonical.specs.Numbers.{falling};
 
-use crate::ordering::{Order, order_of};
-use automata::opened::counts_of;
+use crate::comparing::less;
+use automata::opened::Automaton;
+use encoding::same;
 
-// The place of the first, the size of each, and their number.
+// The place of the first in the automaton, the bytes from there on, the size of each, and their number.
 #[derive(Clone, Copy)]
-pub(crate) struct Edges {
+pub(crate) struct Edges<'a> {
     pub at: usize,
+    pub bytes: &'a [u8],
     pub size: usize,
     pub count: usize,
+    ghost few: { count ≤ 256 },
+    ghost whole: { count * size ≤ length bytes.now },
 }
 
-pub(crate) fn edges_of(automaton: &[u8]) -> Edges
-    requires { Accepted automaton.now }
-    ensures { result ≡ edges_in automaton.now }
-{
-    let counts = counts_of(automaton);
-    Edges {
-        at: counts.edge_at(0),
-        size: 3 + 8 * counts.clocks,
-        count: counts.edges,
+impl<'a> Edges<'a> {
+    ghost use Rattle.canonical.specs.Edges.{EdgesOf};
+
+    pub fn of(automaton: &Automaton<'a>) -> Self
+        ensures { EdgesOf automaton.now.bytes.now result }
+    {
+        let at = automaton.edge_at(0);
+        Edges {
+            at,
+            bytes: &automaton.bytes[at..],
+            size: 3 + 8 * automaton.clocks,
+            count: automaton.edges,
+        }
     }
-}
 
-// The edges of an automaton, which lie behind its head and invariants, sorted.
-pub(crate) fn sort(automaton: &[u8], edges: Edges) -> Order
-    requires { Complete automaton.now × (edges ≡ edges_in automaton.now) }
-    ensures { Sorted automaton.now edges result }
-{
-    let at = edges.at;
-    order_of(&automaton[at..], edges.count, edges.size)
+    // The bytes of edge i.
+    pub fn nth(&self, i: usize) -> &'a [u8]
+        requires { i < self.now.count }
+        ensures bytes { result.now ≡ nth_edge self.now.size self.now.bytes.now i }
+        ensures size { length result.now ≡ self.now.size }
+    {
+        let from = i * self.size;
+        &self.bytes[from..from + self.size]
+    }
+
+    // Whether edge i is less than edge j.
+    pub fn less(&self, i: usize, j: usize) -> bool
+        requires { (i < self.now.count) × (j < self.now.count) }
+        ensures { result ≡ bytes_less (nth_edge self.now.size self.now.bytes.now i) (nth_edge self.now.size self.now.bytes.now j) }
+    {
+        less(self.nth(i), self.nth(j))
+    }
+
+    // Whether edges i and j have the same bytes.
+    pub fn same(&self, i: usize, j: usize) -> bool
+        requires { (i < self.now.count) × (j < self.now.count) }
+        ensures { result ≡ same_bytes (nth_edge self.now.size self.now.bytes.now i) (nth_edge self.now.size self.now.bytes.now j) }
+    {
+        same(self.nth(i), self.nth(j))
+    }
+
+    // Whether each edge is less than the next.
+    pub fn is_rising(&self) -> bool
+        ensures { result ≡ rising (first_edges self.now.size self.now.bytes.now self.now.count) }
+    {
+        for i in 1..self.count {
+            if !self.less(i - 1, i) {
+                return false;
+            }
+        }
+        true
+    }
+
+    // Whether the first two edges fall.
+    #[tactic(auto, unfolding(crate::specs::Numbers::falling))]
+    pub fn falls(&self) -> bool
+        ensures { result ≡ falling self.now.size self.now.bytes.now self.now.count }
+    {
+        2 <= self.count && self.less(1, 0)
+    }
 }

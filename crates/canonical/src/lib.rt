@@ -1,9 +1,9 @@
 // Document 02, Change 1: automata with their edges in one order.
 #![tactic(auto)]
 
+mod comparing;
 mod edges;
 mod ordering;
-pub mod reply;
 mod writing;
 
 ghost use Rattle.std.specs.Prelude.{true, ◌↔◌, ◌≡◌, length};
@@ -12,19 +12,17 @@ ghost use Rattle.automata.specs.Forms.{OwnForm, FormLaws};
 ghost use Rattle.automata.specs.Refusals.{refusal_of};
 ghost use Rattle.canonical.specs.Writing.{form_answer, form_buffer};
 
-use automata::refusal;
-use edges::{edges_of, sort};
-use ordering::is_rising;
-use reply::Reply;
+use automata::opened::Automaton;
+use automata::refusals::Refusal;
+use edges::Edges;
+use ordering::order_of;
 use writing::write_form;
 
 // Whether the edges rise, each less than the next.
-fn in_order(automaton: &[u8]) -> bool
-    requires { refusal_of automaton.now ≡ 0 }
-    ensures { result ≡ in_order automaton.now }
+fn in_order(automaton: &Automaton) -> bool
+    ensures { result ≡ in_order automaton.now.bytes.now }
 {
-    let edges = edges_of(automaton);
-    is_rising(automaton, edges.at, edges.count, edges.size)
+    Edges::of(automaton).is_rising()
 }
 
 // Whether bytes are an automaton in its own form.
@@ -32,28 +30,24 @@ pub fn is_canonical(automaton: &[u8]) -> bool
     ensures value { result ≡ is_canonical automaton.now }
     ensures own_form { (result ≡ true) ↔ OwnForm automaton.now }
 {
-    if refusal(automaton) != 0 {
-        return false;
+    match Automaton::open(automaton) {
+        Ok(automaton) => in_order(&automaton),
+        Err(_) => false,
     }
-    in_order(automaton)
 }
 
-// The form of an automaton at the start of a lent buffer; the bytes past it are unchanged. A buffer that is too short is untouched.
-pub fn write_canonical(automaton: &[u8], form: &mut [u8]) -> Reply
+// The form of an automaton at the start of a lent buffer, and its length; the bytes past it are unchanged. A buffer that is too short is untouched.
+pub fn write_canonical(automaton: &[u8], form: &mut [u8]) -> Result<usize, Refusal>
     ensures value { result ≡ form_answer automaton.now (length form.old) }
     ensures form_after { form.new ≡ form_buffer automaton.now form.old }
     ensures form_laws { refusal_of automaton.now ≡ 0 → FormLaws automaton.now }
 {
-    let number = refusal(automaton);
-    if number != 0 {
-        return Reply::Refused(number);
-    }
-    let edges = edges_of(automaton);
-    let order = sort(automaton, edges);
-    let total = edges.at + order.count * edges.size;
+    let automaton = Automaton::open(automaton)?;
+    let order = order_of(Edges::of(&automaton));
+    let total = order.edges.at + order.numbers.len() * order.edges.size;
     if form.len() < total {
-        return Reply::Refused(13);
+        return Err(Refusal::FormTooLong);
     }
-    write_form(form, automaton, edges, order, total);
-    Reply::Written(total)
+    write_form(form, automaton.bytes, &order, total);
+    Ok(total)
 }

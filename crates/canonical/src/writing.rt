@@ -1,12 +1,10 @@
 // The form of an automaton, written part after part.
 ghost use Rattle.std.specs.Prelude.{◌≡◌, ◌+◌, ◌*◌, ◌≤◌, ◌<◌, length};
 ghost use Rattle.encoding.specs.Placing.{placed};
-ghost use Rattle.order.specs.Laid.{nth_edge};
 ghost use Rattle.automata.specs.Canonical.{canonical_of};
-ghost use Rattle.canonical.specs.Numbers.{Lies, Listed, listed_bytes};
+ghost use Rattle.canonical.specs.Numbers.{listed_bytes};
 ghost use Rattle.canonical.specs.Parts.{Sorted, front_of};
 
-use crate::edges::Edges;
 use crate::ordering::Order;
 use encoding::{bytes_of, put, two_bytes_of};
 
@@ -22,45 +20,26 @@ fn write_front(form: &mut [u8], automaton: &[u8], at: usize, total: usize, count
     put(form, 11, &automaton[11..at]);
 }
 
-// Edge i at a place.
-fn put_edge(form: &mut [u8], to: usize, bytes: &[u8], size: usize, i: usize)
-    requires { Lies size bytes.now i × (to + size ≤ length form.old) }
-    ensures { form.new ≡ placed to (nth_edge size bytes.now i) form.old }
+// The listed edges, one after another.
+fn write_edges(form: &mut [u8], order: &Order)
+    requires { order.now.edges.at + length order.now.numbers.items * order.now.edges.size ≤ length form.old }
+    ensures { form.new ≡ placed order.now.edges.at (listed_bytes order.now.edges.size order.now.edges.bytes.now order.now.numbers.items) form.old }
 {
-    let from = i * size;
-    put(form, to, &bytes[from..from + size]);
-}
-
-// The listed edges, one after another from `at` on.
-fn write_edges(form: &mut [u8], at: usize, bytes: &[u8], size: usize, order: Order)
-    requires listed { Listed size bytes.now order.numbers order.count }
-    requires size_in_bounds { at + order.count * size ≤ length form.old }
-    ensures { form.new ≡ placed at (listed_bytes size bytes.now order.numbers order.count) form.old }
-{
-    let numbers = order.numbers;
-    let count = order.count;
-    let mut i = 0;
-    let mut to = at;
-    while i < count {
-        put_edge(form, to, bytes, size, usize::from(numbers[i]));
-        to += size;
-        i += 1;
+    let edges = order.edges;
+    let mut to = edges.at;
+    for &i in order.numbers.as_slice() {
+        put(form, to, edges.nth(usize::from(i)));
+        to += edges.size;
     }
 }
 
 // The form of an automaton, `total` bytes, at the start of a lent buffer.
-pub(crate) fn write_form(
-    form: &mut [u8],
-    automaton: &[u8],
-    edges: Edges,
-    order: Order,
-    total: usize,
-)
-    requires sorted { Sorted automaton.now edges order }
+pub(crate) fn write_form(form: &mut [u8], automaton: &[u8], order: &Order, total: usize)
+    requires sorted { Sorted automaton.now order.now }
     requires total_value { (total ≡ length (canonical_of automaton.now)) × (total ≤ length form.old) }
     ensures { form.new ≡ placed 0 (canonical_of automaton.now) form.old }
 {
-    let at = edges.at;
-    write_front(form, automaton, at, total, order.count);
-    write_edges(form, at, &automaton[at..], edges.size, order);
+    let count = order.numbers.len();
+    write_front(form, automaton, order.edges.at, total, count);
+    write_edges(form, order);
 }

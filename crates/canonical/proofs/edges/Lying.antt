@@ -3,36 +3,41 @@
 use Prim.Native.Nat.{ℕ, ◌+◌, ◌-◌, ◌*◌, ◌≤◌}
 use mathlib.Core.Bool.{Bool}
 use mathlib.Core.List.{List}
-use mathlib.Core.Path.{◌≡◌, sym, ap, ◌∙◌, subst}
+use mathlib.Core.Path.{◌≡◌, sym, ap, ◌∙◌}
 use lib.ListN.{length, take, drop, length-drop}
 use lib.Seq.{take_all}
 use native.Mathlib.Omega.{arith}
 use Rattle.order.specs.Edges.{rising}
-use Rattle.order.specs.Laid.{edges_from}
+use Rattle.order.specs.Laid.{edges_from, first_edges}
+use Rattle.order.proofs.Laid.{from-drop}
 use Rattle.automata.specs.Accepted.{Complete}
-use Rattle.automata.specs.Canonical.{in_order}
+use Rattle.automata.specs.Automata.{edges}
+use Rattle.automata.specs.Canonical.{edge_size, invariants_size, in_order}
 use Rattle.automata.proofs.canonical.Shape.{whole}
 use Rattle.canonical.specs.declared.edges.Edges.{Edges}
-use Rattle.canonical.specs.Edges.{edges_in}
+use Rattle.canonical.specs.Edges.{EdgesOf}
 
-module _ (b : List ℕ) {e : Edges} (q : e ≡ edges_in b) where
-  pub rising-drawn : {r : Bool} → r ≡ rising (edges_from e.size b e.at e.count) → r ≡ in_order b
-  unfolding in_order
-  rising-drawn h = h ∙ ap (λ (k : Edges). rising (edges_from k.size b k.at k.count)) q
+-- the part that is lent from there on
+pub lent_part : (b : List ℕ) (at : ℕ) → take (length b - at) (drop at b) ≡ drop at b
+lent_part b at = take_all (length b - at) (drop at b) (omega (arith, length-drop at b))
 
-  module _ (w : Complete b) where
-    pub edges_whole : e.at + e.count * e.size ≤ length b
-    edges_whole = subst (λ (k : Edges). k.at + k.count * k.size ≤ length b) (sym q) (whole b w)
+module _ (b : List ℕ) (w : Complete b) {at : ℕ} (a : at ≡ 11 + invariants_size b) where
+  pub at_inside : at ≤ length b
+  at_inside = omega (arith, whole b w)
 
-    pub few_edges : e.count ≤ 256
-    few_edges = subst (λ (k : Edges). k.count ≤ 256) (sym q) w.edges≤
+  pub part_whole : {count size : ℕ} → count ≡ edges b → size ≡ edge_size b → count * size ≤ length (take (length b - at) (drop at b))
+  part_whole c s =
+      let k = ap length (lent_part b at) ∙ length-drop at b in
+      rw (c, s) (omega (arith, whole b w, k))
 
-    pub behind_head : 11 ≤ e.at
-    behind_head = subst (λ (k : Edges). 11 ≤ k.at) (sym q) (omega arith)
+-- those that lie there are those as drawn
+pub lying : (b : List ℕ) {e : Edges} → EdgesOf b e
+    → first_edges e.size e.bytes.now e.count ≡ edges_from (edge_size b) b (11 + invariants_size b) (edges b)
+lying b {e} q =
+    let z : e.at + 0 ≡ 11 + invariants_size b = omega (arith, q.at) in
+    ap (λ (s : List ℕ). edges_from e.size s 0 e.count) q.bytes
+    ∙ sym (from-drop e.size b e.at 0 e.count) ∙ (λ i. edges_from (q.size i) b (z i) (q.count i))
 
-    -- the part that is lent from there on
-    pub lent_part : take (length b - e.at) (drop e.at b) ≡ drop e.at b
-    lent_part = take_all (length b - e.at) (drop e.at b) (omega (arith, length-drop e.at b))
-
-    pub part_whole : e.count * e.size ≤ length (take (length b - e.at) (drop e.at b))
-    part_whole = omega (arith, edges_whole, ap length lent_part, length-drop e.at b)
+pub rising-drawn : (b : List ℕ) {e : Edges} → EdgesOf b e → {r : Bool} → r ≡ rising (first_edges e.size e.bytes.now e.count) → r ≡ in_order b
+unfolding in_order
+rising-drawn b q h = h ∙ ap rising (lying b q)

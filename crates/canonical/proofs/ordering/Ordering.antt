@@ -4,11 +4,10 @@ use Prim.Native.Nat.{ℕ, zero, suc, ◌+◌, ◌-◌, ◌*◌, ◌<◌}
 use mathlib.Core.Bool.{Bool, true, false}
 use mathlib.Core.List.{List, [], ◌∷◌, ◌++◌}
 use mathlib.Core.Path.{◌≡◌, refl, sym, ap, ◌∙◌}
-use lib.ListN.{length}
 use native.Mathlib.Nat.{suc-mul, sub_self}
 use native.Mathlib.Numerals.{add-one}
 use native.Mathlib.Omega.{arith}
-use Rattle.order.specs.Edges.{Edge, rising, insert_edge, sorted}
+use Rattle.order.specs.Edges.{Edge, insert_edge, sorted}
 use Rattle.order.specs.Laid.{edge_bytes, nth_edge, edges_from, first_edges}
 use Rattle.order.proofs.Splitting.{sorted-snoc}
 use Rattle.canonical.specs.Numbers.{Inserted, ListsOf, taken_at, taken}
@@ -51,20 +50,15 @@ module _ (size : ℕ) (s : List ℕ) (n : ℕ) where
   taken_all false = refl
 
 -- none is listed
-pub order_none : (size : ℕ) (s : List ℕ) (down : Bool) (n : ℕ) (ns : List ℕ) → length ns ≡ 256 → ListsOf size s (taken size s down n 0) 0 ns 0
-unfolding rising sorted
-order_none size s down n ns e = record {
-  listed = record { array = e; room = omega arith; number = λ k h. absurd (omega arith); rises = refl };
-  few = omega arith;
-  edges = sym (ap sorted (taken_none size s n down));
-}
+pub order_none : (size : ℕ) (s : List ℕ) (down : Bool) (n : ℕ) → ListsOf size s (taken size s down n 0) 0 []
+unfolding sorted
+order_none size s down n = record { few = omega arith; edges = sym (ap sorted (taken_none size s n down)) }
 
 -- one more put among those before it
-pub order_more : (size : ℕ) (s : List ℕ) (down : Bool) (n : ℕ) (ns : List ℕ) (count i : ℕ) {x : ℕ} {now : List ℕ} {r : ℕ} → i < n
-    → ListsOf size s (taken size s down n i) i ns count → x ≡ taken_at down n i → Inserted size s ns count x now r
-    → ListsOf size s (taken size s down n (i + 1)) (i + 1) now r
-order_more size s down n ns count i h o e p = record {
-  listed = p.listed;
+pub order_more : (size : ℕ) (s : List ℕ) (down : Bool) (n : ℕ) (ns : List ℕ) (i : ℕ) {x : ℕ} {now : List ℕ} → i < n
+    → ListsOf size s (taken size s down n i) i ns → x ≡ taken_at down n i → Inserted size s ns x now
+    → ListsOf size s (taken size s down n (i + 1)) (i + 1) now
+order_more size s down n ns i h o e p = record {
   few = omega (arith, o.few, p.more);
   edges = p.edges ∙ (λ t. insert_edge (nth_edge size s (e t)) (o.edges t)) ∙ taken_more size s n down i h;
 }

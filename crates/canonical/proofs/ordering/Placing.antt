@@ -1,10 +1,9 @@
 -- Where an edge belongs, by halving: what stands before lo is less, what stands at hi is not. It needs no order of those between.
 -- Assumes nothing.
 use Prim.Native.Nat.{ℕ, ◌-◌, ◌<◌, ◌≤◌}
-use mathlib.Core.Bool.{Bool, true, false, not, true≢false}
+use mathlib.Core.Bool.{Bool, true, false, true≢false}
 use mathlib.Core.List.{List}
 use mathlib.Core.Path.{◌≡◌, refl, sym, ◌∙◌, subst}
-use borrow.Author.Tests.{not-true, not-false}
 use lib.ListN.{get_or}
 use native.Mathlib.Omega.{arith}
 use Rattle.encoding.specs.Bytes.{same_bytes}
@@ -35,18 +34,24 @@ module _ (size : ℕ) (s : List ℕ) (ns : List ℕ) (count : ℕ) (x : ℕ) whe
   abbrev at : ℕ → Edge
   at k = nth_edge size s (get_or ns k 0)
 
-  -- its bytes are new where other bytes stand: as they are not less than x, x is less
-  tested : {r : ℕ} {t : Bool} → Belongs size s ns count x r → r < count → t ≡ same_bytes (nth_edge size s x) (at r)
-      → Positioned size s ns count x r (not t)
-  tested b h e = record {
-    belongs = b;
-    fresh = λ f g. differ_less _ _ (sym e ∙ not-true _ f) (b.behind g);
-    there = λ f. (h, same_not_less _ _ (sym e ∙ not-false _ f));
-  }
+  module _ (lo hi : ℕ) (b : Between size s ns count x lo hi) (h : hi ≤ lo) {t : Bool} (e : t ≡ same_bytes (nth_edge size s x) (at lo)) where
+    found : Belongs size s ns count x lo
+    found =
+        let same : hi ≡ lo = omega (arith, b.apart) in
+        let here = subst (λ (k : ℕ). bytes_less (at k) (nth_edge size s x) ≡ false) same b.behind in
+        record { inside = omega (arith, b.inside); before = b.before; behind = λ g. here }
 
-  pub place_found : (lo hi : ℕ) → Between size s ns count x lo hi → hi ≤ lo → {t : Bool} → t ≡ same_bytes (nth_edge size s x) (at lo)
-      → Positioned size s ns count x lo (not t)
-  place_found lo hi b h e =
-      let same : hi ≡ lo = omega (arith, b.apart) in
-      let here = subst (λ (k : ℕ). bytes_less (at k) (nth_edge size s x) ≡ false) same b.behind in
-      tested (record { inside = omega (arith, b.inside); before = b.before; behind = λ g. here }) (omega (arith, b.inside)) e
+    -- its bytes are new where other bytes stand: as they are not less than x, x is less
+    pub place_new : t ≡ false → Positioned size s ns count x lo true
+    place_new n = record {
+      belongs = found;
+      fresh = λ f g. differ_less _ _ (sym e ∙ n) (found.behind g);
+      there = λ f. absurd (true≢false f);
+    }
+
+    pub place_none : t ≡ true → Positioned size s ns count x lo false
+    place_none n = record {
+      belongs = found;
+      fresh = λ f. absurd (true≢false (sym f));
+      there = λ f. (omega (arith, b.apart, b.inside), same_not_less _ _ (sym e ∙ n));
+    }

@@ -1,46 +1,50 @@
--- `write_canonical` meets its contract.
-use mathlib.Core.Path.{◌≡◌, sym, ◌∙◌}
-use native.Mathlib.Omega.{arith}
-use Rattle.automata.proofs.accepting.Accepting.{accepted}
+-- `write_canonical` meets its contract: the form is of the bytes that were opened.
+use Prim.Native.Nat.{ℕ}
+use mathlib.Core.List.{List}
+use mathlib.Core.Path.{ap, subst}
+use denote.Ref.{Bor}
+use Rattle.std.specs.Prelude.{Result}
+use Rattle.std.proofs.lemmas.Result.{err_from_is_err_and}
+use Rattle.automata.specs.declared.refusals.Refusal.{Refusal}
 use Rattle.automata.proofs.canonical.Theorems.{form_laws}
-use Rattle.canonical.proofs.Ways.{refused, short, written}
-use Rattle.canonical.proofs.writing.Parts.{total≡}
+use Rattle.canonical.specs.Parts.{Sorted}
+use Rattle.canonical.proofs.Ways.{Writes, refused, short, written}
+use Rattle.canonical.proofs.writing.Parts.{sorted_in, total≡}
 use Rattle.canonical.proofs.write_canonical.Goals as goal
+use Rattle.canonical.proofs.write_canonical.Goals.{In_ok-automaton, After-order_of-order}
 
-pub returns-then-number-ne0 : goal.returns-then-number-ne0
-returns-then-number-ne0 c =
-    let a = c.args in
-    let w = refused a.automaton.now a.form.now c.refusal-number.ensures (λ e. omega arith) in
-    record { value = w.0; form_after = w.1; form_laws = form_laws _ }
+pub returns-in_err-automaton : goal.returns-in_err-automaton
+returns-in_err-automaton c =
+    let p = err_from_is_err_and c.from_residual.result c.from_residual.ensures.1 in
+    let w = refused c.args.automaton.now c.args.form.now c.in_err-automaton.field-0.0 c.in_err-automaton.ensures.refusal in
+    rw (p.1, p.2) (record { value = w.0; form_after = w.1; form_laws = form_laws _ })
 
-pub edges_of-edges-requires : goal.edges_of-edges-requires
-edges_of-edges-requires c =
-    let number : c.refusal-number.result ≡ 0 = omega arith in
-    accepted _ (sym c.refusal-number.ensures ∙ number)
+-- what is written of the bytes that were opened is of those that were passed
+passed : (c : In_ok-automaton) (form now : List ℕ) (r : Result ℕ Refusal) → Writes c.in_ok-automaton.automaton.bytes.now form r now
+    → Writes c.args.automaton.now form r now
+passed c form now r = subst (λ (b : List ℕ). Writes b form r now) (ap (λ (x : Bor (List ℕ)). x.now) c.in_ok-automaton.ensures.opened)
 
-pub sort-order-requires : goal.sort-order-requires
-sort-order-requires c =
-    let number : c.refusal-number.result ≡ 0 = omega arith in
-    ((accepted _ (sym c.refusal-number.ensures ∙ number)).complete, c.edges_of-edges.ensures)
+sorted : (c : After-order_of-order) → Sorted c.in_ok-automaton.automaton.bytes.now c.order_of-order.result
+sorted c =
+    sorted_in _ _ c.in_ok-automaton.automaton.accepted.complete c.of.ensures c.order_of-order.ensures.same c.order_of-order.ensures.lists
 
 pub returns-then-form-total : goal.returns-then-form-total
 returns-then-form-total c =
-    let a = c.args in
-    let number : c.refusal-number.result ≡ 0 = omega arith in
-    let free = sym c.refusal-number.ensures ∙ number in
-    let t = total≡ a.automaton.now c.edges_of-edges.result c.sort-order.result c.sort-order.ensures in
-    let w = short a.automaton.now a.form.now free t (omega arith) in
+    let here = goal.at.returns-then-form-total c in
+    let a = c.in_ok-automaton.automaton in
+    let total = total≡ _ _ (sorted here.After-order_of-order) c.len.ensures.value in
+    let w = passed here.In_ok-automaton _ _ _ (short _ _ a.accepted total c.if-form-total.true) in
     record { value = w.0; form_after = w.1; form_laws = form_laws _ }
 
 pub write_form-requires-clause-total_value : goal.write_form-requires-clause-total_value
 write_form-requires-clause-total_value c =
-    (total≡ c.args.automaton.now c.edges_of-edges.result c.sort-order.result c.sort-order.ensures, omega arith)
+    let here = goal.at.write_form-requires-clause-total_value c in
+    (total≡ _ _ (sorted here.After-order_of-order) c.len.ensures.value, c.if-form-total.false)
 
 pub returns : goal.returns
 returns c =
-    let a = c.args in
-    let number : c.refusal-number.result ≡ 0 = omega arith in
-    let free = sym c.refusal-number.ensures ∙ number in
-    let t = total≡ a.automaton.now c.edges_of-edges.result c.sort-order.result c.sort-order.ensures in
-    let w = written a.automaton.now a.form.now free t (omega arith) c.write_form.ensures in
+    let here = goal.at.returns c in
+    let a = c.in_ok-automaton.automaton in
+    let total = total≡ _ _ (sorted here.After-order_of-order) c.len.ensures.value in
+    let w = passed here.In_ok-automaton _ _ _ (written _ _ a.accepted total c.if-form-total.false c.write_form.ensures) in
     record { value = w.0; form_after = w.1; form_laws = form_laws _ }

@@ -2,87 +2,76 @@
 -- Assumes nothing.
 use Prim.Native.Nat.{ℕ, ◌+◌, ◌-◌, ◌*◌, ◌≤◌, ◌<◌}
 use mathlib.Core.List.{List, ◌++◌, append_assoc}
-use mathlib.Core.Path.{◌≡◌, sym, ap, ◌∙◌}
-use lib.ListN.{length, take, drop}
+use mathlib.Core.Path.{◌≡◌, refl, sym, ap, ◌∙◌, subst}
+use lib.ListN.{length, take, drop, length-map}
 use native.Mathlib.Omega.{arith}
 use Rattle.encoding.specs.Numbers.{be16, be32}
 use Rattle.encoding.specs.Placing.{placed}
 use Rattle.encoding.proofs.Placed.{goes_on}
 use Rattle.order.specs.Edges.{sorted}
-use Rattle.order.specs.Laid.{edges_from, nth_edge, numbered, joined}
-use Rattle.order.proofs.Laid.{from-drop}
-use Rattle.automata.specs.Automata.{edges}
-use Rattle.automata.specs.Canonical.{edge_size, invariants_size, ordered, form_length, canonical_of}
+use Rattle.order.specs.Laid.{nth_edge, numbered, joined}
+use Rattle.automata.specs.Accepted.{Complete}
+use Rattle.automata.specs.Canonical.{invariants_size, ordered, form_length, canonical_of}
 use Rattle.automata.proofs.canonical.Shape.{form_length_lem, small}
 use Rattle.canonical.specs.declared.edges.Edges.{Edges}
 use Rattle.canonical.specs.declared.ordering.Order.{Order}
-use Rattle.canonical.specs.Numbers.{listed_bytes}
+use Rattle.canonical.specs.Edges.{EdgesOf}
+use Rattle.canonical.specs.Numbers.{Lists, listed_bytes}
 use Rattle.canonical.specs.Parts.{Sorted, front_of}
-use Rattle.canonical.proofs.ordering.Numbered.{listed-length}
-use Rattle.canonical.proofs.ordering.Inserting.{fits}
-use Rattle.canonical.proofs.edges.Lying.{edges_whole, behind_head, lent_part}
+use Rattle.canonical.proofs.edges.Lying.{at_inside, lying}
 use Rattle.canonical.proofs.writing.Front.{front_length}
 
-module _ (b : List ℕ) (e : Edges) (o : Order) (s : Sorted b e o) where
-  at≡ : e.at ≡ 11 + invariants_size b
-  at≡ = ap (λ (k : Edges). k.at) s.edges
+pub sorted_in : (b : List ℕ) (o : Order) {e : Edges} → Complete b → EdgesOf b e → o.edges ≡ e
+    → Lists e.size e.bytes.now e.count o.numbers.items → Sorted b o
+sorted_in b o w q h l = record {
+  complete = w;
+  edges = subst (EdgesOf b) (sym h) q;
+  order = subst (λ (k : Edges). Lists k.size k.bytes.now k.count o.numbers.items) (sym h) l;
+}
 
-  size≡ : e.size ≡ edge_size b
-  size≡ = ap (λ (k : Edges). k.size) s.edges
+module _ (b : List ℕ) (o : Order) (s : Sorted b o) where
+  pub edges-ordered : numbered o.edges.size o.edges.bytes.now o.numbers.items ≡ ordered b
+  edges-ordered = s.order.edges ∙ ap sorted (lying b s.edges)
 
-  count≡ : e.count ≡ edges b
-  count≡ = ap (λ (k : Edges). k.count) s.edges
+  count_ordered : length o.numbers.items ≡ length (ordered b)
+  count_ordered = sym (length-map o.numbers.items (nth_edge o.edges.size o.edges.bytes.now)) ∙ ap length edges-ordered
 
-  edges-ordered : numbered e.size (drop e.at b) (take o.count o.numbers) ≡ ordered b
-  edges-ordered =
-      let z : e.at + 0 ≡ 11 + invariants_size b = omega (arith, at≡) in
-      s.order.edges
-      ∙ ap sorted (sym (from-drop e.size b e.at 0 e.count) ∙ (λ i. edges_from (size≡ i) b (z i) (count≡ i)))
+  form_length_lem≡ : o.edges.at + length o.numbers.items * o.edges.size ≡ form_length b
+  form_length_lem≡ = λ i. s.edges.at i + count_ordered i * s.edges.size i
 
-  count_ordered : o.count ≡ length (ordered b)
-  count_ordered =
-      let l = s.order.listed in
-      sym (listed-length o.numbers o.count (fits e.size (drop e.at b) o.numbers o.count l) (nth_edge e.size (drop e.at b)))
-      ∙ ap length edges-ordered
+  at≤ : o.edges.at ≤ length b
+  at≤ = at_inside b s.complete s.edges.at
 
-  form_length_lem≡ : e.at + o.count * e.size ≡ form_length b
-  form_length_lem≡ = λ i. at≡ i + count_ordered i * size≡ i
+  pub total≡ : {n : ℕ} → n ≡ length o.numbers.items → o.edges.at + n * o.edges.size ≡ length (canonical_of b)
+  total≡ e = (λ i. o.edges.at + e i * o.edges.size) ∙ form_length_lem≡ ∙ sym (form_length_lem b s.complete)
 
-  at_inside : e.at ≤ length b
-  at_inside = omega (arith, edges_whole b s.edges s.complete)
-
-  pub total≡ : e.at + o.count * e.size ≡ length (canonical_of b)
-  total≡ = form_length_lem≡ ∙ sym (form_length_lem b s.complete)
-
-  pub total-small : e.at + o.count * e.size < 4294967296
-  total-small = omega (arith, form_length_lem≡, small b s.complete)
+  total-small : length (canonical_of b) < 4294967296
+  total-small = omega (arith, form_length_lem b s.complete, small b s.complete)
 
   -- ---- what its front asks of a buffer of n bytes that has room for it
   module _ (n : ℕ) {total : ℕ} (t : total ≡ length (canonical_of b)) (h : total ≤ n) where
-    pub asks_front : ((11 ≤ e.at) × (e.at ≤ length b) × (e.at ≤ n)) × ((total < 4294967296) × (o.count < 4294967296))
+    pub asks_front : ((11 ≤ o.edges.at) × (o.edges.at ≤ length b) × (o.edges.at ≤ n)) × ((total < 4294967296) × (length o.numbers.items < 4294967296))
     asks_front = (
-      (behind_head b s.edges s.complete, at_inside, omega (arith, total≡)),
-      (omega (arith, total≡, total-small), omega (arith, s.order.listed.room)),
+      (omega (arith, s.edges.at), at≤, omega (arith, total≡ refl)),
+      (omega (arith, total-small), omega (arith, s.order.few, o.edges.few)),
     )
 
   -- ---- the whole of it
   form_parts : (total : ℕ) → total ≡ length (canonical_of b)
-      → front_of b e.at total o.count ++ listed_bytes e.size (drop e.at b) o.numbers o.count ≡ canonical_of b
+      → front_of b o.edges.at total (length o.numbers.items) ++ listed_bytes o.edges.size o.edges.bytes.now o.numbers.items ≡ canonical_of b
   unfolding front_of canonical_of
   form_parts total t =
       let n : total ≡ form_length b = t ∙ form_length_lem b s.complete in
-      let k : e.at - 11 ≡ invariants_size b = omega (arith, at≡) in
+      let k : o.edges.at - 11 ≡ invariants_size b = omega (arith, s.edges.at) in
       simp append_assoc
       (λ i. be32 (n i) ++ (take 5 (drop 4 b) ++ (be16 (count_ordered i) ++ (take (k i) (drop 11 b) ++ joined (edges-ordered i)))))
 
-  -- put one behind the other, the edges from the part that is lent
+  -- put one behind the other
   pub form_put : (form : List ℕ) {total : ℕ} {one two : List ℕ} → total ≡ length (canonical_of b)
-      → one ≡ placed 0 (front_of b e.at total o.count) form
-      → two ≡ placed e.at (listed_bytes e.size (take (length b - e.at) (drop e.at b)) o.numbers o.count) one
-      → two ≡ placed 0 (canonical_of b) form
+      → one ≡ placed 0 (front_of b o.edges.at total (length o.numbers.items)) form
+      → two ≡ placed o.edges.at (listed_bytes o.edges.size o.edges.bytes.now o.numbers.items) one → two ≡ placed 0 (canonical_of b) form
   form_put form {total} t p q =
-      let lent = ap (λ (l : List ℕ). listed_bytes e.size l o.numbers o.count) (lent_part b s.edges s.complete) in
-      let front = front_of b e.at total o.count in
-      let long = front_length b e.at total o.count (behind_head b s.edges s.complete) at_inside in
-      goes_on form front (listed_bytes e.size (drop e.at b) o.numbers o.count) 0 e.at (omega arith) (omega (arith, long)) p lent q
+      let front = front_of b o.edges.at total (length o.numbers.items) in
+      let long = front_length b o.edges.at total (length o.numbers.items) (omega (arith, s.edges.at)) at≤ in
+      goes_on form front (listed_bytes o.edges.size o.edges.bytes.now o.numbers.items) 0 o.edges.at (omega arith) (omega (arith, long)) p refl q
       ∙ ap (λ (l : List ℕ). placed 0 l form) (form_parts total t)

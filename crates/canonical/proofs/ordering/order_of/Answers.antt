@@ -1,17 +1,20 @@
--- `order_of` meets its contract: the edges that are taken are in order.
-use mathlib.Core.Path.{refl}
+-- `order_of` meets its contract.
+use mathlib.Core.Path.{◌∙◌, subst}
 use native.Mathlib.Omega.{arith}
+use Rattle.canonical.specs.declared.edges.Edges.{Edges}
+use Rattle.canonical.specs.Numbers.{Inserted}
 use Rattle.canonical.proofs.ordering.Ordering.{order_none, order_more}
 use Rattle.canonical.proofs.ordering.order_of.Goals as goal
 
 pub loop-i-init : goal.loop-i-init
-loop-i-init c = (omega arith, order_none _ _ c.falls-down.result c.args.edges _ refl)
+loop-i-init c = (c.new-order.ensures.same, rw c.new-order.ensures.empty (order_none _ _ c.falls-down.result c.args.edges.count))
 
 pub loop-i-preserved : goal.loop-i-preserved
 loop-i-preserved c =
     let l = c.loop-i in
-    let a = c.args in (
-      omega arith,
-      order_more a.size a.bytes.now c.falls-down.result a.edges l.numbers l.count l.i (omega arith) l.invariant.1
-          c.next_taken.ensures.0 c.insert-count.ensures,
+    let e = c.args.edges in
+    let put = subst (λ (k : Edges). Inserted k.size k.bytes.now l.order.numbers.items c.next_taken.result c.insert.new.self.numbers.items)
+    l.invariant.0 c.insert.ensures.inserted in (
+      c.insert.ensures.same ∙ l.invariant.0,
+      order_more e.size e.bytes.now c.falls-down.result e.count l.order.numbers.items l.i (omega arith) l.invariant.1 c.next_taken.ensures.0 put,
     )
