@@ -10,7 +10,8 @@ use Rattle.automata.specs.Automata.{edge_in, firsts, guard_of, in_byte, invarian
 use Rattle.automata.specs.Canonical.{is_canonical, in_order, canonical_of}
 use Rattle.automata.specs.Refusals.{out_of_range_at, refusal_of, some}
 use Rattle.canonical.specs.Writing.{form_refusal}
-use Rattle.search.specs.declared.verdict.Answer.TheVariants.{Refused}
+use Rattle.std.specs.Prelude.{Ok, Err}
+use Rattle.automata.specs.declared.refusals.Refusal.TheVariants.{StoreFull}
 use Rattle.search.specs.declared.verdict.Holding.TheVariants.{Below}
 use Rattle.search.specs.declared.verdict.Verdict.TheVariants.{Holds}
 use Rattle.search.specs.Answers.{answer_in, search_answer}
@@ -28,11 +29,11 @@ use Rattle.cache.specs.Drawn.{consult_answer, consult_cache}
 use Rattle.cache.specs.Examples.{automaton_a, empty, holds, AllRight, examples}
 
 -- the search's case I: card A with stores of 10 and of 11 numbers
-answer_10 : search_answer automaton_a 10 ≡ Refused 10
+answer_10 : search_answer automaton_a 10 ≡ Err StoreFull
 unfolding answer_in
 answer_10 = ap answer_in (search.all_right).1.1.1.1.1.1.1.1.1.1.0.0
 
-answer_11 : search_answer automaton_a 11 ≡ holds
+answer_11 : search_answer automaton_a 11 ≡ Ok holds
 unfolding answer_in
 answer_11 = ap answer_in (search.all_right).1.1.1.1.1.1.1.1.1.1.1.0.0
 

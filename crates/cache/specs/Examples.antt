@@ -1,7 +1,8 @@
 -- Worked examples: document 01's card A, consulted, and what is answered and left.
-use Rattle.std.specs.Prelude.{ℕ, List, [], ◌∷◌, ◌++◌, ◌≡◌, replicate}
+use Rattle.std.specs.Prelude.{ℕ, List, [], ◌∷◌, ◌++◌, ◌≡◌, replicate, Result, Ok, Err}
+use Rattle.automata.specs.declared.refusals.Refusal.{Refusal}
+use Rattle.automata.specs.declared.refusals.Refusal.TheVariants.{StoreFull, UnsoundCache, CacheFull, FormTooLong}
 use Rattle.search.specs.declared.verdict.Answer.{Answer}
-use Rattle.search.specs.declared.verdict.Answer.TheVariants.{Found, Refused}
 use Rattle.search.specs.declared.verdict.Holding.TheVariants.{Below}
 use Rattle.search.specs.declared.verdict.Verdict.TheVariants.{Holds}
 use Rattle.cache.specs.Drawn.{consult_answer, consult_cache}
@@ -12,7 +13,7 @@ pub record Example : Type 0 where
   pub automaton : List ℕ
   pub room : ℕ
   pub amount : ℕ
-  pub answer : Answer
+  pub answer : Result Answer Refusal
   pub after : List ℕ
 
 -- "Card A is `00000026 01 01 02 00 01 0001 00000000 00000005 00000000 00000009 00 01 00 00000007 FFFFFFFF`"
@@ -48,7 +49,7 @@ abbrev filed : ℕ → List ℕ
 filed free = 0 ∷ 0 ∷ 0 ∷ 60 ∷ 1 ∷ (record_a ++ replicate free 9)
 
 abbrev pub holds : Answer
-holds = Found (Holds (Below (record { n = 1; d = 1 }))) 1
+holds = record { verdict = Holds (Below (record { n = 1; d = 1 })); zones = 1 }
 
 -- another version, and the same record twice
 abbrev other_version : List ℕ
@@ -63,14 +64,14 @@ doubled = 0 ∷ 0 ∷ 0 ∷ 71 ∷ 1 ∷ (0 ∷ 0 ∷ 0 ∷ 66 ∷ 1 ∷ 0 ∷ 0
 
 abbrev pub examples : List Example
 examples =
-    record { cache = empty 58; automaton = automaton_a; room = 38; amount = 11; answer = holds; after = filed 3 }
-    ∷ record { cache = empty 55; automaton = twice_a; room = 38; amount = 11; answer = holds; after = filed 0 }
-    ∷ record { cache = empty 58; automaton = automaton_a; room = 38; amount = 10; answer = Refused 10; after = empty 58 }
-    ∷ record { cache = empty 54; automaton = automaton_a; room = 40; amount = 10; answer = Refused 12; after = empty 54 }
-    ∷ record { cache = filed 0; automaton = automaton_a; room = 38; amount = 0; answer = holds; after = filed 0 }
-    ∷ record { cache = filed 0; automaton = twice_a; room = 38; amount = 0; answer = holds; after = filed 0 }
-    ∷ record { cache = other_version; automaton = automaton_a; room = 38; amount = 11; answer = Refused 11; after = other_version }
-    ∷ record { cache = other_version; automaton = twice_a; room = 37; amount = 11; answer = Refused 13; after = other_version }
-    ∷ record { cache = twice; automaton = automaton_a; room = 38; amount = 11; answer = Refused 11; after = twice }
-    ∷ record { cache = doubled; automaton = automaton_a; room = 38; amount = 11; answer = Refused 11; after = doubled }
+    record { cache = empty 58; automaton = automaton_a; room = 38; amount = 11; answer = Ok holds; after = filed 3 }
+    ∷ record { cache = empty 55; automaton = twice_a; room = 38; amount = 11; answer = Ok holds; after = filed 0 }
+    ∷ record { cache = empty 58; automaton = automaton_a; room = 38; amount = 10; answer = Err StoreFull; after = empty 58 }
+    ∷ record { cache = empty 54; automaton = automaton_a; room = 40; amount = 10; answer = Err CacheFull; after = empty 54 }
+    ∷ record { cache = filed 0; automaton = automaton_a; room = 38; amount = 0; answer = Ok holds; after = filed 0 }
+    ∷ record { cache = filed 0; automaton = twice_a; room = 38; amount = 0; answer = Ok holds; after = filed 0 }
+    ∷ record { cache = other_version; automaton = automaton_a; room = 38; amount = 11; answer = Err UnsoundCache; after = other_version }
+    ∷ record { cache = other_version; automaton = twice_a; room = 37; amount = 11; answer = Err FormTooLong; after = other_version }
+    ∷ record { cache = twice; automaton = automaton_a; room = 38; amount = 11; answer = Err UnsoundCache; after = twice }
+    ∷ record { cache = doubled; automaton = automaton_a; room = 38; amount = 11; answer = Err UnsoundCache; after = doubled }
     ∷ []

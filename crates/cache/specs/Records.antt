@@ -2,11 +2,10 @@
 use Rattle.std.specs.Prelude.{ℕ, ◌+◌, ◌≤◌, ◌≡◌, Bool, cond, ◌&&◌, List, ◌∷◌, ◌++◌, leb, length, get_or, drop}
 use Rattle.encoding.specs.Numbers.{be32_at, be32}
 use Rattle.automata.specs.Canonical.{is_canonical}
+use Rattle.search.specs.declared.verdict.Answer.{Answer}
 use Rattle.search.specs.declared.verdict.Numbers.{Numbers}
-use Rattle.search.specs.Verdicts.{verdict_of, sound_numbers}
+use Rattle.search.specs.Verdicts.{numbers_of, verdict_of, sound_numbers}
 use Rattle.cache.specs.declared.layout.Layout.{Layout}
-use Rattle.cache.specs.declared.lookup.Lookup.{Lookup}
-use Rattle.cache.specs.declared.lookup.Lookup.TheVariants.{Filed}
 use Rattle.cache.specs.Layouts.{longest}
 
 -- ---- reading: the fields of a record's bytes, all of them and no more
@@ -35,22 +34,22 @@ pub record Begins (L : Layout) (s : List ℕ) (n : ℕ) : Type 0 where
 unfoldable pub sound_record : Layout → List ℕ → Bool
 sound_record L r = sound_numbers (record_numbers L r) && is_canonical (record_automaton L r)
 
-abbrev pub filed_as : Layout → List ℕ → Lookup
-filed_as L r = Filed (verdict_of (record_numbers L r)) (record_zones L r)
+abbrev pub filed_as : Layout → List ℕ → Answer
+filed_as L r = record { verdict = verdict_of (record_numbers L r); zones = record_zones L r }
 
 -- ---- writing
 unfoldable pub number_bytes : Numbers → List ℕ
 number_bytes x = x.kind ∷ (be32 x.n ++ be32 x.d)
 
-unfoldable pub record_of : Layout → Numbers → ℕ → List ℕ → List ℕ
-record_of L x zones b = be32 (L.head + length b) ++ (number_bytes x ++ (be32 zones ++ b))
+unfoldable pub record_of : Layout → Answer → List ℕ → List ℕ
+record_of L a b = be32 (L.head + length b) ++ (number_bytes (numbers_of a.verdict) ++ (be32 a.zones ++ b))
 
 -- each number fits the bytes that it is given
 pub record NumbersFit (x : Numbers) : Type 0 where
   pub n_fits : x.n ≤ longest
   pub d_fits : x.d ≤ longest
 
-pub record Fits (L : Layout) (x : Numbers) (zones : ℕ) (b : List ℕ) : Type 0 where
+pub record Fits (L : Layout) (a : Answer) (b : List ℕ) : Type 0 where
   pub size_fits : L.head + length b ≤ longest
-  pub numbers_fit : NumbersFit x
-  pub zones_fit : zones ≤ longest
+  pub numbers_fit : NumbersFit (numbers_of a.verdict)
+  pub zones_fit : a.zones ≤ longest

@@ -2,46 +2,43 @@
 #![tactic(auto)]
 
 mod layout;
-pub mod lookup;
 mod record;
 mod records;
 
 ghost use Rattle.std.specs.Prelude.{◌≡◌, ◌+◌, ◌≤◌, false, length, MatchOption};
 ghost use Rattle.canonical.specs.Writing.{form_buffer};
-ghost use Rattle.search.specs.Given.{Given};
 ghost use Rattle.cache.specs.Layouts.{header_length};
 ghost use Rattle.cache.specs.Versions.{version1};
 ghost use Rattle.cache.specs.Records.{record_of, Fits};
 ghost use Rattle.cache.specs.Caches.{used_of, sound_as, sound};
 ghost use Rattle.cache.specs.Walks.{Opened};
-ghost use Rattle.cache.specs.Consulting.{Room, Searches, appended, filing, make_empty_reply, make_empty_cache};
+ghost use Rattle.cache.specs.Consulting.{Room, Searches, appended, make_empty_reply, make_empty_cache};
 ghost use Rattle.cache.specs.Consulting.{look_up_as, consult_answer_as, consult_cache_as, consult_store_as};
 ghost use Rattle.cache.specs.Drawn.{look_up_in, consult_answer, consult_cache, consult_store};
 ghost use Rattle.cache.specs.Growing.{Carried};
 
-use canonical::reply::Reply;
+use automata::refusals::Refusal;
 use canonical::write_canonical;
 use encoding::{be32, bytes_of, put};
 use layout::{HEADER, LONGEST, Layout, VERSION_AT};
-use lookup::Lookup;
 use record::write;
 use records::Records;
 use search::search;
-use search::verdict::{Answer, Numbers, numbers_of};
+use search::verdict::Answer;
 
 // An empty cache: 0, or 12 if it has no room.
 #[tactic(auto, unfolding(crate::specs::Consulting::make_empty_reply, crate::specs::Consulting::make_empty_as))]
-pub fn make_empty(cache: &mut [u8]) -> u32
+pub fn make_empty(cache: &mut [u8]) -> Result<(), Refusal>
     ensures value { result ≡ make_empty_reply cache.old }
     ensures cache_after { cache.new ≡ make_empty_cache cache.old }
 {
     if cache.len() < HEADER {
-        return 12;
+        return Err(Refusal::CacheFull);
     }
     let layout = Layout::version_1();
     put(cache, 0, &bytes_of(HEADER as u32));
     put(cache, VERSION_AT, &[layout.version]);
-    0
+    Ok(())
 }
 
 // ---- asking
@@ -88,90 +85,81 @@ pub fn sound(cache: &[u8]) -> bool
 
 // What a cache says of a form.
 #[tactic(auto, unfolding(crate::specs::Consulting::look_up_as))]
-fn look_up_form(cache: &[u8], form: &[u8]) -> Lookup
+fn look_up_form(cache: &[u8], form: &[u8]) -> Result<Option<Answer>, Refusal>
     ensures { result ≡ look_up_as version1 cache.now form.now }
 {
-    match open(cache) {
-        Some(records) => records.look_in(form),
-        None => Lookup::Refused(11),
-    }
+    let records = open(cache).ok_or(Refusal::UnsoundCache)?;
+    Ok(records.look_in(form))
 }
 
 // What a cache says of an automaton, whose form is written first. It only reads the cache.
-#[tactic(auto, using(crate::proofs::consulting::Meeting::looks_written, crate::proofs::consulting::Meeting::looks_turned_down))]
-pub fn look_up(cache: &[u8], automaton: &[u8], form: &mut [u8]) -> Lookup
+pub fn look_up(cache: &[u8], automaton: &[u8], form: &mut [u8]) -> Result<Option<Answer>, Refusal>
     ensures value { result ≡ look_up_in cache.now automaton.now (length form.old) }
     ensures form_after { form.new ≡ form_buffer automaton.now form.old }
 {
-    match write_canonical(automaton, form) {
-        Reply::Written(length) => look_up_form(cache, &form[..length]),
-        Reply::Refused(k) => Lookup::Refused(k),
-    }
+    let length = write_canonical(automaton, form)?;
+    look_up_form(cache, &form[..length])
 }
 
 // ---- filing
 // A record behind those that are there: the free part is lent to its writer, then the used length follows.
 // Cache and layout stay two parameters here: in a struct the cache would be a `&mut` field, which these contracts would follow to its end.
-fn append(cache: &mut [u8], layout: Layout, x: Numbers, zones: u32, automaton: &[u8])
+fn append(cache: &mut [u8], layout: Layout, answer: Answer, automaton: &[u8])
     requires room { Room cache.old (layout.head + length automaton.now) }
-    requires fits { Fits layout x zones automaton.now }
-    ensures { cache.new ≡ appended cache.old (record_of layout x zones automaton.now) }
+    requires fits { Fits layout answer automaton.now }
+    ensures { cache.new ≡ appended cache.old (record_of layout answer automaton.now) }
 {
     let used = be32(cache, 0) as usize;
     let next = used + (layout.head + automaton.len());
-    write(&mut cache[used..], layout, x, zones, automaton);
+    write(&mut cache[used..], layout, answer, automaton);
     put(cache, 0, &bytes_of(next as u32));
 }
 
-// A verdict is filed, a refusal is not.
-#[tactic(auto, unfolding(crate::specs::Consulting::filing))]
-fn file(cache: &mut [u8], layout: Layout, automaton: &[u8], answer: Answer)
-    requires room { Room cache.old (layout.head + length automaton.now) }
-    requires given { Given automaton.now answer }
-    ensures { cache.new ≡ filing layout cache.old automaton.now answer }
-{
-    match answer {
-        Answer::Found(v, zones) => append(cache, layout, numbers_of(v), zones, automaton),
-        Answer::Refused(k) => {}
-    }
-}
-
-// The search of an automaton that is not in the sound cache, its verdict filed.
-#[tactic(auto, unfolding(crate::specs::Consulting::full))]
-fn search_and_file(cache: &mut [u8], layout: Layout, automaton: &[u8], store: &mut [i32]) -> Answer
+// The search of an automaton that is not in the sound cache: a verdict is filed, a refusal is not.
+#[tactic(auto, unfolding(crate::specs::Consulting::full, crate::specs::Consulting::filing))]
+fn search_and_file(
+    cache: &mut [u8],
+    layout: Layout,
+    automaton: &[u8],
+    store: &mut [i32],
+) -> Result<Answer, Refusal>
     requires used_fits { (header_length ≤ used_of cache.old) × (used_of cache.old ≤ length cache.old) }
     ensures { Searches layout cache.old automaton.now store.old result cache.new store.new }
 {
     let used = be32(cache, 0) as usize;
     let length = layout.head + automaton.len();
     if cache.len() - used < length {
-        return Answer::Refused(12);
+        return Err(Refusal::CacheFull);
     }
     if LONGEST - used < length {
-        return Answer::Refused(12);
+        return Err(Refusal::CacheFull);
     }
-    let answer = search(automaton, store).answer();
-    file(cache, layout, automaton, answer);
-    answer
+    let answer = search(automaton, store)?.answer;
+    append(cache, layout, answer, automaton);
+    Ok(answer)
 }
 
 // ---- consulting
 // The verdict of a form: the filed one, or the search's, which is filed.
-fn consult_form(cache: &mut [u8], form: &[u8], store: &mut [i32]) -> Answer
+fn consult_form(cache: &mut [u8], form: &[u8], store: &mut [i32]) -> Result<Answer, Refusal>
     ensures value { result ≡ consult_answer_as version1 cache.old form.now (length store.old) }
     ensures cache_after { cache.new ≡ consult_cache_as version1 cache.old form.now (length store.old) }
     ensures store_after { store.new ≡ consult_store_as version1 cache.old form.now store.old }
 {
-    match look_up_form(cache, form) {
-        Lookup::Filed(v, zones) => Answer::Found(v, zones),
-        Lookup::Absent => search_and_file(cache, Layout::version_1(), form, store),
-        Lookup::Refused(k) => Answer::Refused(k),
+    match look_up_form(cache, form)? {
+        Some(answer) => Ok(answer),
+        None => search_and_file(cache, Layout::version_1(), form, store),
     }
 }
 
 // The verdict of an automaton: that of its form, which is written first.
 #[tactic(auto, using(crate::proofs::consulting::Meeting::form_within))]
-pub fn consult(cache: &mut [u8], automaton: &[u8], form: &mut [u8], store: &mut [i32]) -> Answer
+pub fn consult(
+    cache: &mut [u8],
+    automaton: &[u8],
+    form: &mut [u8],
+    store: &mut [i32],
+) -> Result<Answer, Refusal>
     ensures value { result ≡ consult_answer cache.old automaton.now (length form.old) (length store.old) }
     ensures cache_after { cache.new
         ≡ consult_cache cache.old automaton.now (length form.old) (length store.old) }
@@ -181,8 +169,6 @@ pub fn consult(cache: &mut [u8], automaton: &[u8], form: &mut [u8], store: &mut 
     ensures carried { Carried cache.old automaton.now (length form.old) store.old result
         cache.new store.new }
 {
-    match write_canonical(automaton, form) {
-        Reply::Written(length) => consult_form(cache, &form[..length], store),
-        Reply::Refused(k) => Answer::Refused(k),
-    }
+    let length = write_canonical(automaton, form)?;
+    consult_form(cache, &form[..length], store)
 }

@@ -5,10 +5,9 @@ ghost use Rattle.cache.specs.Records.{record_numbers, record_automaton, measured
 ghost use Rattle.cache.specs.Records.{number_bytes, record_of, NumbersFit, Fits};
 
 use crate::layout::Layout;
-use crate::lookup::Lookup;
 use canonical::is_canonical;
 use encoding::{be32, bytes_of, put};
-use search::verdict::{Numbers, numbers_sound, verdict_of};
+use search::verdict::{Answer, Numbers, Verdict};
 
 // The length of the record that the bytes begin with, none where they begin with none.
 #[tactic(auto, unfolding(crate::specs::Records::measured))]
@@ -51,8 +50,8 @@ impl<'a> Record<'a> {
         let Record { bytes, layout } = self;
         Numbers {
             kind: bytes[layout.kind],
-            n: be32(bytes, layout.n) as u64,
-            d: be32(bytes, layout.d) as u64,
+            n: u64::from(be32(bytes, layout.n)),
+            d: u64::from(be32(bytes, layout.d)),
         }
     }
 
@@ -60,16 +59,16 @@ impl<'a> Record<'a> {
     pub(crate) fn is_sound(self) -> bool
         ensures { result ≡ sound_record self.entry.layout self.entry.bytes.now }
     {
-        numbers_sound(self.numbers()) && is_canonical(self.automaton())
+        self.numbers().are_sound() && is_canonical(self.automaton())
     }
 
-    pub(crate) fn filed(self) -> Lookup
+    pub(crate) fn filed(self) -> Answer
         ensures { result ≡ filed_as self.entry.layout self.entry.bytes.now }
     {
-        Lookup::Filed(
-            verdict_of(self.numbers()),
-            be32(self.bytes, self.layout.zones),
-        )
+        Answer {
+            verdict: Verdict::from(self.numbers()),
+            zones: be32(self.bytes, self.layout.zones),
+        }
     }
 }
 
@@ -85,14 +84,14 @@ fn write_numbers(free: &mut [u8], layout: Layout, x: Numbers)
 }
 
 // The free part of a cache begins with a record: field after field, then the automaton.
-pub(crate) fn write(free: &mut [u8], layout: Layout, x: Numbers, zones: u32, automaton: &[u8])
+pub(crate) fn write(free: &mut [u8], layout: Layout, answer: Answer, automaton: &[u8])
     requires automaton_in_bounds { layout.head + length automaton.now ≤ length free.old }
-    requires fits { Fits layout x zones automaton.now }
-    ensures { free.new ≡ placed 0 (record_of layout x zones automaton.now) free.old }
+    requires fits { Fits layout answer automaton.now }
+    ensures { free.new ≡ placed 0 (record_of layout answer automaton.now) free.old }
 {
     let head = layout.head;
     put(free, 0, &bytes_of((head + automaton.len()) as u32));
-    write_numbers(free, layout, x);
-    put(free, layout.zones, &bytes_of(zones));
+    write_numbers(free, layout, Numbers::from(answer.verdict));
+    put(free, layout.zones, &bytes_of(answer.zones));
     put(free, head, automaton);
 }

@@ -1,8 +1,8 @@
 // The records of a cache, one after another.
 use crate::layout::Layout;
-use crate::lookup::Lookup;
 use crate::record::{Record, measure};
 use encoding::same;
+use search::verdict::Answer;
 
 // A walk over the records that bytes begin with, up to where none begins; and the layout in which they are read.
 #[derive(Clone, Copy)]
@@ -54,15 +54,15 @@ impl<'a> Records<'a> {
 
     // What the records say of an automaton: the first one with its bytes.
     #[tactic(auto, unfolding(crate::specs::Lookups::look_up))]
-    pub(crate) fn look_in(self, automaton: &[u8]) -> Lookup
+    pub(crate) fn look_in(self, automaton: &[u8]) -> Option<Answer>
         ensures { result ≡ look_up self.entry.layout (left self.entry) automaton.now }
     {
         for record in self {
             if same(record.automaton(), automaton) {
-                return record.filed();
+                return Some(record.filed());
             }
         }
-        Lookup::Absent
+        None
     }
 
     // Whether neither of two automata stands in the records: one walk for both, since walking is what takes the time.

@@ -7,8 +7,8 @@ use borrow.Author.Tests.{eq-eqb, ne_eqb}
 use lib.IntN.{ℤ}
 use Rattle.automata.specs.Canonical.{canonical_of}
 use Rattle.canonical.specs.Writing.{form_refusal}
-use Rattle.search.specs.declared.verdict.Answer.TheVariants.{Refused}
-use Rattle.cache.specs.declared.lookup.Lookup.TheVariants as lookup
+use Rattle.std.specs.Prelude.{Err}
+use Rattle.automata.specs.Numbers.{named}
 use Rattle.cache.specs.Versions.{version1}
 use Rattle.cache.specs.Consulting.{look_up_as, consult_answer_as, consult_cache_as, consult_store_as}
 use Rattle.cache.specs.Drawn.{look_up_in, consult_answer, consult_cache, consult_store}
@@ -32,11 +32,11 @@ module _ (c b : List ℕ) (room : ℕ) where
     stores_form s = rw (consult_store, eq-eqb (form_refusal b room) 0 z) refl
 
   module _ (n : form_refusal b room ≡ 0 → ⊥) where
-    pub looks_refused : look_up_in c b room ≡ lookup.Refused (form_refusal b room)
+    pub looks_refused : look_up_in c b room ≡ Err (named (form_refusal b room))
     unfolding look_up_in
     looks_refused = rw (look_up_in, ne_eqb (form_refusal b room) 0 n) refl
 
-    pub answers_refused : (amount : ℕ) → consult_answer c b room amount ≡ Refused (form_refusal b room)
+    pub answers_refused : (amount : ℕ) → consult_answer c b room amount ≡ Err (named (form_refusal b room))
     unfolding consult_answer
     answers_refused amount = rw (consult_answer, ne_eqb (form_refusal b room) 0 n) refl
 

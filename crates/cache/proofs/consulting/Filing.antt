@@ -13,15 +13,14 @@ use Rattle.encoding.specs.Bytes.{same_bytes}
 use Rattle.encoding.proofs.Equality.{equal_same}
 use Rattle.automata.specs.Refusals.{refusal_of}
 use Rattle.automata.specs.Canonical.{is_canonical}
+use Rattle.std.specs.Prelude.{Some, None, Result, Ok, Err}
+use Rattle.automata.specs.declared.refusals.Refusal.{Refusal}
+use Rattle.automata.specs.declared.refusals.Refusal.TheVariants.{ErrorCountTooLarge, StoreFull}
 use Rattle.search.specs.declared.verdict.Answer.{Answer}
-use Rattle.search.specs.declared.verdict.Answer.TheVariants.{Found, Refused}
-use Rattle.search.specs.declared.verdict.Verdict.{Verdict}
 use Rattle.search.specs.Given.{Given}
-use Rattle.search.specs.Verdicts.{numbers_of}
 use Rattle.search.specs.Answers.{search_answer}
 use Rattle.search.proofs.answers.Given.{promised}
 use Rattle.cache.specs.declared.layout.Layout.{Layout}
-use Rattle.cache.specs.declared.lookup.Lookup.TheVariants as lookup
 use Rattle.cache.specs.Layouts.{header_length, longest}
 use Rattle.encoding.specs.Placing.{placed}
 use Rattle.cache.specs.Records.{measured, record_of}
@@ -38,29 +37,30 @@ use Rattle.cache.proofs.consulting.Asking.{empty-made, has_room}
 use Rattle.cache.proofs.consulting.Ways.{Asked, answered, Way, told, turned_down, stopped, filed, way}
 
 -- ---- refused: nothing is filed
-pub refused_unchanged : (L : Layout) (c b : List ℕ) (amount k : ℕ) → consult_answer_as L c b amount ≡ Refused k → consult_cache_as L c b amount ≡ c
+pub refused_unchanged : (L : Layout) (c b : List ℕ) (amount : ℕ) (k : Refusal) → consult_answer_as L c b amount ≡ Err k → consult_cache_as L c b amount ≡ c
 refused_unchanged L c b amount k = go (way L c b amount)
   where
-    go : {r : Answer} {c' : List ℕ} → Way L c b amount r c' → r ≡ Refused k → c' ≡ c
-    go (told v zones a f) e = refl
+    go : {r : Result Answer Refusal} {c' : List ℕ} → Way L c b amount r c' → r ≡ Err k → c' ≡ c
+    go (told a s f) e = refl
     go (turned_down k f) e = refl
-    go (stopped k a f) e = refl
-    go (filed v zones a f g) e = cc
+    go (stopped k s f) e = refl
+    go (filed a s f g) e = cc e
 
 -- and the store stands too, unless it is the search that gave up
-given_refused : (b : List ℕ) (k : ℕ) → Given b (Refused k) → refusal_of b ≡ 0 → (k ≡ 9 → ⊥) → (k ≡ 10 → ⊥) → ⊥
+given_refused : (b : List ℕ) (k : Refusal) → Given b (Err k) → refusal_of b ≡ 0 → (k ≡ ErrorCountTooLarge → ⊥) → (k ≡ StoreFull → ⊥) → ⊥
 unfolding Given
 given_refused b k g ok n9 n10 = ⊎_elim (λ h. absurd (omega (arith, h.0, h.1))) (λ h. ⊎_elim n9 n10 h.1) g
 
-pub refused_store : (L : Layout) (c b : List ℕ) (s : List ℤ) (k : ℕ) → refusal_of b ≡ 0 → consult_answer_as L c b (length s) ≡ Refused k
-    → (k ≡ 9 → ⊥) → (k ≡ 10 → ⊥) → consult_store_as L c b s ≡ s
+pub refused_store : (L : Layout) (c b : List ℕ) (s : List ℤ) (k : Refusal) → refusal_of b ≡ 0 → consult_answer_as L c b (length s) ≡ Err k
+    → (k ≡ ErrorCountTooLarge → ⊥) → (k ≡ StoreFull → ⊥) → consult_store_as L c b s ≡ s
 refused_store L c b s k ok = go (way L c b (length s))
   where
-    go : {r : Answer} {c' : List ℕ} → Way L c b (length s) r c' → r ≡ Refused k → (k ≡ 9 → ⊥) → (k ≡ 10 → ⊥) → consult_store_as L c b s ≡ s
-    go (told v zones a f) e n9 n10 = (f 0 s).2
+    go : {r : Result Answer Refusal} {c' : List ℕ} → Way L c b (length s) r c' → r ≡ Err k
+        → (k ≡ ErrorCountTooLarge → ⊥) → (k ≡ StoreFull → ⊥) → consult_store_as L c b s ≡ s
+    go (told a t f) e n9 n10 = (f 0 s).2
     go (turned_down j f) e n9 n10 = (f 0 s).2
-    go (stopped j a f) e n9 n10 = absurd (given_refused b k (rw (f ∙ e) at (promised b (length s)).given) ok n9 n10)
-    go (filed v zones a f g) e n9 n10 = cc
+    go (stopped j t f) e n9 n10 = absurd (given_refused b k (rw (f ∙ e) at (promised b (length s)).given) ok n9 n10)
+    go (filed a t f g) e n9 n10 = cc e
 
 -- ---- an empty cache
 module _ (L : Layout) (c : List ℕ) (h : header_length ≤ length c) where
@@ -78,19 +78,19 @@ module _ (L : Layout) (c : List ℕ) (h : header_length ≤ length c) where
   empty-sound = ap (sound_as L) empty_laid ∙ front_sound (empty_front L) rest (empty_fine L)
 
 -- ---- the record of a verdict that the search gave
-module _ (L : Layout) (c b : List ℕ) (amount : ℕ) (v : Verdict) (zones : ℕ)
-    (a : Asked L c b lookup.Absent) (f : full c (L.head + length b) ≡ false) (e : search_answer b amount ≡ Found v zones) where
+module _ (L : Layout) (c b : List ℕ) (amount : ℕ) (a : Answer)
+    (t : Asked L c b None) (f : full c (L.head + length b) ≡ false) (e : search_answer b amount ≡ Ok a) where
   abbrev new : List ℕ
-  new = record_of L (numbers_of v) zones b
+  new = record_of L a b
 
-  given : Given b (Found v zones)
+  given : Given b (Ok a)
   given = rw e at (promised b amount).given
 
   facts : Sound L c
-  facts = sound_facts L c a.sound
+  facts = sound_facts L c t.sound
 
   size : length new ≡ L.head + length b
-  size = written-length L (numbers_of v) zones b
+  size = written-length L a b
 
   room : Room c (length new)
   room = has_room c (length new) facts.least (ap (full c) size ∙ f)
@@ -99,90 +99,88 @@ module _ (L : Layout) (c b : List ℕ) (amount : ℕ) (v : Verdict) (zones : ℕ
   short = omega (arith, room.bytes, size)
 
   measured_all : measured L new ≡ length new
-  measured_all = written-measured L (numbers_of v) zones b (given_fits b v zones given short)
+  measured_all = written-measured L a b (given_fits b a given short)
 
   pub filed_records : records_of L (appended c new) ≡ records_of L c ++ (new ∷ [])
   filed_records = appended_records c new facts room measured_all (omega (arith, size, L.laid))
 
   pub filed-sound : is_canonical b ≡ true → sound_as L (appended c new) ≡ true
   filed-sound ok =
-      appended-sound c new facts room measured_all (omega (arith, size, L.laid)) (record_sound L b v zones given short ok)
-      (ap (λ (x : List ℕ). is_absent (look_up L (records_of L c) x)) (written_automaton L (numbers_of v) zones b) ∙ ap is_absent a.there)
+      appended-sound c new facts room measured_all (omega (arith, size, L.laid)) (record_sound L b a given short ok)
+      (ap (λ (x : List ℕ). is_absent (look_up L (records_of L c) x)) (written_automaton L a b) ∙ ap is_absent t.there)
 
   -- what is looked up there: what was there, else the new verdict of b
   pub filed_there : (x : List ℕ) → look_up L (records_of L (appended c new)) x
-      ≡ cond (is_absent (look_up L (records_of L c) x)) (cond (same_bytes b x) (lookup.Filed v zones) lookup.Absent) (look_up L (records_of L c) x)
+      ≡ cond (is_absent (look_up L (records_of L c) x)) (cond (same_bytes b x) (Some a) None) (look_up L (records_of L c) x)
   unfolding look_up
   filed_there x =
       let old = look_up L (records_of L c) x in
-      let own = written_automaton L (numbers_of v) zones b in
+      let own = written_automaton L a b in
       ap (λ (rs : List (List ℕ)). look_up L rs x) filed_records ∙ look_append L (records_of L c) new x
-      ∙ (λ i. cond (is_absent old) (cond (same_bytes (own i) x) (filed-back L b v zones given short i) lookup.Absent) old)
+      ∙ (λ i. cond (is_absent old) (cond (same_bytes (own i) x) (Some (filed-back L b a given short i)) None) old)
 
 pub sound_stays : (L : Layout) (c b : List ℕ) (amount : ℕ) → is_canonical b ≡ true → sound_as L c ≡ true
     → sound_as L (consult_cache_as L c b amount) ≡ true
 sound_stays L c b amount ok h = go (way L c b amount)
   where
-    go : {r : Answer} {c' : List ℕ} → Way L c b amount r c' → sound_as L c' ≡ true
-    go (told v zones a f) = h
+    go : {r : Result Answer Refusal} {c' : List ℕ} → Way L c b amount r c' → sound_as L c' ≡ true
+    go (told a s f) = h
     go (turned_down k f) = h
-    go (stopped k a f) = h
-    go (filed v zones a f e) = filed-sound L c b amount v zones a f e ok
+    go (stopped k s f) = h
+    go (filed a s f e) = filed-sound L c b amount a s f e ok
 
 -- ---- a record is written exactly where a verdict was reached that was not there
 module _ (L : Layout) (c b : List ℕ) (amount : ℕ) where
   -- the records that an answer to an automaton that is not there leaves
-  abbrev Left : Answer → List (List ℕ) → Type 0
-  Left (Found v zones) rs = rs ≡ records_of L c ++ (record_of L (numbers_of v) zones b ∷ [])
-  Left (Refused k) rs = rs ≡ records_of L c
+  abbrev Left : Result Answer Refusal → List (List ℕ) → Type 0
+  Left (Ok a) rs = rs ≡ records_of L c ++ (record_of L a b ∷ [])
+  Left (Err k) rs = rs ≡ records_of L c
 
-  left : look_up_as L c b ≡ lookup.Absent → {r : Answer} {c' : List ℕ} → Way L c b amount r c' → Left r (records_of L c')
-  left h (told v zones a f) =
-      let z : ◌≡◌ {A = ℕ} 0 1 = cc (answered L c b (lookup.Filed v zones) a) in
-      absurd (omega arith)
+  left : look_up_as L c b ≡ Ok None → {r : Result Answer Refusal} {c' : List ℕ} → Way L c b amount r c' → Left r (records_of L c')
+  left h (told a s f) = cc (answered L c b (Some a) s)
   left h (turned_down k f) = refl
-  left h (stopped k a f) = refl
-  left h (filed v zones a f e) = filed_records L c b amount v zones a f e
+  left h (stopped k s f) = refl
+  left h (filed a s f e) = filed_records L c b amount a s f e
 
-  pub files : (v : Verdict) (zones : ℕ) → look_up_as L c b ≡ lookup.Absent → consult_answer_as L c b amount ≡ Found v zones
-      → records_of L (consult_cache_as L c b amount) ≡ records_of L c ++ (record_of L (numbers_of v) zones b ∷ [])
-  files v zones h e = subst (λ (r : Answer). Left r (records_of L (consult_cache_as L c b amount))) e (left h (way L c b amount))
+  pub files : (a : Answer) → look_up_as L c b ≡ Ok None → consult_answer_as L c b amount ≡ Ok a
+      → records_of L (consult_cache_as L c b amount) ≡ records_of L c ++ (record_of L a b ∷ [])
+  files a h e = subst (λ (r : Result Answer Refusal). Left r (records_of L (consult_cache_as L c b amount))) e (left h (way L c b amount))
 
-  unmoved : (look_up_as L c b ≡ lookup.Absent → ⊥) → {r : Answer} {c' : List ℕ} → Way L c b amount r c' → c' ≡ c
-  unmoved n (told v zones a f) = refl
+  unmoved : (look_up_as L c b ≡ Ok None → ⊥) → {r : Result Answer Refusal} {c' : List ℕ} → Way L c b amount r c' → c' ≡ c
+  unmoved n (told a s f) = refl
   unmoved n (turned_down k f) = refl
-  unmoved n (stopped k a f) = refl
-  unmoved n (filed v zones a f e) = absurd (n (answered L c b lookup.Absent a))
+  unmoved n (stopped k s f) = refl
+  unmoved n (filed a s f e) = absurd (n (answered L c b None s))
 
-  pub files_nothing : (look_up_as L c b ≡ lookup.Absent → ⊥) → consult_cache_as L c b amount ≡ c
+  pub files_nothing : (look_up_as L c b ≡ Ok None → ⊥) → consult_cache_as L c b amount ≡ c
   files_nothing n = unmoved n (way L c b amount)
 
 -- ---- and it is given back
-abbrev Known : Layout → List ℕ → List ℕ → Answer → Type 0
-Known L c b (Found v zones) = Asked L c b (lookup.Filed v zones)
-Known L c b (Refused k) = Unit {0}
+abbrev Known : Layout → List ℕ → List ℕ → Result Answer Refusal → Type 0
+Known L c b (Ok a) = Asked L c b (Some a)
+Known L c b (Err k) = Unit {0}
 
-known_once : (L : Layout) (c b : List ℕ) (amount : ℕ) → is_canonical b ≡ true → {r : Answer} {c' : List ℕ} → Way L c b amount r c'
+known_once : (L : Layout) (c b : List ℕ) (amount : ℕ) → is_canonical b ≡ true → {r : Result Answer Refusal} {c' : List ℕ} → Way L c b amount r c'
     → Known L c' b r
-known_once L c b amount ok (told v zones a f) = a
+known_once L c b amount ok (told a s f) = s
 known_once L c b amount ok (turned_down k f) = tt
-known_once L c b amount ok (stopped k a f) = tt
-known_once L c b amount ok (filed v zones a f e) = record {
-  sound = filed-sound L c b amount v zones a f e ok;
-  there = filed_there L c b amount v zones a f e b ∙ rw (a.there, equal_same b);
+known_once L c b amount ok (stopped k s f) = tt
+known_once L c b amount ok (filed a s f e) = record {
+  sound = filed-sound L c b amount a s f e ok;
+  there = filed_there L c b amount a s f e b ∙ rw (s.there, equal_same b);
 }
 
-pub known_answer : (L : Layout) (c b : List ℕ) (amount : ℕ) → is_canonical b ≡ true → (v : Verdict) (zones : ℕ)
-    → consult_answer_as L c b amount ≡ Found v zones → Asked L (consult_cache_as L c b amount) b (lookup.Filed v zones)
-known_answer L c b amount ok v zones e =
+pub known_answer : (L : Layout) (c b : List ℕ) (amount : ℕ) → is_canonical b ≡ true → (a : Answer)
+    → consult_answer_as L c b amount ≡ Ok a → Asked L (consult_cache_as L c b amount) b (Some a)
+known_answer L c b amount ok a e =
     subst (Known L (consult_cache_as L c b amount) b) e (known_once L c b amount ok (way L c b amount))
 
-pub known_stays : (L : Layout) (c b x : List ℕ) (amount : ℕ) → is_canonical b ≡ true → (v : Verdict) (zones : ℕ)
-    → Asked L c x (lookup.Filed v zones) → {r : Answer} {c' : List ℕ} → Way L c b amount r c' → Asked L c' x (lookup.Filed v zones)
-known_stays L c b x amount ok v zones h (told u n a f) = h
-known_stays L c b x amount ok v zones h (turned_down k f) = h
-known_stays L c b x amount ok v zones h (stopped k a f) = h
-known_stays L c b x amount ok v zones h (filed u n a f e) = record {
-  sound = filed-sound L c b amount u n a f e ok;
-  there = filed_there L c b amount u n a f e x ∙ rw h.there;
+pub known_stays : (L : Layout) (c b x : List ℕ) (amount : ℕ) → is_canonical b ≡ true → (a : Answer)
+    → Asked L c x (Some a) → {r : Result Answer Refusal} {c' : List ℕ} → Way L c b amount r c' → Asked L c' x (Some a)
+known_stays L c b x amount ok a h (told u s f) = h
+known_stays L c b x amount ok a h (turned_down k f) = h
+known_stays L c b x amount ok a h (stopped k s f) = h
+known_stays L c b x amount ok a h (filed u s f e) = record {
+  sound = filed-sound L c b amount u s f e ok;
+  there = filed_there L c b amount u s f e x ∙ rw h.there;
 }

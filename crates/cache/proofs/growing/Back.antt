@@ -10,9 +10,8 @@ use Rattle.automata.specs.Canonical.{is_canonical, canonical_of}
 use Rattle.automata.proofs.canonical.Theorems.{form_laws}
 use Rattle.canonical.specs.Writing.{form_refusal}
 use Rattle.canonical.proofs.Answers.{Writing, written, refused, writing, form_free}
-use Rattle.search.specs.declared.verdict.Answer.TheVariants.{Found}
-use Rattle.search.specs.declared.verdict.Verdict.{Verdict}
-use Rattle.cache.specs.declared.lookup.Lookup.TheVariants as lookup
+use Rattle.std.specs.Prelude.{Some, Ok}
+use Rattle.search.specs.declared.verdict.Answer.{Answer}
 use Rattle.cache.specs.Versions.{version1}
 use Rattle.cache.specs.Caches.{sound}
 use Rattle.cache.specs.Consulting.{look_up_as}
@@ -41,32 +40,32 @@ grown_sound _ (consulted c b room amount g) = consult_sound c b room amount (gro
 grown_sound _ (lent_again c rest g) = lent-sound version1 c (grown_sound c g) rest
 
 -- ---- what is filed of a form stays, and is given back
-known_consulted : (c b x : List ℕ) (room amount : ℕ) (v : Verdict) (zones : ℕ) → Asked version1 c x (lookup.Filed v zones)
-    → Asked version1 (consult_cache c b room amount) x (lookup.Filed v zones)
-known_consulted c b x room amount v zones h = go (writing b room)
+known_consulted : (c b x : List ℕ) (room amount : ℕ) (a : Answer) → Asked version1 c x (Some a)
+    → Asked version1 (consult_cache c b room amount) x (Some a)
+known_consulted c b x room amount a h = go (writing b room)
   where
     Known : List ℕ → Type 0
-    Known y = Asked version1 y x (lookup.Filed v zones)
+    Known y = Asked version1 y x (Some a)
 
     go : Writing b room → Known (consult_cache c b room amount)
     go (written z) = subst Known (sym (leaves_form c b room z amount))
-        (known_stays version1 c (canonical_of b) x amount (form_ok b room z) v zones h (way version1 c (canonical_of b) amount))
+        (known_stays version1 c (canonical_of b) x amount (form_ok b room z) a h (way version1 c (canonical_of b) amount))
     go (refused n) = subst Known (sym (leaves-refused c b room n amount)) h
 
-known_later : (c x : List ℕ) (v : Verdict) (zones : ℕ) → Asked version1 c x (lookup.Filed v zones) → {c' : List ℕ} → Later c c'
-    → Asked version1 c' x (lookup.Filed v zones)
-known_later c x v zones h same = h
-known_later c x v zones h (after c' b room amount l) = known_consulted c' b x room amount v zones (known_later c x v zones h l)
-known_later c x v zones h (lent-later c' rest l) =
-    let k = known_later c x v zones h l in
+known_later : (c x : List ℕ) (a : Answer) → Asked version1 c x (Some a) → {c' : List ℕ} → Later c c'
+    → Asked version1 c' x (Some a)
+known_later c x a h same = h
+known_later c x a h (after c' b room amount l) = known_consulted c' b x room amount a (known_later c x a h l)
+known_later c x a h (lent-later c' rest l) =
+    let k = known_later c x a h l in
     record { sound = lent-sound version1 c' k.sound rest; there = rw (lent_records version1 c' k.sound rest) k.there }
 
 -- by every automaton of that form
-known_back : (c b : List ℕ) (v : Verdict) (zones : ℕ) → Asked version1 c (canonical_of b) (lookup.Filed v zones) → GivesBackAll c b v zones
-known_back c b v zones h x room z e =
-    let there : look_up_as version1 c (canonical_of x) ≡ lookup.Filed v zones =
-    ap (look_up_as version1 c) e ∙ answered version1 c (canonical_of b) (lookup.Filed v zones) h in
-    let stands = told_all version1 c (canonical_of x) v zones there in
+known_back : (c b : List ℕ) (a : Answer) → Asked version1 c (canonical_of b) (Some a) → GivesBackAll c b a
+known_back c b a h x room z e =
+    let there : look_up_as version1 c (canonical_of x) ≡ Ok (Some a) =
+    ap (look_up_as version1 c) e ∙ answered version1 c (canonical_of b) (Some a) h in
+    let stands = told_all version1 c (canonical_of x) a there in
     record {
       looked = looks_form c x room z ∙ there;
       answer = λ m. answers_form c x room z m ∙ (stands m []).0;
@@ -75,16 +74,16 @@ known_back c b v zones h x room z e =
     }
 
 -- an automaton that is answered with a verdict has its form filed
-known_found : (c b : List ℕ) (room amount : ℕ) (v : Verdict) (zones : ℕ) → consult_answer c b room amount ≡ Found v zones
-    → Asked version1 (consult_cache c b room amount) (canonical_of b) (lookup.Filed v zones)
-known_found c b room amount v zones e = go (writing b room)
+known_found : (c b : List ℕ) (room amount : ℕ) (a : Answer) → consult_answer c b room amount ≡ Ok a
+    → Asked version1 (consult_cache c b room amount) (canonical_of b) (Some a)
+known_found c b room amount a e = go (writing b room)
   where
-    go : Writing b room → Asked version1 (consult_cache c b room amount) (canonical_of b) (lookup.Filed v zones)
-    go (written z) = subst (λ (y : List ℕ). Asked version1 y (canonical_of b) (lookup.Filed v zones)) (sym (leaves_form c b room z amount))
-        (known_answer version1 c (canonical_of b) amount (form_ok b room z) v zones (sym (answers_form c b room z amount) ∙ e))
+    go : Writing b room → Asked version1 (consult_cache c b room amount) (canonical_of b) (Some a)
+    go (written z) = subst (λ (y : List ℕ). Asked version1 y (canonical_of b) (Some a)) (sym (leaves_form c b room z amount))
+        (known_answer version1 c (canonical_of b) amount (form_ok b room z) a (sym (answers_form c b room z amount) ∙ e))
     go (refused n) = let z : ◌≡◌ {A = ℕ} 0 1 = cc (sym (answers_refused c b room n amount) ∙ e) in absurd (omega arith)
 
-pub given_back : (c b : List ℕ) (room amount : ℕ) (v : Verdict) (zones : ℕ) → consult_answer c b room amount ≡ Found v zones
-    → (c' : List ℕ) → Later (consult_cache c b room amount) c' → GivesBackAll c' b v zones
-given_back c b room amount v zones e c' l =
-    known_back c' b v zones (known_later (consult_cache c b room amount) (canonical_of b) v zones (known_found c b room amount v zones e) l)
+pub given_back : (c b : List ℕ) (room amount : ℕ) (a : Answer) → consult_answer c b room amount ≡ Ok a
+    → (c' : List ℕ) → Later (consult_cache c b room amount) c' → GivesBackAll c' b a
+given_back c b room amount a e c' l =
+    known_back c' b a (known_later (consult_cache c b room amount) (canonical_of b) a (known_found c b room amount a e) l)

@@ -5,19 +5,16 @@ use Prim.Native.Nat.{ℕ}
 use mathlib.Core.Bool.{Bool, true, false, cond}
 use mathlib.Core.List.{List}
 use mathlib.Core.Path.{◌≡◌, refl, sym, subst}
-use native.Mathlib.Omega.{arith}
 use Rattle.encoding.specs.Bytes.{same_bytes}
 use Rattle.encoding.proofs.Equality.{same_equal}
 use Rattle.automata.specs.Canonical.{canonical_of}
 use Rattle.canonical.proofs.Answers.{Writing, written, refused, writing}
+use Rattle.std.specs.Prelude.{Option, Some, None, Result, Ok, Err}
+use Rattle.automata.specs.declared.refusals.Refusal.{Refusal}
 use Rattle.search.specs.declared.verdict.Answer.{Answer}
-use Rattle.search.specs.declared.verdict.Answer.TheVariants.{Found, Refused}
-use Rattle.search.specs.declared.verdict.Verdict.{Verdict}
 use Rattle.search.specs.Demands.{Robust}
 use Rattle.search.specs.Given.{Lasting}
 use Rattle.search.proofs.answers.Given.{lasting, promised}
-use Rattle.cache.specs.declared.lookup.Lookup.{Lookup}
-use Rattle.cache.specs.declared.lookup.Lookup.TheVariants as lookup
 use Rattle.cache.specs.Versions.{version1}
 use Rattle.cache.specs.Lookups.{look_up, is_absent}
 use Rattle.cache.specs.Caches.{records_of}
@@ -32,30 +29,28 @@ use Rattle.cache.proofs.growing.Back.{grown_sound}
 
 -- ---- what is filed is the search's
 -- of a verdict; nothing of the rest
-abbrev Kept : List ℕ → Lookup → Type 0
-Kept b (lookup.Filed v zones) = Robust b (Found v zones) × Lasting b (Found v zones)
-Kept b lookup.Absent = Unit {0}
-Kept b (lookup.Refused k) = Unit {0}
+abbrev Kept : List ℕ → Option Answer → Type 0
+Kept b (Some a) = Robust b (Ok a) × Lasting b (Ok a)
+Kept b None = Unit {0}
 
-either : (x : List ℕ) (t : Bool) (l k : Lookup) → Kept x l → Kept x k → Kept x (cond t l k)
+either : (x : List ℕ) (t : Bool) (l k : Option Answer) → Kept x l → Kept x k → Kept x (cond t l k)
 either x true l k h g = h
 either x false l k h g = g
 
-kept_under : (b x : List ℕ) (v : Verdict) (zones : ℕ) → Kept b (lookup.Filed v zones) → (t : Bool) → same_bytes b x ≡ t
-    → Kept x (cond t (lookup.Filed v zones) lookup.Absent)
-kept_under b x v zones h true e = subst (λ (y : List ℕ). Kept y (lookup.Filed v zones)) (same_equal b x e) h
-kept_under b x v zones h false e = tt
+kept_under : (b x : List ℕ) (a : Answer) → Kept b (Some a) → (t : Bool) → same_bytes b x ≡ t → Kept x (cond t (Some a) None)
+kept_under b x a h true e = subst (λ (y : List ℕ). Kept y (Some a)) (same_equal b x e) h
+kept_under b x a h false e = tt
 
-way_kept : (c b : List ℕ) (amount : ℕ) (x : List ℕ) → Kept x (look_up version1 (records_of version1 c) x) → {r : Answer} {c' : List ℕ}
+way_kept : (c b : List ℕ) (amount : ℕ) (x : List ℕ) → Kept x (look_up version1 (records_of version1 c) x) → {r : Result Answer Refusal} {c' : List ℕ}
     → Way version1 c b amount r c' → Kept x (look_up version1 (records_of version1 c') x)
-way_kept c b amount x h (told v zones a f) = h
+way_kept c b amount x h (told a s f) = h
 way_kept c b amount x h (turned_down k f) = h
-way_kept c b amount x h (stopped k a f) = h
-way_kept c b amount x h (filed v zones a f e) =
+way_kept c b amount x h (stopped k s f) = h
+way_kept c b amount x h (filed a s f e) =
     let p = promised b amount in
     let old = look_up version1 (records_of version1 c) x in
-    let new : Kept b (lookup.Filed v zones) = (subst (Robust b) e p.robust, subst (Lasting b) e (lasting b amount)) in
-    rw (filed_there version1 c b amount v zones a f e x) (either x (is_absent old) _ old (kept_under b x v zones new (same_bytes b x) refl) h)
+    let new : Kept b (Some a) = (subst (Robust b) e p.robust, subst (Lasting b) e (lasting b amount)) in
+    rw (filed_there version1 c b amount a s f e x) (either x (is_absent old) _ old (kept_under b x a new (same_bytes b x) refl) h)
 
 consult_kept : (c b : List ℕ) (room amount : ℕ) (x : List ℕ) → Kept x (look_up version1 (records_of version1 c) x)
     → Kept x (look_up version1 (records_of version1 (consult_cache c b room amount)) x)
@@ -75,37 +70,35 @@ grown_kept _ (emptied c h) x = rw (empty_records version1 c h) tt
 grown_kept _ (consulted c b room amount g) x = consult_kept c b room amount x (grown_kept c g x)
 grown_kept _ (lent_again c rest g) x = rw (lent_records version1 c (grown_sound c g) rest) (grown_kept c g x)
 
-pub grown_filed : (c b : List ℕ) (v : Verdict) (zones : ℕ) → Grown c → look_up version1 (records_of version1 c) b ≡ lookup.Filed v zones
-    → Robust b (Found v zones) × Lasting b (Found v zones)
-grown_filed c b v zones g e = subst (Kept b) e (grown_kept c g b)
+pub grown_filed : (c b : List ℕ) (a : Answer) → Grown c → look_up version1 (records_of version1 c) b ≡ Some a → Robust b (Ok a) × Lasting b (Ok a)
+grown_filed c b a g e = subst (Kept b) e (grown_kept c g b)
 
 -- ---- what consulting any cache promises of a form that is not filed
-pub absent_robust : (c b : List ℕ) (amount : ℕ) → look_up_as version1 c b ≡ lookup.Absent → {r : Answer} {c' : List ℕ}
+pub absent_robust : (c b : List ℕ) (amount : ℕ) → look_up_as version1 c b ≡ Ok None → {r : Result Answer Refusal} {c' : List ℕ}
     → Way version1 c b amount r c' → Robust b r
 unfolding Robust
-absent_robust c b amount h (told v zones a f) =
-    let z : ◌≡◌ {A = ℕ} 0 1 = cc (answered version1 c b (lookup.Filed v zones) a) in
-    absurd (omega arith)
+absent_robust c b amount h (told a s f) =
+    cc (answered version1 c b (Some a) s)
 absent_robust c b amount h (turned_down k f) = tt
-absent_robust c b amount h (stopped k a f) = tt
-absent_robust c b amount h (filed v zones a f e) = subst (Robust b) e (promised b amount).robust
+absent_robust c b amount h (stopped k s f) = tt
+absent_robust c b amount h (filed a s f e) = subst (Robust b) e (promised b amount).robust
 
 -- ---- what consulting a grown cache promises of a form
 module _ (c b : List ℕ) (amount : ℕ) (g : Grown c) where
-  pub way_robust : {r : Answer} {c' : List ℕ} → Way version1 c b amount r c' → Robust b r
+  pub way_robust : {r : Result Answer Refusal} {c' : List ℕ} → Way version1 c b amount r c' → Robust b r
   unfolding Robust
-  way_robust (told v zones a f) = (grown_filed c b v zones g a.there).0
+  way_robust (told a s f) = (grown_filed c b a g s.there).0
   way_robust (turned_down k f) = tt
-  way_robust (stopped k a f) = tt
-  way_robust (filed v zones a f e) = subst (Robust b) e (promised b amount).robust
+  way_robust (stopped k s f) = tt
+  way_robust (filed a s f e) = subst (Robust b) e (promised b amount).robust
 
   -- a refusal is not said to last: 12 is none of the search's
-  abbrev pub Lasts : Answer → Type 0
-  Lasts (Found v zones) = Lasting b (Found v zones)
-  Lasts (Refused k) = Unit {0}
+  abbrev pub Lasts : Result Answer Refusal → Type 0
+  Lasts (Ok a) = Lasting b (Ok a)
+  Lasts (Err k) = Unit {0}
 
-  pub way_lasting : {r : Answer} {c' : List ℕ} → Way version1 c b amount r c' → Lasts r
-  way_lasting (told v zones a f) = (grown_filed c b v zones g a.there).1
+  pub way_lasting : {r : Result Answer Refusal} {c' : List ℕ} → Way version1 c b amount r c' → Lasts r
+  way_lasting (told a s f) = (grown_filed c b a g s.there).1
   way_lasting (turned_down k f) = tt
-  way_lasting (stopped k a f) = tt
-  way_lasting (filed v zones a f e) = subst (Lasting b) e (lasting b amount)
+  way_lasting (stopped k s f) = tt
+  way_lasting (filed a s f e) = subst (Lasting b) e (lasting b amount)

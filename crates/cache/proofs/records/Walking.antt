@@ -12,7 +12,7 @@ use native.Mathlib.Omega.{arith}
 use Rattle.std.proofs.lemmas.Grind.{common_steps}
 use Rattle.encoding.specs.Bytes.{same_bytes}
 use Rattle.cache.specs.declared.layout.Layout.{Layout}
-use Rattle.cache.specs.declared.lookup.Lookup.TheVariants.{Absent}
+use Rattle.std.specs.Prelude.{Some, None}
 use Rattle.cache.specs.Records.{measured, sound_record, filed_as, record_automaton}
 use Rattle.cache.specs.Lookups.{look_up, neither_filed, both_new}
 use Rattle.cache.specs.Caches.{records_in, total, all_sound, sound_records, distinct}
@@ -52,7 +52,7 @@ module _ (L : Layout) (s : List ℕ) where
 
   module _ (h : 0 < measured L s) where
     pub look_turn : (b : List ℕ) → look_up L (records_in L s) b
-        ≡ cond (same_bytes (record_automaton L first) b) (filed_as L first) (look_up L (records_in L rest) b)
+        ≡ cond (same_bytes (record_automaton L first) b) (Some (filed_as L first)) (look_up L (records_in L rest) b)
     unfolding look_up
     look_turn b = rw (records_more L s h) refl
 
@@ -70,7 +70,7 @@ module _ (L : Layout) (s : List ℕ) where
 
   -- none there: nothing is filed, and s is sound where it is empty
   module _ (e : measured L s ≡ 0) where
-    pub look_end : (b : List ℕ) → look_up L (records_in L s) b ≡ Absent
+    pub look_end : (b : List ℕ) → look_up L (records_in L s) b ≡ None
     unfolding look_up
     look_end b = rw (records_none L s e) refl
 
