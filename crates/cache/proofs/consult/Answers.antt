@@ -1,6 +1,5 @@
 -- `consult` meets its contract: what comes of the form that was written, or the writer's refusal.
 use Prim.Native.Nat.{ℕ}
-use mathlib.Core.List.{List}
 use mathlib.Core.Path.{sym, ap, ◌∙◌}
 use lib.ListN.{length}
 use lib.Seq.{length-take-le}

@@ -1,7 +1,6 @@
 -- `look_up` meets its contract: what is said of the form that was written, or the writer's refusal.
-use Prim.Native.Nat.{ℕ, ◌≤◌}
+use Prim.Native.Nat.{ℕ}
 use mathlib.Core.Path.{sym, ap, ◌∙◌}
-use lib.ListN.{length}
 use lib.Seq.{length-take-le}
 use Rattle.std.specs.Prelude.{Err}
 use Rattle.std.proofs.lemmas.Result.{err_from_is_err_and}

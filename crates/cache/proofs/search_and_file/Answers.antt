@@ -11,11 +11,7 @@ pub returns-in_err-answer : goal.returns-in_err-answer
 unfolding full filing answer_in
 returns-in_err-answer c =
     let p = err_from_is_err_and c.from_residual.result c.from_residual.ensures.1 in
-    rw (p.1, p.2) (record {
-      answer = grind (arith, common_steps);
-      cache = grind (arith, common_steps);
-      store = grind (arith, common_steps);
-    })
+    rw (p.1, p.2) (grind (arith, common_steps))
 
 pub append-requires-clause-fits : goal.append-requires-clause-fits
 unfolding answer_in
@@ -24,8 +20,4 @@ append-requires-clause-fits c =
 
 pub returns : goal.returns
 unfolding full filing answer_in
-returns c = record {
-  answer = grind (arith, common_steps);
-  cache = grind (arith, common_steps);
-  store = grind (arith, common_steps);
-}
+returns c = grind (arith, common_steps)
