@@ -6,6 +6,8 @@ use mathlib.Core.List.{List, []}
 use mathlib.Core.Path.{◌≡◌, refl, ap}
 use lib.IntN.{ℤ}
 use lib.ListN.{length}
+use native.Mathlib.Omega.{arith}
+use Rattle.std.proofs.lemmas.Grind.{common_steps}
 use Rattle.std.specs.Prelude.{Option, Some, None, Result, Ok, Err}
 use Rattle.automata.specs.declared.refusals.Refusal.{Refusal}
 use Rattle.automata.specs.declared.refusals.Refusal.TheVariants.{UnsoundCache, CacheFull}
@@ -43,22 +45,21 @@ module _ (L : Layout) (c b : List ℕ) where
 
   pub told_all : (a : Answer) → look_up_as L c b ≡ Ok (Some a) → Stands (Ok a)
   unfolding consult_answer_as consult_cache_as consult_store_as searched answer_to
-  told_all a e amount s = (rw (consult_answer_as, e) refl, rw (consult_cache_as, searched, e) refl, rw (consult_store_as, searched, e) refl)
+  told_all a e amount s = grind (arith, common_steps)
 
   pub refused_all : (k : Refusal) → look_up_as L c b ≡ Err k → Stands (Err k)
   unfolding consult_answer_as consult_cache_as consult_store_as searched answer_to
-  refused_all k e amount s = (rw (consult_answer_as, e) refl, rw (consult_cache_as, searched, e) refl, rw (consult_store_as, searched, e) refl)
+  refused_all k e amount s = grind (arith, common_steps)
 
   module _ (e : look_up_as L c b ≡ Ok None) where
     full_all : full c (L.head + length b) ≡ true → Stands (Err CacheFull)
     unfolding consult_answer_as consult_cache_as consult_store_as searched answer_to
-    full_all f amount s =
-        (rw (consult_answer_as, e, f) refl, rw (consult_cache_as, searched, e, f) refl, rw (consult_store_as, searched, e, f) refl)
+    full_all f amount s = grind (arith, common_steps)
 
     searched_all : full c (L.head + length b) ≡ false → (amount : ℕ)
         → (consult_answer_as L c b amount ≡ search_answer b amount) × (consult_cache_as L c b amount ≡ filing L c b (search_answer b amount))
     unfolding consult_answer_as consult_cache_as searched answer_to
-    searched_all f amount = (rw (consult_answer_as, e, f) refl, rw (consult_cache_as, searched, e, f) refl)
+    searched_all f amount = grind (arith, common_steps)
 
 -- ---- the ways that a consulting goes, with its answer and the cache that it leaves
 pub data Way (L : Layout) (c b : List ℕ) (amount : ℕ) : Result Answer Refusal → List ℕ → Type 0 where
