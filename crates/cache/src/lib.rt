@@ -117,7 +117,7 @@ fn append(cache: &mut [u8], layout: Layout, answer: Answer, automaton: &[u8])
 }
 
 // The search of an automaton that is not in the sound cache: a verdict is filed, a refusal is not.
-#[tactic(auto, unfolding(crate::specs::Consulting::full, crate::specs::Consulting::filing))]
+#[tactic(auto, unfolding(crate::specs::Consulting::full, crate::specs::Consulting::filing, search::specs::Answers::answer_in))]
 fn search_and_file(
     cache: &mut [u8],
     layout: Layout,

@@ -17,7 +17,3 @@ pub append-requires-clause-fits : goal.append-requires-clause-fits
 unfolding answer_in
 append-requires-clause-fits c =
     given_fits _ _ (rw c.in_ok-answer.was at c.search.ensures.promised.given) (omega arith)
-
-pub returns : goal.returns
-unfolding full filing answer_in
-returns c = grind (arith, common_steps)
