@@ -51,23 +51,13 @@ fn open_as(cache: &[u8], layout: Layout) -> Option<Records<'_>>
         return None;
     }
     let used = be32(cache, 0) as usize;
-    if used < HEADER {
-        return None;
+    let bytes = cache.get(HEADER..used)?;
+    let records = Records { bytes, layout };
+    if cache[VERSION_AT] == layout.version && records.are_sound() && records.all_distinct() {
+        Some(records)
+    } else {
+        None
     }
-    if cache.len() < used {
-        return None;
-    }
-    if cache[VERSION_AT] != layout.version {
-        return None;
-    }
-    let records = Records {
-        bytes: &cache[HEADER..used],
-        layout,
-    };
-    if records.are_sound() && records.all_distinct() {
-        return Some(records);
-    }
-    None
 }
 
 fn open(cache: &[u8]) -> Option<Records<'_>>
@@ -129,10 +119,7 @@ fn search_and_file(
 {
     let used = be32(cache, 0) as usize;
     let length = layout.head + automaton.len();
-    if cache.len() - used < length {
-        return Err(Refusal::CacheFull);
-    }
-    if LONGEST - used < length {
+    if cache.len() - used < length || LONGEST - used < length {
         return Err(Refusal::CacheFull);
     }
     let answer = search(automaton, store)?.answer;

@@ -18,10 +18,7 @@ pub(crate) fn measure(bytes: &[u8], layout: Layout) -> Option<usize>
         return None;
     }
     let length = be32(bytes, 0) as usize;
-    if length < layout.head {
-        return None;
-    }
-    if bytes.len() < length {
+    if length < layout.head || bytes.len() < length {
         return None;
     }
     Some(length)
