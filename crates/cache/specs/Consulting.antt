@@ -10,7 +10,7 @@ use Rattle.cache.specs.declared.layout.Layout.{Layout}
 use Rattle.encoding.specs.Placing.{placed}
 use Rattle.cache.specs.Layouts.{header_length, longest}
 use Rattle.cache.specs.Versions.{version1}
-use Rattle.cache.specs.Records.{record_of}
+use Rattle.cache.specs.Records.{answer_record}
 use Rattle.cache.specs.Lookups.{look_up, is_absent}
 use Rattle.cache.specs.Caches.{used_of, records_of, sound_as}
 
@@ -48,7 +48,7 @@ unfoldable pub appended : List ℕ → List ℕ → List ℕ
 appended c r = placed 0 (be32 (used_of c + length r)) (placed (used_of c) r c)
 
 unfoldable pub filing : Layout → List ℕ → List ℕ → Result Answer Refusal → List ℕ
-filing L c b (Ok a) = appended c (record_of L a b)
+filing L c b (Ok a) = appended c (answer_record L a b)
 filing L c b (Err k) = c
 
 -- ---- consulting

@@ -41,15 +41,22 @@ filed_as L r = record { verdict = verdict_of (record_numbers L r); zones = recor
 unfoldable pub number_bytes : Numbers → List ℕ
 number_bytes x = x.kind ∷ (be32 x.n ++ be32 x.d)
 
-unfoldable pub record_of : Layout → Answer → List ℕ → List ℕ
-record_of L a b = be32 (L.head + length b) ++ (number_bytes (numbers_of a.verdict) ++ (be32 a.zones ++ b))
+unfoldable pub record_of : Layout → Numbers → ℕ → List ℕ → List ℕ
+record_of L x zones b = be32 (L.head + length b) ++ (number_bytes x ++ (be32 zones ++ b))
+
+-- the record of an answer
+abbrev pub answer_record : Layout → Answer → List ℕ → List ℕ
+answer_record L a b = record_of L (numbers_of a.verdict) a.zones b
 
 -- each number fits the bytes that it is given
 pub record NumbersFit (x : Numbers) : Type 0 where
   pub n_fits : x.n ≤ longest
   pub d_fits : x.d ≤ longest
 
-pub record Fits (L : Layout) (a : Answer) (b : List ℕ) : Type 0 where
+pub record Fits (L : Layout) (x : Numbers) (zones : ℕ) (b : List ℕ) : Type 0 where
   pub size_fits : L.head + length b ≤ longest
-  pub numbers_fit : NumbersFit (numbers_of a.verdict)
-  pub zones_fit : a.zones ≤ longest
+  pub numbers_fit : NumbersFit x
+  pub zones_fit : zones ≤ longest
+
+abbrev pub AnswerFits : Layout → Answer → List ℕ → Type 0
+AnswerFits L a b = Fits L (numbers_of a.verdict) a.zones b

@@ -9,7 +9,7 @@ ghost use Rattle.std.specs.Prelude.{◌≡◌, ◌+◌, ◌≤◌, false, length
 ghost use Rattle.canonical.specs.Writing.{form_buffer};
 ghost use Rattle.cache.specs.Layouts.{header_length};
 ghost use Rattle.cache.specs.Versions.{version1};
-ghost use Rattle.cache.specs.Records.{record_of, Fits};
+ghost use Rattle.cache.specs.Records.{answer_record, AnswerFits};
 ghost use Rattle.cache.specs.Caches.{used_of, sound_as, sound};
 ghost use Rattle.cache.specs.Walks.{Opened};
 ghost use Rattle.cache.specs.Consulting.{Room, Searches, appended, make_empty_reply, make_empty_cache};
@@ -26,7 +26,7 @@ use records::Records;
 use search::search;
 use search::verdict::Answer;
 
-// An empty cache: 0, or 12 if it has no room.
+// An empty cache, or 12 if it has no room.
 #[tactic(auto, unfolding(crate::specs::Consulting::make_empty_reply, crate::specs::Consulting::make_empty_as))]
 pub fn make_empty(cache: &mut [u8]) -> Result<(), Refusal>
     ensures value { result ≡ make_empty_reply cache.old }
@@ -106,8 +106,8 @@ pub fn look_up(cache: &[u8], automaton: &[u8], form: &mut [u8]) -> Result<Option
 // Cache and layout stay two parameters here: in a struct the cache would be a `&mut` field, which these contracts would follow to its end.
 fn append(cache: &mut [u8], layout: Layout, answer: Answer, automaton: &[u8])
     requires room { Room cache.old (layout.head + length automaton.now) }
-    requires fits { Fits layout answer automaton.now }
-    ensures { cache.new ≡ appended cache.old (record_of layout answer automaton.now) }
+    requires fits { AnswerFits layout answer automaton.now }
+    ensures { cache.new ≡ appended cache.old (answer_record layout answer automaton.now) }
 {
     let used = be32(cache, 0) as usize;
     let next = used + (layout.head + automaton.len());

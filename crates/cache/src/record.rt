@@ -2,7 +2,7 @@
 ghost use Rattle.std.specs.Prelude.{◌≡◌, ◌+◌, ◌≤◌, length, MatchOption};
 ghost use Rattle.encoding.specs.Placing.{placed};
 ghost use Rattle.cache.specs.Records.{record_numbers, record_automaton, measured, Begins, sound_record, filed_as};
-ghost use Rattle.cache.specs.Records.{number_bytes, record_of, NumbersFit, Fits};
+ghost use Rattle.cache.specs.Records.{number_bytes, answer_record, NumbersFit, AnswerFits};
 
 use crate::layout::Layout;
 use canonical::is_canonical;
@@ -86,8 +86,8 @@ fn write_numbers(free: &mut [u8], layout: Layout, x: Numbers)
 // The free part of a cache begins with a record: field after field, then the automaton.
 pub(crate) fn write(free: &mut [u8], layout: Layout, answer: Answer, automaton: &[u8])
     requires automaton_in_bounds { layout.head + length automaton.now ≤ length free.old }
-    requires fits { Fits layout answer automaton.now }
-    ensures { free.new ≡ placed 0 (record_of layout answer automaton.now) free.old }
+    requires fits { AnswerFits layout answer automaton.now }
+    ensures { free.new ≡ placed 0 (answer_record layout answer automaton.now) free.old }
 {
     let head = layout.head;
     put(free, 0, &bytes_of((head + automaton.len()) as u32));

@@ -19,11 +19,12 @@ use Rattle.automata.specs.declared.refusals.Refusal.TheVariants.{ErrorCountTooLa
 use Rattle.search.specs.declared.verdict.Answer.{Answer}
 use Rattle.search.specs.Given.{Given}
 use Rattle.search.specs.Answers.{search_answer}
+use Rattle.search.specs.Verdicts.{numbers_of}
 use Rattle.search.proofs.answers.Given.{promised}
 use Rattle.cache.specs.declared.layout.Layout.{Layout}
 use Rattle.cache.specs.Layouts.{header_length, longest}
 use Rattle.encoding.specs.Placing.{placed}
-use Rattle.cache.specs.Records.{measured, record_of}
+use Rattle.cache.specs.Records.{measured, answer_record}
 use Rattle.cache.specs.Lookups.{look_up, is_absent}
 use Rattle.cache.specs.Caches.{records_of, sound_as}
 use Rattle.cache.specs.Consulting.{empty_header, make_empty_as, look_up_as, full, Room, appended, consult_answer_as, consult_cache_as}
@@ -81,7 +82,7 @@ module _ (L : Layout) (c : List ℕ) (h : header_length ≤ length c) where
 module _ (L : Layout) (c b : List ℕ) (amount : ℕ) (a : Answer)
     (t : Asked L c b None) (f : full c (L.head + length b) ≡ false) (e : search_answer b amount ≡ Ok a) where
   abbrev new : List ℕ
-  new = record_of L a b
+  new = answer_record L a b
 
   given : Given b (Ok a)
   given = rw e at (promised b amount).given
@@ -90,7 +91,7 @@ module _ (L : Layout) (c b : List ℕ) (amount : ℕ) (a : Answer)
   facts = sound_facts L c t.sound
 
   size : length new ≡ L.head + length b
-  size = written-length L a b
+  size = written-length L (numbers_of a.verdict) a.zones b
 
   room : Room c (length new)
   room = has_room c (length new) facts.least (ap (full c) size ∙ f)
@@ -99,7 +100,7 @@ module _ (L : Layout) (c b : List ℕ) (amount : ℕ) (a : Answer)
   short = omega (arith, room.bytes, size)
 
   measured_all : measured L new ≡ length new
-  measured_all = written-measured L a b (given_fits b a given short)
+  measured_all = written-measured L (numbers_of a.verdict) a.zones b (given_fits b a given short)
 
   pub filed_records : records_of L (appended c new) ≡ records_of L c ++ (new ∷ [])
   filed_records = appended_records c new facts room measured_all (omega (arith, size, L.laid))
@@ -107,7 +108,7 @@ module _ (L : Layout) (c b : List ℕ) (amount : ℕ) (a : Answer)
   pub filed-sound : is_canonical b ≡ true → sound_as L (appended c new) ≡ true
   filed-sound ok =
       appended-sound c new facts room measured_all (omega (arith, size, L.laid)) (record_sound L b a given short ok)
-      (ap (λ (x : List ℕ). is_absent (look_up L (records_of L c) x)) (written_automaton L a b) ∙ ap is_absent t.there)
+      (ap (λ (x : List ℕ). is_absent (look_up L (records_of L c) x)) (written_automaton L (numbers_of a.verdict) a.zones b) ∙ ap is_absent t.there)
 
   -- what is looked up there: what was there, else the new verdict of b
   pub filed_there : (x : List ℕ) → look_up L (records_of L (appended c new)) x
@@ -115,7 +116,7 @@ module _ (L : Layout) (c b : List ℕ) (amount : ℕ) (a : Answer)
   unfolding look_up
   filed_there x =
       let old = look_up L (records_of L c) x in
-      let own = written_automaton L a b in
+      let own = written_automaton L (numbers_of a.verdict) a.zones b in
       ap (λ (rs : List (List ℕ)). look_up L rs x) filed_records ∙ look_append L (records_of L c) new x
       ∙ (λ i. cond (is_absent old) (cond (same_bytes (own i) x) (Some (filed-back L b a given short i)) None) old)
 
@@ -133,7 +134,7 @@ sound_stays L c b amount ok h = go (way L c b amount)
 module _ (L : Layout) (c b : List ℕ) (amount : ℕ) where
   -- the records that an answer to an automaton that is not there leaves
   abbrev Left : Result Answer Refusal → List (List ℕ) → Type 0
-  Left (Ok a) rs = rs ≡ records_of L c ++ (record_of L a b ∷ [])
+  Left (Ok a) rs = rs ≡ records_of L c ++ (answer_record L a b ∷ [])
   Left (Err k) rs = rs ≡ records_of L c
 
   left : look_up_as L c b ≡ Ok None → {r : Result Answer Refusal} {c' : List ℕ} → Way L c b amount r c' → Left r (records_of L c')
@@ -143,7 +144,7 @@ module _ (L : Layout) (c b : List ℕ) (amount : ℕ) where
   left h (filed a s f e) = filed_records L c b amount a s f e
 
   pub files : (a : Answer) → look_up_as L c b ≡ Ok None → consult_answer_as L c b amount ≡ Ok a
-      → records_of L (consult_cache_as L c b amount) ≡ records_of L c ++ (record_of L a b ∷ [])
+      → records_of L (consult_cache_as L c b amount) ≡ records_of L c ++ (answer_record L a b ∷ [])
   files a h e = subst (λ (r : Result Answer Refusal). Left r (records_of L (consult_cache_as L c b amount))) e (left h (way L c b amount))
 
   unmoved : (look_up_as L c b ≡ Ok None → ⊥) → {r : Result Answer Refusal} {c' : List ℕ} → Way L c b amount r c' → c' ≡ c

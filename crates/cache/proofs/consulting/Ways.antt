@@ -12,7 +12,7 @@ use Rattle.automata.specs.declared.refusals.Refusal.TheVariants.{UnsoundCache, C
 use Rattle.search.specs.declared.verdict.Answer.{Answer}
 use Rattle.search.specs.Answers.{search_answer}
 use Rattle.cache.specs.declared.layout.Layout.{Layout}
-use Rattle.cache.specs.Records.{record_of}
+use Rattle.cache.specs.Records.{answer_record}
 use Rattle.cache.specs.Lookups.{look_up}
 use Rattle.cache.specs.Caches.{records_of, sound_as}
 use Rattle.cache.specs.Consulting.{look_up_as, full, appended, filing, answer_to, consult_answer_as, searched, consult_cache_as}
@@ -66,7 +66,7 @@ pub data Way (L : Layout) (c b : List ℕ) (amount : ℕ) : Result Answer Refusa
   turned_down : (k : Refusal) → Stands L c b (Err k) → Way L c b amount (Err k) c
   stopped : (k : Refusal) → Asked L c b None → search_answer b amount ≡ Err k → Way L c b amount (Err k) c
   filed : (a : Answer) → Asked L c b None → full c (L.head + length b) ≡ false → search_answer b amount ≡ Ok a
-      → Way L c b amount (Ok a) (appended c (record_of L a b))
+      → Way L c b amount (Ok a) (appended c (answer_record L a b))
 
 module _ (L : Layout) (c b : List ℕ) (amount : ℕ) where
   abbrev Goes : Type 0
