@@ -1,6 +1,6 @@
 -- `write_over` meets its contract: all are written where nothing is left to write, or no room.
 use mathlib.Core.Path.{refl, ◌∙◌}
-use lib.ListN.{length, length-set}
+use lib.ListN.{length-set}
 use native.Mathlib.Numerals.{add-one}
 use native.Mathlib.Omega.{arith}
 use Rattle.exports.specs.Replies.{over}
