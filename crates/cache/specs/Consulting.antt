@@ -1,6 +1,7 @@
 -- "Consulting: .. 11; if the card's bytes are there, the filed verdict, nothing changed; 12; then the search, 9 and 10 included; a new
 -- record is written into the free tail of the lent shelf, the used length follows, other bytes stand." In any layout L, of a form b.
-use Rattle.std.specs.Prelude.{ℕ, ◌+◌, ◌≤◌, Bool, false, not, cond, ◌&&◌, ◌||◌, List, [], ◌∷◌, ◌++◌, ◌≡◌, ltb, ℤ, length, Option, Some, None, Result, Ok, Err}
+use Rattle.std.specs.Prelude.{ℕ, ◌+◌, ◌≤◌, Bool, false, not, cond, ◌&&◌, ◌||◌, List, [], ◌∷◌, ◌++◌, ◌≡◌, ltb, ℤ, length}
+use Rattle.std.specs.Prelude.{Option, Some, None, Result, Ok, Err}
 use Rattle.encoding.specs.Numbers.{be32}
 use Rattle.automata.specs.declared.refusals.Refusal.{Refusal}
 use Rattle.automata.specs.declared.refusals.Refusal.TheVariants.{UnsoundCache, CacheFull}

@@ -93,6 +93,7 @@ fn look_up_form(cache: &[u8], form: &[u8]) -> Result<Option<Answer>, Refusal>
 }
 
 // What a cache says of an automaton, whose form is written first. It only reads the cache.
+#[tactic(auto, using(crate::proofs::consulting::Meeting::form_within))]
 pub fn look_up(cache: &[u8], automaton: &[u8], form: &mut [u8]) -> Result<Option<Answer>, Refusal>
     ensures value { result ≡ look_up_in cache.now automaton.now (length form.old) }
     ensures form_after { form.new ≡ form_buffer automaton.now form.old }
@@ -116,7 +117,7 @@ fn append(cache: &mut [u8], layout: Layout, answer: Answer, automaton: &[u8])
 }
 
 // The search of an automaton that is not in the sound cache: a verdict is filed, a refusal is not.
-#[tactic(auto, unfolding(crate::specs::Consulting::full, crate::specs::Consulting::filing))]
+#[tactic(auto, unfolding(crate::specs::Consulting::full, crate::specs::Consulting::filing, search::specs::Answers::answer_in))]
 fn search_and_file(
     cache: &mut [u8],
     layout: Layout,

@@ -28,14 +28,7 @@ pub record Sound (L : Layout) (c : List ℕ) : Type 0 where
 module _ (L : Layout) (c : List ℕ) where
   pub sound_facts : sound_as L c ≡ true → Sound L c
   unfolding sound_as sound_header sound_records
-  sound_facts e =
-      record {
-        lent = grind (arith, common_steps);
-        least = grind (arith, common_steps);
-        most = grind (arith, common_steps);
-        version = grind (arith, common_steps);
-        fine = record { filled = grind (arith, common_steps); each = grind (arith, common_steps); once = grind (arith, common_steps) };
-      }
+  sound_facts e = grind (arith, common_steps)
 
   pub facts_sound : Sound L c → sound_as L c ≡ true
   unfolding sound_as sound_header sound_records

@@ -1,32 +1,61 @@
 -- `consult` meets its contract: what comes of the form that was written, or the writer's refusal.
-use mathlib.Core.Path.{sym}
+use Prim.Native.Nat.{ℕ}
+use mathlib.Core.Path.{sym, ap, ◌∙◌}
+use lib.ListN.{length}
 use lib.Seq.{length-take-le}
+use Rattle.std.specs.Prelude.{Err}
 use Rattle.std.proofs.lemmas.Result.{err_from_is_err_and}
-use Rattle.cache.proofs.consulting.Meeting.{form_within, consults_written, consults_turned_down}
-use Rattle.cache.proofs.growing.Carried.{all_promised}
+use Rattle.automata.specs.Numbers.{named}
+use Rattle.automata.proofs.accepting.Numbering.{named_number}
+use Rattle.cache.specs.Versions.{version1}
+use Rattle.cache.specs.Consulting.{consult_answer_as, consult_cache_as, consult_store_as}
+use Rattle.cache.specs.Drawn.{consult_answer, consult_cache, consult_store}
+use Rattle.cache.proofs.consulting.Meeting.{form_within, of_written, of_refused}
+use Rattle.cache.proofs.growing.Carried.{carried_by}
 use Rattle.cache.proofs.consult.Goals as goal
 
 pub returns-in_err-length : goal.returns-in_err-length
+unfolding consult_answer consult_cache consult_store
 returns-in_err-length c =
     let a = c.args in
     let w = c.write_canonical.ensures in
-    let q = err_from_is_err_and c.from_residual.result c.from_residual.ensures.1 in
-    let p = all_promised a.cache.now a.automaton.now _ a.store.now
-    (consults_turned_down a.automaton.now a.form.now w.value a.cache.now a.store.now _ c.in_err-length.was) w.form_after in
-    rw (q.1, q.2) (record { value = p.0; cache_after = p.1.0; form_after = p.1.1.0; store_after = p.1.1.1.0; carried = p.1.1.1.1 })
+    let p = err_from_is_err_and c.from_residual.result c.from_residual.ensures.1 in
+    let is = c.in_err-length.was in
+    let n = length a.store.now in
+    let answer = ap Err (sym (named_number _))
+    ∙ of_refused _ _ w.value (λ f. consult_answer_as version1 a.cache.now f n) (λ (k : ℕ). Err (named k)) is in
+    let cache = of_refused _ _ w.value (λ f. consult_cache_as version1 a.cache.now f n) (λ _. a.cache.now) is in
+    let store = of_refused _ _ w.value (λ f. consult_store_as version1 a.cache.now f a.store.now) (λ _. a.store.now) is in
+    rw (p.1, p.2) (record {
+      value = answer;
+      cache_after = cache;
+      form_after = w.form_after;
+      store_after = store;
+      carried = carried_by _ _ _ _ answer cache store;
+    })
 
 pub slice_bounds-consult_form-end-2 : goal.slice_bounds-consult_form-end-2
 slice_bounds-consult_form-end-2 c =
-    let a = c.args in
     let wrote = c.write_canonical in
-    sym (length-take-le _ _ (form_within a.automaton.now a.form.now wrote.ensures.value _ c.in_ok-length.was wrote.auto.form))
+    sym (length-take-le _ _ (form_within _ _ wrote.ensures.value c.in_ok-length.was wrote.auto.form))
 
 pub returns : goal.returns
+unfolding consult_answer consult_cache consult_store
 returns c =
     let a = c.args in
     let w = c.write_canonical.ensures in
     let m = c.consult_form.ensures in
-    let p = all_promised a.cache.now a.automaton.now _ a.store.now
-    (consults_written a.automaton.now a.form.now w.value a.cache.now a.store.now _ c.in_ok-length.was w.form_after
-    (m.value, (m.cache_after, m.store_after))) w.form_after in
-    record { value = p.0; cache_after = p.1.0; form_after = p.1.1.0; store_after = p.1.1.1.0; carried = p.1.1.1.1 }
+    let is = c.in_ok-length.was in
+    let n = length a.store.now in
+    let answer = m.value
+    ∙ of_written _ _ w.value (λ f. consult_answer_as version1 a.cache.now f n) (λ (k : ℕ). Err (named k)) is w.form_after in
+    let cache = m.cache_after ∙ of_written _ _ w.value (λ f. consult_cache_as version1 a.cache.now f n) (λ _. a.cache.now) is w.form_after in
+    let store = m.store_after
+    ∙ of_written _ _ w.value (λ f. consult_store_as version1 a.cache.now f a.store.now) (λ _. a.store.now) is w.form_after in
+    record {
+      value = answer;
+      cache_after = cache;
+      form_after = w.form_after;
+      store_after = store;
+      carried = carried_by _ _ _ _ answer cache store;
+    }

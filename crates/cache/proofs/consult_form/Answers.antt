@@ -10,11 +10,7 @@ pub returns-in_err-answer : goal.returns-in_err-answer
 unfolding answer_to consult_answer_as searched consult_cache_as consult_store_as
 returns-in_err-answer c =
     let p = err_from_is_err_and c.from_residual.result c.from_residual.ensures.1 in
-    rw (p.1, p.2) (record {
-      value = grind (arith, common_steps);
-      cache_after = grind (arith, common_steps);
-      store_after = grind (arith, common_steps);
-    })
+    rw (p.1, p.2) (grind (arith, common_steps))
 
 -- where the automaton is absent the cache is sound
 pub search_and_file-requires : goal.search_and_file-requires
@@ -23,16 +19,8 @@ search_and_file-requires c = grind (arith, common_steps)
 
 pub returns-in-Some : goal.returns-in-Some
 unfolding answer_to consult_answer_as searched consult_cache_as consult_store_as
-returns-in-Some c = record {
-  value = grind (arith, common_steps);
-  cache_after = grind (arith, common_steps);
-  store_after = grind (arith, common_steps);
-}
+returns-in-Some c = grind (arith, common_steps)
 
 pub returns-in-None : goal.returns-in-None
 unfolding answer_to consult_answer_as searched consult_cache_as consult_store_as
-returns-in-None c = record {
-  value = grind (arith, common_steps);
-  cache_after = grind (arith, common_steps);
-  store_after = grind (arith, common_steps);
-}
+returns-in-None c = grind (arith, common_steps)

@@ -22,4 +22,4 @@ empty-made L c h = rw (make_empty_as, le-ltb (length c) header_length h) refl
 -- ---- 12
 pub has_room : (c : List ℕ) (size : ℕ) → header_length ≤ used_of c → full c size ≡ false → Room c size
 unfolding full
-has_room c size h e = record { least = h; lent = grind (arith, common_steps); bytes = grind (arith, common_steps) }
+has_room c size h e = grind (arith, common_steps)

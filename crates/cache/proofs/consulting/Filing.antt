@@ -19,7 +19,6 @@ use Rattle.automata.specs.declared.refusals.Refusal.TheVariants.{ErrorCountTooLa
 use Rattle.search.specs.declared.verdict.Answer.{Answer}
 use Rattle.search.specs.Given.{Given}
 use Rattle.search.specs.Answers.{search_answer}
-use Rattle.search.specs.Verdicts.{numbers_of}
 use Rattle.search.proofs.answers.Given.{promised}
 use Rattle.cache.specs.declared.layout.Layout.{Layout}
 use Rattle.cache.specs.Layouts.{header_length, longest}
@@ -38,7 +37,8 @@ use Rattle.cache.proofs.consulting.Asking.{empty-made, has_room}
 use Rattle.cache.proofs.consulting.Ways.{Asked, answered, Way, told, turned_down, stopped, filed, way}
 
 -- ---- refused: nothing is filed
-pub refused_unchanged : (L : Layout) (c b : List ℕ) (amount : ℕ) (k : Refusal) → consult_answer_as L c b amount ≡ Err k → consult_cache_as L c b amount ≡ c
+pub refused_unchanged : (L : Layout) (c b : List ℕ) (amount : ℕ) (k : Refusal) → consult_answer_as L c b amount ≡ Err k
+    → consult_cache_as L c b amount ≡ c
 refused_unchanged L c b amount k = go (way L c b amount)
   where
     go : {r : Result Answer Refusal} {c' : List ℕ} → Way L c b amount r c' → r ≡ Err k → c' ≡ c
@@ -91,7 +91,7 @@ module _ (L : Layout) (c b : List ℕ) (amount : ℕ) (a : Answer)
   facts = sound_facts L c t.sound
 
   size : length new ≡ L.head + length b
-  size = written-length L (numbers_of a.verdict) a.zones b
+  size = written-length L _ _ b
 
   room : Room c (length new)
   room = has_room c (length new) facts.least (ap (full c) size ∙ f)
@@ -100,7 +100,7 @@ module _ (L : Layout) (c b : List ℕ) (amount : ℕ) (a : Answer)
   short = omega (arith, room.bytes, size)
 
   measured_all : measured L new ≡ length new
-  measured_all = written-measured L (numbers_of a.verdict) a.zones b (given_fits b a given short)
+  measured_all = written-measured L _ _ b (given_fits b a given short)
 
   pub filed_records : records_of L (appended c new) ≡ records_of L c ++ (new ∷ [])
   filed_records = appended_records c new facts room measured_all (omega (arith, size, L.laid))
@@ -108,7 +108,7 @@ module _ (L : Layout) (c b : List ℕ) (amount : ℕ) (a : Answer)
   pub filed-sound : is_canonical b ≡ true → sound_as L (appended c new) ≡ true
   filed-sound ok =
       appended-sound c new facts room measured_all (omega (arith, size, L.laid)) (record_sound L b a given short ok)
-      (ap (λ (x : List ℕ). is_absent (look_up L (records_of L c) x)) (written_automaton L (numbers_of a.verdict) a.zones b) ∙ ap is_absent t.there)
+      (ap (λ (x : List ℕ). is_absent (look_up L (records_of L c) x)) (written_automaton L _ _ b) ∙ ap is_absent t.there)
 
   -- what is looked up there: what was there, else the new verdict of b
   pub filed_there : (x : List ℕ) → look_up L (records_of L (appended c new)) x
@@ -116,7 +116,7 @@ module _ (L : Layout) (c b : List ℕ) (amount : ℕ) (a : Answer)
   unfolding look_up
   filed_there x =
       let old = look_up L (records_of L c) x in
-      let own = written_automaton L (numbers_of a.verdict) a.zones b in
+      let own = written_automaton L _ _ b in
       ap (λ (rs : List (List ℕ)). look_up L rs x) filed_records ∙ look_append L (records_of L c) new x
       ∙ (λ i. cond (is_absent old) (cond (same_bytes (own i) x) (Some (filed-back L b a given short i)) None) old)
 

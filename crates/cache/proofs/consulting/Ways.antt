@@ -1,14 +1,16 @@
 -- Consulting by its branches, in any layout: the definitions stay shut elsewhere.
 -- Assumes nothing.
 use Prim.Native.Nat.{ℕ, ◌+◌}
-use mathlib.Core.Bool.{Bool, true, false, cond}
+use mathlib.Core.Bool.{Bool, true, false}
 use mathlib.Core.List.{List, []}
-use mathlib.Core.Path.{◌≡◌, refl, ap}
+use mathlib.Core.Path.{◌≡◌, refl}
 use lib.IntN.{ℤ}
 use lib.ListN.{length}
+use native.Mathlib.Omega.{arith}
+use Rattle.std.proofs.lemmas.Grind.{common_steps}
 use Rattle.std.specs.Prelude.{Option, Some, None, Result, Ok, Err}
 use Rattle.automata.specs.declared.refusals.Refusal.{Refusal}
-use Rattle.automata.specs.declared.refusals.Refusal.TheVariants.{UnsoundCache, CacheFull}
+use Rattle.automata.specs.declared.refusals.Refusal.TheVariants.{CacheFull}
 use Rattle.search.specs.declared.verdict.Answer.{Answer}
 use Rattle.search.specs.Answers.{search_answer}
 use Rattle.cache.specs.declared.layout.Layout.{Layout}
@@ -26,15 +28,11 @@ pub record Asked (L : Layout) (c b : List ℕ) (l : Option Answer) : Type 0 wher
 module _ (L : Layout) (c b : List ℕ) where
   pub asked : (l : Option Answer) → look_up_as L c b ≡ Ok l → Asked L c b l
   unfolding look_up_as
-  asked l e = go (sound_as L c) refl e
-    where
-      go : (t : Bool) → sound_as L c ≡ t → ◌≡◌ {A = Result (Option Answer) Refusal} (cond t (Ok (look_up L (records_of L c) b)) (Err UnsoundCache)) (Ok l) → Asked L c b l
-      go true g h = record { sound = g; there = cc h }
-      go false g h = cc h
+  asked l e = grind (arith, common_steps)
 
   pub answered : (l : Option Answer) → Asked L c b l → look_up_as L c b ≡ Ok l
   unfolding look_up_as
-  answered l a = rw (look_up_as, a.sound) (ap Ok a.there)
+  answered l a = grind (arith, common_steps)
 
   -- ---- answer, cache and store, by what the lookup says
   -- nothing is searched for: the cache and the store stand
@@ -43,22 +41,21 @@ module _ (L : Layout) (c b : List ℕ) where
 
   pub told_all : (a : Answer) → look_up_as L c b ≡ Ok (Some a) → Stands (Ok a)
   unfolding consult_answer_as consult_cache_as consult_store_as searched answer_to
-  told_all a e amount s = (rw (consult_answer_as, e) refl, rw (consult_cache_as, searched, e) refl, rw (consult_store_as, searched, e) refl)
+  told_all a e amount s = grind (arith, common_steps)
 
   pub refused_all : (k : Refusal) → look_up_as L c b ≡ Err k → Stands (Err k)
   unfolding consult_answer_as consult_cache_as consult_store_as searched answer_to
-  refused_all k e amount s = (rw (consult_answer_as, e) refl, rw (consult_cache_as, searched, e) refl, rw (consult_store_as, searched, e) refl)
+  refused_all k e amount s = grind (arith, common_steps)
 
   module _ (e : look_up_as L c b ≡ Ok None) where
     full_all : full c (L.head + length b) ≡ true → Stands (Err CacheFull)
     unfolding consult_answer_as consult_cache_as consult_store_as searched answer_to
-    full_all f amount s =
-        (rw (consult_answer_as, e, f) refl, rw (consult_cache_as, searched, e, f) refl, rw (consult_store_as, searched, e, f) refl)
+    full_all f amount s = grind (arith, common_steps)
 
     searched_all : full c (L.head + length b) ≡ false → (amount : ℕ)
         → (consult_answer_as L c b amount ≡ search_answer b amount) × (consult_cache_as L c b amount ≡ filing L c b (search_answer b amount))
     unfolding consult_answer_as consult_cache_as searched answer_to
-    searched_all f amount = (rw (consult_answer_as, e, f) refl, rw (consult_cache_as, searched, e, f) refl)
+    searched_all f amount = grind (arith, common_steps)
 
 -- ---- the ways that a consulting goes, with its answer and the cache that it leaves
 pub data Way (L : Layout) (c b : List ℕ) (amount : ℕ) : Result Answer Refusal → List ℕ → Type 0 where

@@ -103,9 +103,6 @@ carried c b room s = record {
         (sym (answers_form c b room z (length s)) ∙ e) n9 n10
     go k e n9 n10 (refused n) = stores_refused c b room n s
 
--- ---- `consult`: its contract, from its three equations
-pub all_promised : (c b : List ℕ) (room : ℕ) (s : List ℤ) {r : Result Answer Refusal} {c' f f' : List ℕ} {s' : List ℤ}
-    → (r ≡ consult_answer c b room (length s)) × ((c' ≡ consult_cache c b room (length s)) × (s' ≡ consult_store c b room s)) → f ≡ f'
-    → (r ≡ consult_answer c b room (length s))
-    × ((c' ≡ consult_cache c b room (length s)) × ((f ≡ f') × ((s' ≡ consult_store c b room s) × Carried c b room s r c' s')))
-all_promised c b room s e g = (e.0, (e.1.0, (g, (e.1.1, rw (e.0, e.1.0, e.1.1) (carried c b room s)))))
+pub carried_by : (c b : List ℕ) (room : ℕ) (s : List ℤ) {r : Result Answer Refusal} {c' : List ℕ} {s' : List ℤ}
+    → r ≡ consult_answer c b room (length s) → c' ≡ consult_cache c b room (length s) → s' ≡ consult_store c b room s → Carried c b room s r c' s'
+carried_by c b room s answer cache store = rw (answer, cache, store) (carried c b room s)

@@ -19,7 +19,8 @@ use Rattle.search.specs.Verdicts.{numbers_of, verdict_of, sound_numbers}
 use Rattle.search.proofs.answers.Numbers.{numbers-back, numbers_are_sound, numbers-short}
 use Rattle.cache.specs.declared.layout.Layout.{Layout}
 use Rattle.cache.specs.Layouts.{longest}
-use Rattle.cache.specs.Records.{record_numbers, record_zones, record_automaton, measured, sound_record, filed_as, number_bytes, record_of, answer_record, Fits, AnswerFits}
+use Rattle.cache.specs.Records.{record_numbers, record_zones, record_automaton, measured, sound_record, filed_as, number_bytes, record_of}
+use Rattle.cache.specs.Records.{answer_record, Fits, AnswerFits}
 use Rattle.cache.proofs.layouts.Measured.{measured_field}
 
 -- ---- a number of four bytes
@@ -73,16 +74,22 @@ given_fits b a g h =
     record { size_fits = h; numbers_fit = record { n_fits = omega arith; d_fits = omega arith }; zones_fit = omega arith }
 
 module _ (L : Layout) (b : List ℕ) (a : Answer) (g : Given b (Ok a)) (short : L.head + length b ≤ longest) where
+  abbrev x : Numbers
+  x = numbers_of a.verdict
+
   fits : AnswerFits L a b
   fits = given_fits b a g short
 
-  numbers : record_numbers L (answer_record L a b) ≡ numbers_of a.verdict
-  numbers = written-numbers L (numbers_of a.verdict) a.zones b fits
+  numbers : record_numbers L (answer_record L a b) ≡ x
+  numbers = written-numbers L x a.zones b fits
 
   pub filed-back : filed_as L (answer_record L a b) ≡ a
-  filed-back = λ i. record { verdict = (ap verdict_of numbers ∙ numbers-back b a.verdict a.zones g) i; zones = written_zones L (numbers_of a.verdict) a.zones b fits i }
+  filed-back = λ i. record {
+    verdict = (ap verdict_of numbers ∙ numbers-back b a.verdict a.zones g) i;
+    zones = written_zones L x a.zones b fits i;
+  }
 
   pub record_sound : is_canonical b ≡ true → sound_record L (answer_record L a b) ≡ true
   unfolding sound_record
   record_sound ok =
-      (λ i. sound_numbers (numbers i) && is_canonical (written_automaton L (numbers_of a.verdict) a.zones b i)) ∙ rw (numbers_are_sound b a.verdict a.zones g, ok)
+      (λ i. sound_numbers (numbers i) && is_canonical (written_automaton L x a.zones b i)) ∙ rw (numbers_are_sound b a.verdict a.zones g, ok)

@@ -38,7 +38,7 @@ module _ (L : Layout) where
   absent_rest : (x : List ℕ) (rs : List (List ℕ)) (b : List ℕ) → is_absent (look_up L (x ∷ rs) b) ≡ true
       → (same_bytes (record_automaton L x) b ≡ false) × (is_absent (look_up L rs b) ≡ true)
   unfolding look_up
-  absent_rest x rs b h = (grind (arith, common_steps), grind (arith, common_steps))
+  absent_rest x rs b h = grind (arith, common_steps)
 
   absent_append : (rs : List (List ℕ)) (r b : List ℕ) → is_absent (look_up L rs b) ≡ true → same_bytes (record_automaton L r) b ≡ false
       → is_absent (look_up L (rs ++ (r ∷ [])) b) ≡ true
