@@ -79,7 +79,7 @@ fn tell(found: Result<Findings, Refusal>, answer: &mut [u64]) -> u32
             write_over(numbers(x), answer);
             0
         }
-        Err(k) => k.number(),
+        Err(refusal) => refusal.number(),
     }
 }
 
