@@ -1,9 +1,11 @@
 -- Numbers written over what was there, one by one.
 -- Assumes nothing.
-use Prim.Native.Nat.{ℕ, zero, suc, ◌<◌, ◌≤◌}
+use Prim.Native.Nat.{ℕ, zero, suc, min, ◌<◌, ◌≤◌}
 use mathlib.Core.List.{List, [], ◌∷◌}
 use mathlib.Core.Path.{◌≡◌, refl, ap}
 use lib.ListN.{length, take, get_or, set}
+use lib.Seq.{take_all}
+use native.Mathlib.Decide.{dec_le}
 use native.Mathlib.Omega.{arith}
 use Rattle.exports.specs.Replies.{over}
 
@@ -24,3 +26,11 @@ over-full (x ∷ xs) [] zero h = refl
 over-full (x ∷ xs) [] (suc i) h = refl
 over-full (x ∷ xs) (y ∷ ys) zero h = absurd (omega arith)
 over-full (x ∷ xs) (y ∷ ys) (suc i) h = ap (λ (l : List ℕ). x ∷ l) (over-full xs ys i (omega arith))
+
+-- so once i is the less of the two lengths
+pub over_all : (xs old : List ℕ) (i : ℕ) → min (length old) (length xs) ≤ i → over (take i xs) old ≡ over xs old
+over_all xs old i h = go (dec_le (length old) i)
+  where
+    go : Dec (length old ≤ i) → over (take i xs) old ≡ over xs old
+    go (yes g) = over-full xs old i g
+    go (no g) = ap (λ (l : List ℕ). over l old) (take_all i xs (omega arith))

@@ -9,7 +9,7 @@ ghost use Rattle.cache.specs.Consulting.{make_empty_reply, make_empty_cache};
 ghost use Rattle.cache.specs.Drawn.{look_up_in, consult_answer, consult_cache, consult_store};
 ghost use Rattle.canonical.specs.Writing.{form_answer, form_buffer};
 ghost use Rattle.automata.specs.Numbers.{number_in};
-ghost use Rattle.exports.specs.Replies.{number_ins, filed, over, told, findings_told, number_told, filed_told, lookup_told, passes_told};
+ghost use Rattle.exports.specs.Replies.{findings_numbers, filed, over, told, findings_told, number_told, filed_told, lookup_told, passes_told};
 ghost use Rattle.exports.specs.Replies.{sound_number};
 ghost use Rattle.run_judge.specs.Judging.{judgement_of};
 ghost use Rattle.run_judge.specs.Passing.{Passes};
@@ -42,8 +42,9 @@ fn filed(answer: Answer) -> Findings
 }
 
 // What is told of findings: kind, n, d, zones, exact n, exact d, again and inside.
+#[tactic(auto, unfolding(crate::specs::Replies::findings_numbers))]
 fn numbers(found: Findings) -> [u64; 8]
-    ensures { result ≡ number_ins found }
+    ensures { result ≡ findings_numbers found }
 {
     let x = Numbers::from(found.answer.verdict);
     [
@@ -68,6 +69,7 @@ fn write_over(numbers: [u64; 8], answer: &mut [u64])
 }
 
 // What is found: 0 with its numbers, or the refusal's number alone.
+#[tactic(auto, unfolding(crate::specs::Replies::findings_told))]
 fn tell(found: Result<Findings, Refusal>, answer: &mut [u64]) -> u32
     ensures value { result ≡ number_in found }
     ensures answer_after { answer.new ≡ findings_told found answer.old }
@@ -77,11 +79,12 @@ fn tell(found: Result<Findings, Refusal>, answer: &mut [u64]) -> u32
             write_over(numbers(x), answer);
             0
         }
-        Err(k) => k.number(),
+        Err(refusal) => refusal.number(),
     }
 }
 
 // A number: 0 with it, or the refusal's number alone.
+#[tactic(auto, unfolding(crate::specs::Replies::number_told))]
 fn tell_number(reply: Result<u64, Refusal>, to: &mut u64) -> u32
     ensures value { result ≡ number_in reply }
     ensures to_after { to.new ≡ number_told reply to.old }
@@ -96,7 +99,12 @@ fn tell_number(reply: Result<u64, Refusal>, to: &mut u64) -> u32
 }
 
 // A lookup: 0 with whether the automaton is filed, and then its numbers, or the refusal's number alone.
-fn tell_lookup(found: Result<Option<Answer>, Refusal>, is_filed: &mut u64, answer: &mut [u64]) -> u32
+#[tactic(auto, unfolding(crate::specs::Replies::filed_told, crate::specs::Replies::lookup_told))]
+fn tell_lookup(
+    found: Result<Option<Answer>, Refusal>,
+    is_filed: &mut u64,
+    answer: &mut [u64],
+) -> u32
     ensures value { result ≡ number_in found }
     ensures filed_after { is_filed.new ≡ filed_told found is_filed.old }
     ensures answer_after { answer.new ≡ lookup_told found answer.old }
@@ -167,6 +175,7 @@ pub extern "C" fn robustness_write_run(
 }
 
 // Whether the buffer begins with a run of the automaton that ends at the target, told.
+#[tactic(auto, unfolding(crate::specs::Replies::number_told, crate::specs::Replies::passes_told))]
 #[unsafe(no_mangle)]
 pub extern "C" fn robustness_judge(automaton: &[u8], run: &[i64], passes: &mut u64) -> u32
     ensures value { result ≡ number_in (judgement_of automaton.now run.now) }
@@ -189,6 +198,7 @@ pub extern "C" fn robustness_make_empty(cache: &mut [u8]) -> u32
 }
 
 // 0 for a sound cache, else 11.
+#[tactic(auto, unfolding(crate::specs::Replies::sound_number))]
 #[unsafe(no_mangle)]
 pub extern "C" fn robustness_sound(cache: &[u8]) -> u32
     ensures { result ≡ sound_number (sound cache.now) }
@@ -220,6 +230,7 @@ pub extern "C" fn robustness_look_up(
 }
 
 // The filed verdict, or that of the search, which is filed; told. The form is written first.
+#[tactic(auto, unfolding(crate::specs::Replies::told, crate::specs::Replies::findings_told))]
 #[unsafe(no_mangle)]
 pub extern "C" fn robustness_consult(
     cache: &mut [u8],

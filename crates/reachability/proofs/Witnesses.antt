@@ -6,7 +6,7 @@ use lib.ListN.{length, length-append}
 use native.Mathlib.Omega.{arith}
 use Rattle.runs.specs.Runs.{System, Step, wait, jump, jumps, Stand, first, after, last, Steps}
 use Rattle.runs.specs.Written.{ByTurns, alone, then}
-use Rattle.reachability.specs.Search.{zone, Zones, Came, first_zone, by_edge, Node, reached, ended, search}
+use Rattle.reachability.specs.Search.{Zones, Came, first_zone, by_edge, Node, reached, ended, search}
 use Rattle.reachability.specs.Meaning.{Meaning}
 use Rattle.reachability.specs.Laws.{Laws}
 use Rattle.reachability.specs.Branches.{Branch, Branches, Arrived, Starts, Jumps, path_of}

@@ -18,18 +18,22 @@ use Rattle.canonical.specs.Comparing.{less_from}
 
 -- ---- byte by byte
 module _ (s t : List ℕ) (k : ℕ) (p : k < length s) (q : k < length t) where
-  rest-less : get_or s k 0 < get_or t k 0 → less_from s t k ≡ true
+  pub rest-less : get_or s k 0 < get_or t k 0 → less_from s t k ≡ true
   rest-less l = rw (drop-cons s k 0, drop-cons t k 0) (head-less _ _ _ _ l)
 
-  rest_more : get_or t k 0 < get_or s k 0 → less_from s t k ≡ false
+  pub rest_more : get_or t k 0 < get_or s k 0 → less_from s t k ≡ false
   rest_more l = rw (drop-cons s k 0, drop-cons t k 0) (head_more _ _ _ _ l)
 
-  rest_next : get_or s k 0 ≡ get_or t k 0 → less_from s t k ≡ less_from s t (k + 1)
+  pub rest_next : get_or s k 0 ≡ get_or t k 0 → less_from s t k ≡ less_from s t (k + 1)
   rest_next l = rw (add-one k, drop-cons s k 0, drop-cons t k 0) (head_same _ _ _ _ l)
+
+pub rest_none : (s t : List ℕ) (k : ℕ) → length s ≤ k → length t ≤ k → less_from s t k ≡ false
+unfolding bytes_less
+rest_none s t k p q = rw (drop_all k s p, drop_all k t q) refl
 
 -- ---- several bytes as one number
 -- the first bytes that are left, read as x and y, decide, or leave it to those from k + n on
-pub data Decided (s t : List ℕ) (k n x y : ℕ) : Type 0 where
+data Decided (s t : List ℕ) (k n x y : ℕ) : Type 0 where
   lower : less_from s t k ≡ true → x < y → Decided s t k n x y
   higher : less_from s t k ≡ false → y < x → Decided s t k n x y
   alike : less_from s t k ≡ less_from s t (k + n) → x ≡ y → Decided s t k n x y
@@ -51,7 +55,7 @@ small s v = omega arith
 
 module _ (s t : List ℕ) where
   -- one byte, two and four
-  pub one : (k : ℕ) → k < length s → k < length t → Decided s t k 1 (get_or s k 0) (get_or t k 0)
+  one : (k : ℕ) → k < length s → k < length t → Decided s t k 1 (get_or s k 0) (get_or t k 0)
   one k p q = go (numbers (get_or s k 0) (get_or t k 0))
     where
       go : Numbers (get_or s k 0) (get_or t k 0) → Decided s t k 1 (get_or s k 0) (get_or t k 0)
@@ -64,30 +68,37 @@ module _ (s t : List ℕ) where
   two k p q v w =
       joins s t k 1 1 256 v.second w.second (one k (omega arith) (omega arith)) (one (k + 1) (omega arith) (omega arith))
 
-  pub four : (k : ℕ) → k + 4 ≤ length s → k + 4 ≤ length t → Four s k → Four t k → Decided s t k 4 (be32_at s k) (be32_at t k)
+  four : (k : ℕ) → k + 4 ≤ length s → k + 4 ≤ length t → Four s k → Four t k → Decided s t k 4 (be32_at s k) (be32_at t k)
   unfolding be32_at
   four k p q v w =
       joins s t k 2 2 65536 (small s v.back) (small t w.back) (two k (omega arith) (omega arith) v.front w.front)
       (two (k + 2) (omega arith) (omega arith) v.back w.back)
 
--- ---- by the code's numbers, of four bytes or one
-module _ {s t : List ℕ} {k n x y : ℕ} where
-  pub less_so : Decided s t k n x y → x < y → true ≡ less_from s t k
-  less_so (lower r l) m = sym r
-  less_so (higher r l) m = absurd (omega arith)
-  less_so (alike r l) m = absurd (omega arith)
+  -- ---- by the code's words
+  module _ (k : ℕ) (p : k + 4 ≤ length s) (q : k + 4 ≤ length t) {x y : ℕ} (e : (x ≡ be32_at s k) × Four s k) (f : (y ≡ be32_at t k) × Four t k) where
+    words : Decided s t k 4 x y
+    words = rw (e.0, f.0) (four k p q e.1 f.1)
 
-  pub more_so : Decided s t k n x y → y < x → false ≡ less_from s t k
-  more_so (lower r l) m = absurd (omega arith)
-  more_so (higher r l) m = sym r
-  more_so (alike r l) m = absurd (omega arith)
+    pub words_less : x < y → true ≡ less_from s t k
+    words_less m = go words
+      where
+        go : Decided s t k 4 x y → true ≡ less_from s t k
+        go (lower r l) = sym r
+        go (higher r l) = absurd (omega arith)
+        go (alike r l) = absurd (omega arith)
 
-  pub agree : Decided s t k n x y → x ≡ y → less_from s t (k + n) ≡ less_from s t k
-  agree (lower r l) m = absurd (omega arith)
-  agree (higher r l) m = absurd (omega arith)
-  agree (alike r l) m = sym r
+    pub words_more : y < x → false ≡ less_from s t k
+    words_more m = go words
+      where
+        go : Decided s t k 4 x y → false ≡ less_from s t k
+        go (lower r l) = absurd (omega arith)
+        go (higher r l) = sym r
+        go (alike r l) = absurd (omega arith)
 
--- ---- none is left
-pub none_left : (s t : List ℕ) (k : ℕ) → length s ≤ k → length t ≤ k → less_from s t k ≡ false
-unfolding bytes_less
-none_left s t k p q = rw (drop_all k s p, drop_all k t q) refl
+    pub words_same : x ≡ y → less_from s t (k + 4) ≡ less_from s t k
+    words_same m = go words
+      where
+        go : Decided s t k 4 x y → less_from s t (k + 4) ≡ less_from s t k
+        go (lower r l) = absurd (omega arith)
+        go (higher r l) = absurd (omega arith)
+        go (alike r l) = sym r

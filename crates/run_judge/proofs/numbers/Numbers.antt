@@ -27,6 +27,11 @@ use Rattle.runs.specs.Limits.{scale}
 use Rattle.runs.proofs.Contradictions.{true_false}
 use Rattle.run_judge.specs.Numbers.{capped, count_of, announced, Announced}
 
+-- a natural as a count, where there are k numbers
+abbrev pub up_to : ℕ → Option ℕ → ℕ
+up_to k None = 0
+up_to k (Some n) = cond (ltb k n) 0 n
+
 -- ---- z as the code holds it, and the natural r that is made of it, if it is one
 module _ {z : ℤ} (h : SFits w64 z) where
   abbrev held : ℤ
@@ -48,26 +53,16 @@ module _ {z : ℤ} (h : SFits w64 z) where
       go (negsuc x) s (Ok x') g m = absurd g.0
       go (negsuc x) s (Err e) g m = m
 
-  -- the count that z is, if it is none, and if it is n
-  module _ {E : Type 0} (k : ℕ) where
-    pub count_none : (r : Result ℕ E) → OkIff r (FitsUnsignedBits 64 held) (nat_abs held) → None ≡ result_ok r → count_of z k ≡ 0
-    unfolding count_of
-    count_none r g f = let is : held ≡ z = to_z-of_z h in go z h r (rw is at g) f
-      where
-        go : (y : ℤ) → SFits w64 y → (r : Result ℕ E) → OkIff r (FitsUnsignedBits 64 y) (nat_abs y) → None ≡ result_ok r → count_of y k ≡ 0
-        go y s (Ok x) g f = true_false (sym (ap is_some f))
-        go (pos x) s (Err e) g f = absurd (g (omega (arith, s.sfits)))
-        go (negsuc x) s (Err e) g f = refl
-
-    pub count_some : (r : Result ℕ E) {n : ℕ} → OkIff r (FitsUnsignedBits 64 held) (nat_abs held) → Some n ≡ result_ok r →
-        count_of z k ≡ cond (ltb k n) 0 n
-    unfolding count_of
-    count_some r {n} g f = let is : held ≡ z = to_z-of_z h in go z r (rw is at g) f
-      where
-        go : (y : ℤ) (r : Result ℕ E) → OkIff r (FitsUnsignedBits 64 y) (nat_abs y) → Some n ≡ result_ok r → count_of y k ≡ cond (ltb k n) 0 n
-        go y (Err e) g f = true_false (ap is_some f)
-        go (pos x) (Ok x') g f = let e : x ≡ n = sym g.1 ∙ sym (ap (λ o. unwrap_or o x) f) in ap (λ (n : ℕ). cond (ltb k n) 0 n) e
-        go (negsuc x) (Ok x') g f = absurd g.0
+  pub count_is : {E : Type 0} (k : ℕ) (r : Result ℕ E) {o : Option ℕ} → OkIff r (FitsUnsignedBits 64 held) (nat_abs held) → o ≡ result_ok r →
+      count_of z k ≡ up_to k o
+  unfolding count_of
+  count_is k r g f = let is : held ≡ z = to_z-of_z h in rw f (go z h r (rw is at g))
+    where
+      go : {E : Type 0} (y : ℤ) → SFits w64 y → (r : Result ℕ E) → OkIff r (FitsUnsignedBits 64 y) (nat_abs y) → count_of y k ≡ up_to k (result_ok r)
+      go (pos x) s (Ok x') g = sym (ap (λ (n : ℕ). cond (ltb k n) 0 n) g.1)
+      go (pos x) s (Err e) g = absurd (g (omega (arith, s.sfits)))
+      go (negsuc x) s (Ok x') g = absurd g.0
+      go (negsuc x) s (Err e) g = refl
 
 -- ---- the count of a buffer
 module _ (r : List ℤ) where
@@ -87,7 +82,7 @@ module _ (r : List ℤ) where
       go (x ∷ xs) e = ap (λ (o : Option ℤ). count_of (unwrap_or o x) (length (x ∷ xs))) (sym e)
 
   -- the part from 1 to n, where it is one
-  pub announced_part : {n : ℕ} → announced r ≡ cond (ltb (length r) n) 0 n → (o : Option (Bor (List ℤ))) → IsGetRangeResult r 1 n o →
+  pub announced_part : {n : ℕ} → announced r ≡ up_to (length r) (Some n) → (o : Option (Bor (List ℤ))) → IsGetRangeResult r 1 n o →
       MatchOption o (announced r ≡ 0) (λ zs. Announced r zs.now)
   announced_part {n} e None g = e ∙ ⊎_elim (low (ltb (length r) n)) high g.0
     where
@@ -104,15 +99,6 @@ module _ (r : List ℤ) where
       record { some = rw f g.0.0; numbers = rw f (g.0.2 ∙ s) }
 
 -- ---- of any number
-pub capped_top : (z : ℤ) → capped z ≤ 1000001
-unfolding capped
-capped_top (pos n) = go (ltb scale n) refl
-  where
-    go : (t : Bool) → ltb scale n ≡ t → cond t 1000001 n ≤ 1000001
-    go true e = omega arith
-    go false e = omega (arith, ltb-false scale n e)
-capped_top (negsuc n) = omega arith
-
 -- one that is not capped is itself
 pub capped_fits : (z : ℤ) → capped z ≤ scale → z ≡ pos (capped z)
 unfolding capped
@@ -126,15 +112,6 @@ capped_fits (negsuc n) h = absurd (omega arith)
 pub capped_same : (n : ℕ) → n ≤ scale → capped (pos n) ≡ n
 unfolding capped
 capped_same n h = rw (le-ltb scale n h)
-
-pub count_top : (z : ℤ) (k : ℕ) → count_of z k ≤ k
-unfolding count_of
-count_top (pos n) k = go (ltb k n) refl
-  where
-    go : (t : Bool) → ltb k n ≡ t → cond t 0 n ≤ k
-    go true e = omega arith
-    go false e = omega (arith, ltb-false k n e)
-count_top (negsuc n) k = omega arith
 
 pub count_same : (n k : ℕ) → n ≤ k → count_of (pos n) k ≡ n
 unfolding count_of

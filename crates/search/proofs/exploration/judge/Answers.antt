@@ -24,7 +24,7 @@ module _ (c : In-Some) where
   slot_inside : c.in-Some.j * c.slot_length-stride.result + slot_length (c.args.automaton.now.clocks + 1) ≤ length c.args.store.now
   slot_inside =
       slot_within (enters c.args.automaton.now c.args.origin c.requires.accepted c.requires.going c.requires.sized)
-          c.slot_length-stride.ensures c.in-Some.ensures.0
+      c.slot_length-stride.ensures c.in-Some.ensures.0
 
   place≡ : c.in-Some.j * c.slot_length-stride.result ≡ c.in-Some.j * slot_length (c.args.automaton.now.clocks + 1)
   place≡ = ap (λ (x : ℕ). c.in-Some.j * x) c.slot_length-stride.ensures
@@ -67,14 +67,18 @@ next_inside : (c : Then-count-capacity) →
     c.args.turn.count * c.slot_length-stride.result + slot_length (c.args.automaton.now.clocks + 1) ≤ length c.args.store.now
 next_inside c =
     next_within (enters c.args.automaton.now c.args.origin c.requires.accepted c.requires.going c.requires.sized)
-        c.slot_length-stride.ensures c.if-count-capacity.true
+    c.slot_length-stride.ensures c.if-count-capacity.true
 
 pub keep-requires : goal.keep-requires
 keep-requires c =
     let e = c.slot_length-stride.ensures in (
       omega (arith, e, next_inside (goal.at.keep-requires c).Then-count-capacity),
-      omega (arith, e, (asks_largest (enters c.args.automaton.now c.args.origin c.requires.accepted c.requires.going c.requires.sized)
-          c.encode-numbers.ensures).long),
+      omega (
+        arith,
+        e,
+        (asks_largest (enters c.args.automaton.now c.args.origin c.requires.accepted c.requires.going c.requires.sized)
+            c.encode-numbers.ensures).long,
+      ),
     )
 
 pub returns-then-count-capacity : goal.returns-then-count-capacity

@@ -27,9 +27,10 @@ threshold-requires c =
 
 pub lowered-requires : goal.lowered-requires
 lowered-requires c =
-    let l = lt_z_true c.args.q.m (pos 0) (rw (to_z-of_z (fits (goal.at.lowered-requires c).Start)) at c.if-q-lt0.true) in
-    (rw c.unwrap_or-before.ensures c.requires.safe,
-    rw c.threshold.ensures (diagonal_narrow widest widest scale step_counts here _ c.requires.spread (omega (arith, int))))
+    let l = lt_z_true c.args.q.m (pos 0) (rw (to_z-of_z (fits (goal.at.lowered-requires c).Start)) at c.if-q-lt0.true) in (
+      rw c.unwrap_or-before.ensures c.requires.safe,
+      rw c.threshold.ensures (diagonal_narrow widest widest scale step_counts here _ c.requires.spread (omega (arith, int))),
+    )
 
 pub returns-then-q-lt0 : goal.returns-then-q-lt0
 returns-then-q-lt0 c =
