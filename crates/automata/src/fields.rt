@@ -40,14 +40,14 @@ pub(crate) fn locations(automaton: &[u8]) -> usize
     usize::from(automaton[6])
 }
 
-pub(crate) fn start(automaton: &[u8]) -> usize
+pub fn start(automaton: &[u8]) -> usize
     requires { 11 ≤ length automaton.now }
     ensures { result ≡ start automaton.now }
 {
     usize::from(automaton[7])
 }
 
-pub(crate) fn target(automaton: &[u8]) -> usize
+pub fn target(automaton: &[u8]) -> usize
     requires { 11 ≤ length automaton.now }
     ensures { result ≡ target automaton.now }
 {
@@ -63,7 +63,7 @@ pub(crate) fn edges(automaton: &[u8]) -> usize
 
 // ---- where the parts stand
 // The place of the limits of location l, with n clocks.
-pub(crate) fn invariant_in(n: usize, l: usize) -> usize
+pub fn invariant_in(n: usize, l: usize) -> usize
     requires { (n < 256) × (l < 256) }
     ensures { result ≡ invariant_in n l }
 {
@@ -71,7 +71,7 @@ pub(crate) fn invariant_in(n: usize, l: usize) -> usize
 }
 
 // The place of edge i, with n clocks and m locations.
-pub(crate) fn edge_in(n: usize, m: usize, i: usize) -> usize
+pub fn edge_in(n: usize, m: usize, i: usize) -> usize
     requires { (n < 256) × (m < 256) × (i < 65536) }
     ensures { result ≡ edge_in n m i }
 {

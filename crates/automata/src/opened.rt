@@ -9,7 +9,7 @@ ghost use Rattle.automata.specs.Refusals.{refusal_of};
 
 use crate::fields;
 use crate::fields::{Edge, Limits};
-use crate::refusals::{Refusal, read};
+use crate::refusals::{Refusal, check};
 
 // An automaton that is not turned down, with the counts that it has.
 #[derive(Clone, Copy)]
@@ -28,7 +28,7 @@ impl<'a> Automaton<'a> {
         ensures refusal { number_in result ≡ refusal_of bytes.now }
         ensures opened { IfOk result (λ a. a.bytes ≡ bytes.entry) }
     {
-        read(bytes)?;
+        check(bytes)?;
         Ok(Automaton {
             bytes,
             clocks: fields::clocks(bytes),

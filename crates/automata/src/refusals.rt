@@ -161,7 +161,7 @@ fn guard_out_of_range(automaton: &[u8]) -> bool
 }
 
 // The refusal with the smallest number that applies.
-pub(crate) fn read(automaton: &[u8]) -> Result<(), Refusal>
+pub(crate) fn check(automaton: &[u8]) -> Result<(), Refusal>
     ensures { number_in result ≡ refusal_of automaton.now }
 {
     let length = automaton.len();

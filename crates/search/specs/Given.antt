@@ -51,14 +51,14 @@ Beside (Err k) = Unit {0}
 abbrev pub entered_by : List ℕ → (reachability.Result (List Pair) Fractions → ℕ) → ℕ → ℕ
 entered_by b count amount = entered (system_of b) (zones_of b) (zones_of b).top count (state_of b amount).kept
 
-unfoldable pub Counted : List ℕ → ℕ → ℕ → Dropped → Verdict → Type 0
-Counted b amount zones d (Holds h) =
+unfoldable pub Summed : List ℕ → ℕ → ℕ → Dropped → Verdict → Type 0
+Summed b amount zones d (Holds h) =
     (zones + d.again + d.inside ≡ entered_by b one_if_live amount) ×
     (zones + d.again + d.inside + entered_by b one_if_empty amount ≡ entered_by b one amount)
-Counted b amount zones d Reached = Unit {0}
+Summed b amount zones d Reached = Unit {0}
 
 unfoldable pub AddsUp : List ℕ → ℕ → Result Findings Refusal → Type 0
-AddsUp b amount (Ok x) = Counted b amount x.answer.zones x.dropped x.answer.verdict
+AddsUp b amount (Ok x) = Summed b amount x.answer.zones x.dropped x.answer.verdict
 AddsUp b amount (Err k) = Unit {0}
 
 -- ---- it is the answer "at every store size that lets the search finish", and so is all that the search finds

@@ -7,7 +7,7 @@ use automata::refusals::Refusal;
 use slots::slot::Origin;
 use zones::fraction::Fraction;
 
-// A search that goes on, or has stopped: at the target, by a zone of the origin told, or by the number of a refusal. One that goes on when
+// A search that goes on, or has stopped: at the target, by a zone of the origin told, or by a refusal. One that goes on when
 // no zone is left to take holds.
 #[derive(Clone, Copy)]
 pub enum Outcome {

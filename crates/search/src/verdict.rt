@@ -5,7 +5,7 @@ ghost use Rattle.search.specs.Verdicts.{fraction_of, holding_of, numbers_of, ver
 use crate::outcome::Dropped;
 use zones::fraction::{Fraction, gcd};
 
-// Up to which error an automaton holds.
+// Up to which error an automaton holds: document 01's own enum, where an Option of a fraction would do.
 #[derive(Clone, Copy)]
 pub enum Holding {
     AnyError,

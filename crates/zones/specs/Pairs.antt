@@ -23,7 +23,7 @@ unfoldable pub sum_of : Pair → Pair → Pair
 sum_of a b = record { m = a.m +ℤ b.m; p = a.p + b.p }
 
 -- "Of two pairs the smaller has the smaller m; at equal m, the smaller p"; document 02: "Comparing two pairs must now say below, equal or above":
--- how a stands to b, `Less` being below. Pair's derived order is this one (`cmp_is` of proofs/pairs/Derived)
+-- how a stands to b, `Less` being below. `Pair` has this order
 abbrev pub compare_of : Pair → Pair → Ordering
 compare_of = then_cmp (on (λ a. a.m) int_cmp) (on (λ a. a.p) nat_cmp)
 

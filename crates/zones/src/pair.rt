@@ -73,7 +73,7 @@ impl Pair {
         }
     }
 
-    // A lower limit lo, as a bound on 0 less the clock. It shares nothing with the upper one but the error's count of 1.
+    // A lower limit lo, as a bound on 0 less the clock.
     pub(crate) fn at_least(lo: u32) -> Pair
         ensures { result ≡ at_least lo }
     {

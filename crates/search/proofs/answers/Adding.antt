@@ -14,7 +14,7 @@ use Rattle.reachability.specs.Accounts.{one_if_live, Regardless}
 use Rattle.reachability.specs.Search.{Outcome, going, ended, reached, refused}
 use Rattle.reachability.proofs.Accounts.{accounted}
 use Rattle.search.specs.Answers.{findings_of, state_findings, state_of, search_findings}
-use Rattle.search.specs.Given.{AddsUp, Counted}
+use Rattle.search.specs.Given.{AddsUp, Summed}
 use Rattle.search.specs.Instance.{result_of, following, zones_of}
 use Rattle.search.specs.Store.{capacity_of}
 use Rattle.search.proofs.answers.Answers.{by_refusal}
@@ -40,7 +40,7 @@ regardless b = record {
 
 -- ---- so they add up
 state_adds_up : (b : List ℕ) (amount : ℕ) → AddsUp b amount (state_findings (state_of b amount))
-unfolding state_findings findings_of AddsUp Counted
+unfolding state_findings findings_of AddsUp Summed
 state_adds_up b amount = go (state_of b amount).outcome refl
   where
     go : (x : Outcome) → (state_of b amount).outcome ≡ x → AddsUp b amount (state_findings (state_of b amount))

@@ -163,7 +163,16 @@ pub is_none : (s : Option Fraction) → is_some s ≡ false → s ≡ None
 is_none None f = refl
 is_none (Some x) f = true_false f
 
--- ---- as the code counts: w is the zone after k middle indices, and v after one more
+-- ---- as the code counts: w is the zone after k middle indices, and d what its diagonal shows
+module _ (n k : ℕ) (w₀ w : Work) (d : Option Fraction) (e : reduce_steps n k w₀ ≡ leaves w d) where
+  pub reduced_stop : is_some d ≡ true → k ≤ n → leaves w d ≡ reduce_steps n n w₀
+  reduced_stop f h = sym (stays n k w₀ (ap is_empty e ∙ f) n h ∙ e)
+
+  -- the diagonal is looked at anew from what a zone that is not empty shows
+  pub seen_live : is_some d ≡ false → d ≡ seen_in 0 w
+  seen_live f = is_none d f ∙ seen_none w
+
+-- and v the zone after one more
 module _ (n k : ℕ) (w₀ w : Work) (e : reduce_steps n k w₀ ≡ non_empty w) where
   pub reduced_end : k ≡ n → non_empty w ≡ reduce_steps n n w₀
   reduced_end h = sym e ∙ ap (λ (x : ℕ). reduce_steps n x w₀) h
@@ -175,5 +184,5 @@ module _ (n k : ℕ) (w₀ w : Work) (e : reduce_steps n k w₀ ≡ non_empty w)
         rw add-one (ap (after_middle n k) e ∙ after_live n k (non_empty w) refl ∙ ap (λ (u : Work). leaves u (seen_in n u)) (sym g)
         ∙ ap (leaves v) (sym h))
 
-    pub reduced_stop : is_some s ≡ true → k < n → leaves v s ≡ reduce_steps n n w₀
-    reduced_stop f l = sym (stays n (k + 1) w₀ (ap is_empty reduced_next ∙ f) n (omega arith) ∙ reduced_next)
+    pub stopped_next : is_some s ≡ true → k < n → leaves v s ≡ reduce_steps n n w₀
+    stopped_next f l = reduced_stop n (k + 1) w₀ v s reduced_next f (omega arith)

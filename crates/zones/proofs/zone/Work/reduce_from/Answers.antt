@@ -10,7 +10,7 @@ use Rattle.zones.specs.Ranges.{Fits32}
 use Rattle.zones.specs.Reductions.{relaxed, row_steps, round_steps, seen_with}
 use Rattle.zones.proofs.ranges.Ranges.{TurnReady, spread_small, sum-small, turn_narrow, turn_of, skip_of, diagonal_of}
 use Rattle.zones.proofs.reductions.Rounds.{relaxed_is, relaxed_stays, row_next, row_all, round_all}
-use Rattle.zones.proofs.reductions.Progress.{seen_in, seen_none, seen_next, reduced_next, reduced_stop, is_none, leaves}
+use Rattle.zones.proofs.reductions.Progress.{seen_in, seen_none, seen_next, reduced_next, stopped_next, is_none, leaves}
 use Rattle.zones.proofs.zone.Work.reduce_from.Goals as goal
 use Rattle.zones.proofs.zone.Work.reduce_from.Goals.{After-smaller-choice, In-loop-j, After-loop-d}
 use Rattle.zones.proofs.zone.Work.reduce_from.Goals.{then-lt, else-lt, then-i-k+else-loop-j-test, else-i-k}
@@ -96,7 +96,7 @@ seen c = let all : c.loop-d.d ≡ c.args.size = omega arith in c.loop-d.invarian
 
 pub returns-then-is_some : goal.returns-then-is_some
 returns-then-is_some c =
-    reduced_stop _ _ _ _ c.loop-k.invariant.1 _ (round_all _ _ _ (omega arith) c.loop-i.invariant.2)
+    stopped_next _ _ _ _ c.loop-k.invariant.1 _ (round_all _ _ _ (omega arith) c.loop-i.invariant.2)
     (seen (goal.at.returns-then-is_some c).After-loop-d) (sym c.is_some.ensures ∙ c.if-is_some.true) (omega arith)
 
 pub loop-k-preserved : goal.loop-k-preserved

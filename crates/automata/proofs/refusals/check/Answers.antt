@@ -5,8 +5,8 @@ use native.Mathlib.Omega.{arith}
 use Rattle.automata.specs.Automata.{edge_at}
 use Rattle.automata.specs.Refusals.{no_such_location, no_such_clock, limit_out_of_range, refusal_of}
 use Rattle.automata.proofs.accepting.Refusing.{refusal_1, refusal_2, refusal_3, refusal_4, refusal_5, refusal_rest}
-use Rattle.automata.proofs.refusals.read.Goals as goal
-use Rattle.automata.proofs.refusals.read.Goals.{Else-length-edge_at}
+use Rattle.automata.proofs.refusals.check.Goals as goal
+use Rattle.automata.proofs.refusals.check.Goals.{Else-length-edge_at}
 
 pub returns-then-length-lt11 : goal.returns-then-length-lt11
 returns-then-length-lt11 c = sym (refusal_1 _ (omega arith))
