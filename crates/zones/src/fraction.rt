@@ -40,7 +40,7 @@ impl Fraction {
 }
 
 // The fraction is lowered where it stands.
-pub fn lower(f: &mut Fraction, o: Fraction)
+pub(crate) fn lower(f: &mut Fraction, o: Fraction)
     requires { Fits32 f.old × Fits32 o }
     ensures { f.new ≡ lowered_by f.old o }
 {
