@@ -79,7 +79,8 @@ pub fn origin_of(slot: &[i32]) -> Option<Origin>
 {
     let parent = slot[1];
     let edge = slot[2];
-    if parent < 0 {
+    let first = parent < 0;
+    if first {
         return None;
     }
     Some(Origin {

@@ -81,7 +81,8 @@ module _ {b : List ℕ} {amount : ℕ} {s : List ℤ} (e : Ended b amount s) {o 
     pub asks_slot : slot_length (suc (clocks b)) ≤ length (take (length s - o.parent * stride) (drop (o.parent * stride) s))
     asks_slot = omega (arith, lent_length s (o.parent * stride), inside)
 
-    pub reads_origin : (r : Option Origin) → told_of r ≡ slot_origin (take (length s - o.parent * stride) (drop (o.parent * stride) s)) → told_of r ≡ origin_before b amount o
+    pub reads_origin : (r : Option Origin) → told_of r ≡ slot_origin (take (length s - o.parent * stride) (drop (o.parent * stride) s))
+        → told_of r ≡ origin_before b amount o
     reads_origin r f = f ∙ origin_at e o.parent source (along st).kept at≡ ∙ sym origin_is
 
     module _ {size : ℕ} (ez : size ≡ suc (clocks b)) where
@@ -92,7 +93,8 @@ module _ {b : List ℕ} {amount : ℕ} {s : List ℤ} (e : Ended b amount s) {o 
         read_counts b e.accepted s o.parent (o.parent * stride) source at≡ (slot_of e o.parent source (along st).kept),
       )
 
-      pub reads_zone : {z : List Pair} → z ≡ zone_of size (take (length s - o.parent * stride) (drop (o.parent * stride) s)) → z ≡ zone_before b amount o
+      pub reads_zone : {z : List Pair} → z ≡ zone_of size (take (length s - o.parent * stride) (drop (o.parent * stride) s))
+          → z ≡ zone_before b amount o
       reads_zone f =
           f ∙ ap (λ (i : ℕ). zone_of i lent) ez
           ∙ read_zone b e.accepted s o.parent (o.parent * stride) source at≡ (slot_of e o.parent source (along st).kept) source_sound

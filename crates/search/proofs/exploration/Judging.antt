@@ -39,7 +39,7 @@ use Rattle.search.specs.Instance.{Fractions, fractions_of, ZoneState, ZoneNode, 
 use Rattle.reachability.specs.Search as defined
 use Rattle.reachability.specs.Search.{Came, first_zone, by_edge, reached, refused, ended, Nth, none, find, dropping, judge, offer}
 use Rattle.automata.specs.Semantics.{system_of}
-use Rattle.slots.specs.Slots.{slot_length, spare, p_at, told_of, head_of, slot_of, zone_of, Framed, origin_read}
+use Rattle.slots.specs.Slots.{slot_length, spare, p_at, told_of, head_of, slot_of, origin_read, zone_of, Framed}
 use Rattle.zones.specs.Integers.{up}
 use Rattle.slots.specs.Containing.{inside_slots, equal_slots, largest_slot, Readable, ComparableSlots}
 use Rattle.slots.specs.declared.origin.Origin.{Origin}
@@ -241,7 +241,8 @@ module _ (b : List ℕ) (a : Accepted b) where
         unfolding outcome_of
         judged_kept r {at} e f =
             let t = slot_taken n (head_of l (told_of o)) (head_size l (told_of o)) w.zone rest n≤ in
-            let told : slot_of n (head_of l (told_of o)) w.zone ≡ slot_as n to_judge = ap (λ (x : ℤ × ℤ). slot_of n (head_of l x) w.zone) (origin_told o ∙ ap origin_of p.told) in
+            let told : slot_of n (head_of l (told_of o)) w.zone ≡ slot_as n to_judge =
+            ap (λ (x : ℤ × ℤ). slot_of n (head_of l x) w.zone) (origin_told o ∙ ap origin_of p.told) in
             let m = store_more n n≤ q.kept to_judge s₀ at (e ∙ ap (λ (c : ℕ). c * slot_length n) d.shown.number) in
             shows (was_kept off alone counted (omega (arith, d.shown.number))) (record {
               number = omega (arith, d.shown.number, length-append q.kept (to_judge ∷ []));
@@ -332,7 +333,8 @@ module _ {b : List ℕ} {l : ℕ} {o : Option Origin} {w : Work} {capacity : ℕ
           rw (es, new≡, part b a s j at k here t) (record {
             new_reads = slot_readable _ (head_of l (told_of o)) (head_size l (told_of o)) w.zone _ (n≤ b a);
             old_reads = slot_readable _ (head_of k.at (origin_of k.came)) (head_size k.at (origin_of k.came)) k.zone _ (n≤ b a);
-            new_bounded = slot_bounded _ (head_of l (told_of o)) (head_size l (told_of o)) w.zone _ scale last_counts (n≤ b a) entered.sized.ranged.bounded;
+            new_bounded = slot_bounded _ (head_of l (told_of o)) (head_size l (told_of o)) w.zone _
+                scale last_counts (n≤ b a) entered.sized.ranged.bounded;
             old_bounded = slot_bounded _ (head_of k.at (origin_of k.came)) (head_size k.at (origin_of k.came)) k.zone _
                 scale last_counts (n≤ b a)
                 (node_bounded b a k (i.live.sound.nodes j k m.nth));
@@ -353,7 +355,9 @@ module _ {b : List ℕ} {l : ℕ} {o : Option Origin} {w : Work} {capacity : ℕ
 
     module _ (out : turn.count ≤ j) {most : ℕ} (em : most ≡ largest_slot new (size * size)) where
       largest : most ≡ largest_count (n b a) w.zone
-      largest = em ∙ (λ i. largest_slot (new≡ i) (es i * es i)) ∙ largest_slot_lem _ (head_of l (told_of o)) (head_size l (told_of o)) w.zone _ (n≤ b a)
+      largest =
+          em ∙ (λ i. largest_slot (new≡ i) (es i * es i))
+          ∙ largest_slot_lem _ (head_of l (told_of o)) (head_size l (told_of o)) w.zone _ (n≤ b a)
 
       pub gives_big : counts < most → (p : Led o) →
           Continues b capacity s turn (op p) s (refused_by turn w.fraction ErrorCountTooLarge)

@@ -8,8 +8,12 @@ use Rattle.slots.proofs.slot.headed.Goals as goal
 pub returns-in-Some : goal.returns-in-Some
 unfolding head_of told_of
 returns-in-Some c = let o = c.in-Some.o in
-    rw (to_z_pos w32 c.args.location (omega arith), to_z_pos w32 o.parent (omega (arith, o.parent_small)),
-    to_z_pos w32 o.edge (omega (arith, o.edge_small)), c.in-Some.is)
+    rw (
+      to_z_pos w32 c.args.location (omega arith),
+      to_z_pos w32 o.parent (omega (arith, o.parent_small)),
+      to_z_pos w32 o.edge (omega (arith, o.edge_small)),
+      c.in-Some.is,
+    )
 
 pub returns-in-None : goal.returns-in-None
 unfolding head_of told_of

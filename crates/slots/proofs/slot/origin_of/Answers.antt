@@ -1,4 +1,5 @@
 -- The first number tells whether there is a slot.
+-- Assumes nothing.
 use borrow.Author.Rules.{rules}
 use Prim.Native.Nat.{ℕ}
 use mathlib.Core.Bool.{true, false}
@@ -16,9 +17,8 @@ use Rattle.zones.specs.Integers.{up, down}
 use Rattle.zones.proofs.pairs.Integers.{int, lt_z_true, lt_z_false}
 use Rattle.slots.specs.Slots.{told_of, no_origin, origin_along, origin_read}
 use Rattle.slots.proofs.slot.origin_of.Goals as goal
-use Rattle.slots.proofs.slot.origin_of.Goals.{Start}
 
-none : (x : ℤ) (y : ℤ) → lt_z x (pos 0) ≡ true → no_origin ≡ origin_read x y
+none : (x y : ℤ) → lt_z x (pos 0) ≡ true → no_origin ≡ origin_read x y
 unfolding origin_read
 none (pos n) y h = absurd (omega (arith, int, lt_z_true (pos n) (pos 0) h))
 none (negsuc n) y h = refl
@@ -33,11 +33,11 @@ unfolding origin_read
 some (pos p) y h e = ap (origin_along p) e
 some (negsuc n) y h e = absurd (omega (arith, int, lt_z_false (negsuc n) (pos 0) h))
 
-pub returns-then-parent-lt0 : goal.returns-then-parent-lt0
+pub returns-then-first : goal.returns-then-first
 unfolding told_of
-returns-then-parent-lt0 c =
+returns-then-first c =
     let f : SFits w32 (get_or c.args.slot.now 1 (pos 0)) = search rules in
-    none _ _ (rw (to_z-of_z w32 _ f) at c.if-parent-lt0.true)
+    none (get_or c.args.slot.now 1 (pos 0)) _ (rw (to_z-of_z w32 _ f) at c.if-first.true)
 
 pub returns : goal.returns
 unfolding told_of
@@ -46,5 +46,5 @@ returns c =
     let g : SFits w32 (get_or c.args.slot.now 2 (pos 0)) = search rules in
     let m : SFits w32 c.max.result = search rules in
     rw (to_z-of_z w32 _ f, to_z-of_z w32 _ m)
-    (some (get_or c.args.slot.now 1 (pos 0)) (get_or c.args.slot.now 2 (pos 0)) (rw (to_z-of_z w32 _ f) at c.if-parent-lt0.false)
+    (some (get_or c.args.slot.now 1 (pos 0)) (get_or c.args.slot.now 2 (pos 0)) (rw (to_z-of_z w32 _ f) at c.if-first.false)
     (most (get_or c.args.slot.now 2 (pos 0)) c.max.result (rw (to_z-of_z w32 _ g) at c.max.ensures.value) c.max.ensures.other_bound))
