@@ -22,7 +22,8 @@ use automata::fields::Edge;
 use automata::opened::Automaton;
 use automata::refusals::Refusal;
 use slots::containment::{inside_of, is_within, largest_count};
-use slots::slot::{Origin, decode, encode, keep, slot_length};
+use slots::origin::Origin;
+use slots::slot::{decode, encode, keep, slot_length};
 use zones::fraction::Fraction;
 use zones::pair::Pair;
 use zones::reduction::Reduced;
@@ -68,7 +69,7 @@ fn judge(
     turn: Turn,
     capacity: usize,
     l: usize,
-    origin: Origin,
+    origin: Option<Origin>,
     w: Work,
 ) -> Turn
     requires accepted { (l < locations automaton.now.bytes.now) × (l ≡ target automaton.now.bytes.now → ⊥) }
@@ -110,7 +111,7 @@ fn offer(
     turn: Turn,
     capacity: usize,
     l: usize,
-    origin: Origin,
+    origin: Option<Origin>,
     r: Reduced,
 ) -> Turn
     requires accepted { (l < locations automaton.now.bytes.now) }
@@ -140,7 +141,7 @@ fn arrive(
     turn: Turn,
     capacity: usize,
     l: usize,
-    origin: Origin,
+    origin: Option<Origin>,
     w: Work,
     resets: [bool; 9],
 ) -> Turn
@@ -161,7 +162,7 @@ fn follow(
     store: &mut [i32],
     turn: Turn,
     capacity: usize,
-    origin: Origin,
+    origin: Option<Origin>,
     i: usize,
     edge: Edge,
     w: Work,
@@ -211,7 +212,7 @@ fn expand(
         if edge.from == l {
             let exact = t.exact;
             w.fraction = exact;
-            let origin = Origin::along(parent, i);
+            let origin = Some(Origin { parent, edge: i });
             t = follow(automaton, store, t, capacity, origin, i, edge, w);
             if t.has_ended() {
                 return t;
@@ -276,7 +277,7 @@ pub fn explore(automaton: &Automaton, store: &mut [i32]) -> Turn
         first,
         capacity,
         l,
-        Origin::none(),
+        None,
         Work::first(),
         [false; 9],
     );

@@ -2,4 +2,5 @@
 #![tactic(auto)]
 
 pub mod containment;
+pub mod origin;
 pub mod slot;
