@@ -111,7 +111,7 @@ fn no_such_clock(automaton: &[u8]) -> bool
     false
 }
 
-// Whether a lo or a hi is outside its range, which for a guard's hi has one number more.
+// Whether a lo or a hi is outside its range, which for a guard's hi has one number more: `may_lack` says which range it is.
 fn out_of_range(may_lack: bool, lo: u32, hi: u32) -> bool
     ensures { result ≡ out_of_range may_lack lo hi }
 {

@@ -20,7 +20,7 @@ pub(crate) fn less(a: &[u8], b: &[u8]) -> bool
             return false;
         }
     }
-    // std's order of slices is a tenth slower where edges differ late
+    // The odd bytes one by one: std's order of slices is a tenth slower where edges differ late.
     for i in 4 * words..a.len() {
         if a[i] < b[i] {
             return true;

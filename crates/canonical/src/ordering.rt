@@ -47,7 +47,7 @@ impl<'a> Order<'a> {
         }
         let mut lo = 0;
         let mut hi = last;
-        // `partition_point` asks for a test of any byte, and only listed numbers are of edges
+        // `partition_point` asks for a test of any byte, where only listed numbers are of edges: it would test each number first, and never in vain.
         while lo < hi {
             let mid = lo + (hi - lo) / 2;
             if edges.less(usize::from(numbers[mid]), x) {

@@ -4,7 +4,7 @@ ghost use Rattle.run_judge.specs.Numbers.{capped, announced, Announced};
 
 use automata::refusals::SCALE;
 
-// A wait or an edge; a number that is none of any run is capped.
+// A wait or an edge; a number that is none of any run is capped, as the definition has it: no Option is asked, since no wait and no edge is so large.
 pub(crate) fn step(z: i64) -> u64
     ensures { result ≡ capped z }
 {

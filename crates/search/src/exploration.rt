@@ -72,7 +72,7 @@ fn judge(
     origin: Option<Origin>,
     w: Work,
 ) -> Turn
-    requires accepted { (l < locations automaton.now.bytes.now) × (l ≡ target automaton.now.bytes.now → ⊥) }
+    requires there { (l < locations automaton.now.bytes.now) × (l ≡ target automaton.now.bytes.now → ⊥) }
     requires going { Going automaton.now.bytes.now capacity store.old turn × Few most_offers turn.dropped }
     requires sized { Sized last_counts (suc (clocks automaton.now.bytes.now)) w × Framed (suc (clocks automaton.now.bytes.now)) w.zone }
     ensures { (p : Led origin) → Continues automaton.now.bytes.now capacity store.old turn
@@ -114,7 +114,7 @@ fn offer(
     origin: Option<Origin>,
     r: Reduced,
 ) -> Turn
-    requires accepted { (l < locations automaton.now.bytes.now) }
+    requires there { l < locations automaton.now.bytes.now }
     requires going { Going automaton.now.bytes.now capacity store.old turn × SoundResult automaton.now.bytes.now r × Few most_offers turn.dropped }
     ensures { Offers automaton.now.bytes.now capacity store.old turn l origin r store.new result }
 {
@@ -145,7 +145,7 @@ fn arrive(
     w: Work,
     resets: [bool; 9],
 ) -> Turn
-    requires accepted { (l < locations automaton.now.bytes.now) × Going automaton.now.bytes.now capacity store.old turn }
+    requires there { (l < locations automaton.now.bytes.now) × Going automaton.now.bytes.now capacity store.old turn }
     requires sized { Sized (10 * counts) (suc (clocks automaton.now.bytes.now)) w × Settled (suc (clocks automaton.now.bytes.now)) w }
     requires sound_result { SoundResult automaton.now.bytes.now (arrival_of automaton.now.bytes.now l (set_of resets) w)
         × Few most_offers turn.dropped }
@@ -167,7 +167,7 @@ fn follow(
     edge: Edge,
     w: Work,
 ) -> Turn
-    requires accepted { (i < edges automaton.now.bytes.now) × (edge ≡ edge_of automaton.now.bytes.now i) × Few most_offers turn.dropped }
+    requires there { (i < edges automaton.now.bytes.now) × (edge ≡ edge_of automaton.now.bytes.now i) × Few most_offers turn.dropped }
     requires going { Going automaton.now.bytes.now capacity store.old turn × SoundZone automaton.now.bytes.now w.zone × Fits32 w.fraction }
     ensures { Offers automaton.now.bytes.now capacity store.old turn (to automaton.now.bytes.now i) origin
         (successor_of automaton.now.bytes.now i w) store.new result }
@@ -195,7 +195,7 @@ fn expand(
     l: usize,
     z: [Pair; 81],
 ) -> Turn
-    requires accepted { Going automaton.now.bytes.now capacity store.old turn × SoundZone automaton.now.bytes.now z }
+    requires going { Going automaton.now.bytes.now capacity store.old turn × SoundZone automaton.now.bytes.now z }
     requires parent_kept { (parent < most_slots) × Few (suc (parent * 256)) turn.dropped }
     ensures { (c : Came) (p : List ℕ) → Continues automaton.now.bytes.now capacity store.old turn
         (expand (system_of automaton.now.bytes.now) (zones_of automaton.now.bytes.now) capacity parent (node_at l c p z)

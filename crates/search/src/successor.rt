@@ -14,7 +14,7 @@ use zones::pair::Pair;
 use zones::reduction::Reduced;
 use zones::zone::{Bounds, Work};
 
-// A zone on which limits were met, and whether it is known to be settled.
+// A zone on which limits were met, and whether it is known to be settled: the zone counts either way, so no Option says it.
 #[derive(Clone, Copy)]
 struct Met {
     work: Work,
@@ -80,7 +80,7 @@ fn raise(automaton: &Automaton, at: usize, c: usize, w: Work) -> Work
 
 // The zone, which is settled, enters location l after a reset.
 pub(crate) fn enter(automaton: &Automaton, l: usize, w: Work, resets: [bool; 9]) -> Reduced
-    requires accepted { (l < locations automaton.now.bytes.now) }
+    requires there { l < locations automaton.now.bytes.now }
     requires sized { Sized (10 * counts) (suc (clocks automaton.now.bytes.now)) w × Settled (suc (clocks automaton.now.bytes.now)) w }
     ensures { result ≡ arrival_of automaton.now.bytes.now l (set_of resets) w }
 {

@@ -38,7 +38,8 @@ pub fn is_within(new: &[i32], old: &[i32], pairs: usize) -> bool
     (0..pairs).all(|t| compare_at(new, old, t).is_le())
 }
 
-// How a new slot lies inside an old one, by a test that holds: its lowest threshold, and whether every pair equals the old one's.
+// How a new slot lies inside an old one, by a test that holds: its lowest threshold, and whether every pair equals the old one's. Each counts
+// whatever the other is, so no Option says it.
 #[derive(Clone, Copy)]
 pub struct Inside {
     pub below: Fraction,

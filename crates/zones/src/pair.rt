@@ -73,7 +73,7 @@ impl Pair {
         }
     }
 
-    // A lower limit lo, as a bound on 0 less the clock.
+    // A lower limit lo, as a bound on 0 less the clock. One function for both limits would take a sign, and be no plainer.
     pub(crate) fn at_least(lo: u32) -> Pair
         ensures { result ≡ at_least lo }
     {

@@ -8,8 +8,8 @@ use Rattle.search.proofs.exploration.arrive.Goals as goal
 pub offer-requires : goal.offer-requires
 offer-requires c =
     record {
-      accepted = c.requires.accepted.0;
-      going = (c.requires.accepted.1, subst (SoundResult _) (sym c.enter-entered.ensures) c.requires.sound_result.0, c.requires.sound_result.1);
+      there = c.requires.there.0;
+      going = (c.requires.there.1, subst (SoundResult _) (sym c.enter-entered.ensures) c.requires.sound_result.0, c.requires.sound_result.1);
     }
 
 pub returns : goal.returns

@@ -39,8 +39,8 @@ module _ (c : After-edge-edge) where
 
   -- for a caller that asks of any state
   some : Between c.args.automaton.now.bytes.now c.args.capacity c.args.parent c.args.l c.args.z first_zone []
-      c.requires.accepted.0.base c.requires.accepted.0.state c.loop-i.i c.loop-i.store c.loop-i.t
-  some = c.loop-i.invariant.1 first_zone [] c.requires.accepted.0.base c.requires.accepted.0.state c.requires.accepted.0.live
+      c.requires.going.0.base c.requires.going.0.state c.loop-i.i c.loop-i.store c.loop-i.t
+  some = c.loop-i.invariant.1 first_zone [] c.requires.going.0.base c.requires.going.0.state c.requires.going.0.live
 
 pub invariant_of-origin : goal.invariant_of-origin
 invariant_of-origin c = record {
@@ -51,9 +51,9 @@ invariant_of-origin c = record {
 pub follow-t-requires : goal.follow-t-requires
 follow-t-requires c =
     let a = c.args.automaton.now.accepted in
-    let pre = c.requires.accepted in
+    let pre = c.requires.going in
     record {
-      accepted = (
+      there = (
         within (goal.at.follow-t-requires c).After-edge-edge,
         c.edge-edge.ensures,
         between_few (some (goal.at.follow-t-requires c).After-edge-edge)
@@ -72,7 +72,7 @@ follow-t-requires c =
 pub shape_of-store-then-has_ended : goal.shape_of-store-then-has_ended
 shape_of-store-then-has_ended c =
     let a = c.args.automaton.now.accepted in
-    let pre = c.requires.accepted in
+    let pre = c.requires.going in
     offered_length (some (goal.at.shape_of-store-then-has_ended c).After-edge-edge)
     (within (goal.at.shape_of-store-then-has_ended c).After-edge-edge) a pre.1
     (taken_is (goal.at.shape_of-store-then-has_ended c).After-edge-edge)
@@ -83,7 +83,7 @@ shape_of-store-then-has_ended c =
 pub returns-then-has_ended : goal.returns-then-has_ended
 returns-then-has_ended c =
     let a = c.args.automaton.now.accepted in
-    let pre = c.requires.accepted in
+    let pre = c.requires.going in
     λ x p. record {
       shows = λ s₀ q₀ h. stops (c.loop-i.invariant.1 x p s₀ q₀ h) (within (goal.at.returns-then-has_ended c).After-edge-edge) a pre.1
           (taken_is (goal.at.returns-then-has_ended c).After-edge-edge)
@@ -94,7 +94,7 @@ returns-then-has_ended c =
 pub loop-i-preserved : goal.loop-i-preserved
 loop-i-preserved c =
     let a = c.args.automaton.now.accepted in
-    let pre = c.requires.accepted in (
+    let pre = c.requires.going in (
       elim c.if-edge-l.branch [
         | then-edge-l+else-has_ended x ↦ ap (λ (v : Work). v.zone) x.w-is ∙ c.loop-i.invariant.0
         | else-edge-l x ↦ ap (λ (v : Work). v.zone) x.w-is ∙ c.loop-i.invariant.0
@@ -115,7 +115,7 @@ loop-i-preserved c =
 pub shape_of-store : goal.shape_of-store
 shape_of-store c =
     let a = c.args.automaton.now.accepted in
-    let pre = c.requires.accepted in
+    let pre = c.requires.going in
     let between = c.loop-i.invariant.1 first_zone [] pre.0.base pre.0.state pre.0.live in
     live-length _ a pre.0.long between.live.shown between.live.sound ∙ sym (going_length _ a pre.0)
 

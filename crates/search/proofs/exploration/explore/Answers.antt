@@ -48,7 +48,7 @@ pub arrive-t-requires : goal.arrive-t-requires
 arrive-t-requires c =
     let a = c.args.automaton.now.accepted in
     record {
-      accepted = (rw c.start-l.ensures a.start<, blank_going a _ (capacity≡ (goal.at.arrive-t-requires c).After-first));
+      there = (rw c.start-l.ensures a.start<, blank_going a _ (capacity≡ (goal.at.arrive-t-requires c).After-first));
       sized = rw c.first.ensures (first_sized (10 * counts) _ (n≤ _ a), first_settled _ (n≤ _ a));
       sound_result = (
         subst (SoundResult _) (sym (arrived (goal.at.arrive-t-requires c).After-first)) (start-sound _ a),

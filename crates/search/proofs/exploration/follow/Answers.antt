@@ -26,13 +26,13 @@ module _ (c : After-edge_at-at) where
 
   inside : edge_at c.args.automaton.now.bytes.now c.args.i + (3 + 8 * clocks c.args.automaton.now.bytes.now)
       ≤ length c.args.automaton.now.bytes.now
-  inside = edge-within _ c.args.automaton.now.accepted.complete _ c.requires.accepted.0
+  inside = edge-within _ c.args.automaton.now.accepted.complete _ c.requires.there.0
 
 pub narrow-met-requires : goal.narrow-met-requires
 unfolding guard_of
 narrow-met-requires c =
     let a = c.args.automaton.now.accepted in
-    let hi = c.requires.accepted.0 in
+    let hi = c.requires.there.0 in
     let q = asks_limits _ _ (ap (λ x. x + 3) (place≡ (goal.at.narrow-met-requires c).After-edge_at-at))
     (size≡ (goal.at.narrow-met-requires c).After-edge_at-at) a.complete.clocks≤
     (omega (arith, inside (goal.at.narrow-met-requires c).After-edge_at-at)) (guard_scale _ a _ hi)
@@ -50,43 +50,43 @@ module _ (c : After-narrow-met) where
 pub emptied-requires : goal.emptied-requires
 emptied-requires c = (
   going_safe _ c.args.automaton.now.accepted c.requires.going.0,
-  rw c.in-Some.is at (emptied_fits _ c.args.automaton.now.accepted _ c.requires.accepted.0 _ c.requires.going.1 c.requires.going.2
+  rw c.in-Some.is at (emptied_fits _ c.args.automaton.now.accepted _ c.requires.there.0 _ c.requires.going.1 c.requires.going.2
       (met (goal.at.emptied-requires c).After-narrow-met)),
 )
 
 pub returns-in-Some : goal.returns-in-Some
 returns-in-Some c =
-    follows_none _ c.args.automaton.now.accepted _ c.requires.accepted.0 _ c.requires.going.1 c.requires.going.2
+    follows_none _ c.args.automaton.now.accepted _ c.requires.there.0 _ c.requires.going.1 c.requires.going.2
     (met (goal.at.returns-in-Some c).After-narrow-met) (ap is_some c.in-Some.is) _ _ _ _
     (c.emptied.ensures ∙ lowers c.args.turn c.narrow-met.result.work.fraction c.in-Some.is)
 
 pub arrive-requires : goal.arrive-requires
 arrive-requires c =
     let a = c.args.automaton.now.accepted in
-    let hi = c.requires.accepted.0 in
+    let hi = c.requires.there.0 in
     let live = ap is_some c.in_default.is in
     record {
-      accepted = (
+      there = (
         arrives_at _ a _ hi _ c.requires.going.1 c.requires.going.2 (met (goal.at.arrive-requires c).After-narrow-met) live
-            c.requires.accepted.1,
+            c.requires.there.1,
         c.requires.going.0,
       );
       sized = arrives _ a _ hi _ c.requires.going.1 c.requires.going.2 (met (goal.at.arrive-requires c).After-narrow-met) live;
       sound_result = (
         arrives_sound _ a _ hi _ c.requires.going.1 c.requires.going.2 (met (goal.at.arrive-requires c).After-narrow-met) live
-            c.requires.accepted.1,
-        c.requires.accepted.2,
+            c.requires.there.1,
+        c.requires.there.2,
       );
     }
 
 pub returns : goal.returns
 returns c =
     let a = c.args.automaton.now.accepted in
-    let hi = c.requires.accepted.0 in
+    let hi = c.requires.there.0 in
     let live = ap is_some c.in_default.is in
     gives_of _ _ _ _ _ _ (edge_to _ a _ hi _ c.requires.going.1 c.requires.going.2 (met (goal.at.returns c).After-narrow-met) live
-    c.requires.accepted.1)
-    (follows _ a _ hi _ c.requires.going.1 c.requires.going.2 (met (goal.at.returns c).After-narrow-met) live c.requires.accepted.1) c.arrive.ensures
+    c.requires.there.1)
+    (follows _ a _ hi _ c.requires.going.1 c.requires.going.2 (met (goal.at.returns c).After-narrow-met) live c.requires.there.1) c.arrive.ensures
 
 pub overflow_add-at : goal.overflow_add-at
 overflow_add-at c =

@@ -20,7 +20,7 @@ returns-then-l-target c = λ p. gives_target _ _ _ _ _ c.args.r p (ap is_some c.
 pub judge-requires : goal.judge-requires
 judge-requires c =
     record {
-      accepted = (c.requires.accepted, λ e. c.if-l-target.false (e ∙ sym c.target.ensures));
+      there = (c.requires.there, λ e. c.if-l-target.false (e ∙ sym c.target.ensures));
       going = (c.requires.going.0, c.requires.going.2);
       sized = (c.requires.going.1.sized (ap is_some c.in_default.is), c.requires.going.1.framed (ap is_some c.in_default.is));
     }

@@ -69,7 +69,7 @@ expand-t-requires c =
     let a = c.args.automaton.now.accepted in
     let pre = c.requires in
     record {
-      accepted = (
+      going = (
         onward a (on (goal.at.expand-t-requires c).At-loop-next) c.loop-next-test.true pre.0.long pre.0.few,
         sound_zone a (on (goal.at.expand-t-requires c).At-loop-next) c.loop-next-test.true (place≡ (goal.at.expand-t-requires c).In-loop-next)
             (rw c.loop-next.invariant.0 at c.decode-z.ensures),

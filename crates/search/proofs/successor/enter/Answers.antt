@@ -48,7 +48,7 @@ module _ (c : After-reset-cleared) where
   unfolding invariant_of
   asks =
       let a = c.args.automaton.now.accepted in
-      let hl = c.requires.accepted in
+      let hl = c.requires.there in
       asks_limits _ _ at≡ size≡ n≤ (invariant_within _ a.complete _ hl)
       (invariant_scale _ a _ hl) (omega arith) ready.0
 
@@ -77,7 +77,7 @@ pub reduce_raised-requires : goal.reduce_raised-requires
 unfolding invariant_of
 reduce_raised-requires c =
     let a = c.args.automaton.now.accepted in
-    let hl = c.requires.accepted in
+    let hl = c.requires.there in
     let at = at≡ (goal.at.reduce_raised-requires c).After-reset-cleared in
     let n = size≡ (goal.at.reduce_raised-requires c).After-reset-cleared in
     let met = meets _ _ at n c.narrow-met.ensures in
