@@ -5,7 +5,7 @@ use mathlib.Core.Path.{◌≡◌, refl, sym, ap, ◌∙◌, subst}
 use borrow.Author.Tests.{lt-ltb, le-ltb, eq-eqb, ne_eqb}
 use lib.IntN.{ℤ}
 use lib.ListN.{length, drop}
-use Rattle.std.specs.Prelude.{Err, Option}
+use Rattle.std.specs.Prelude.{Err}
 use native.Mathlib.Omega.{arith}
 use Rattle.automata.specs.Automata.{clocks}
 use Rattle.automata.specs.Numbers.{number}
@@ -30,11 +30,11 @@ use Rattle.search.specs.declared.outcome.Turn.{Turn}
 use Rattle.search.specs.Answers.{findings_of, dropped_in, state_findings, state_of, search_findings}
 use Rattle.search.specs.Exploring.{Shown}
 use Rattle.search.specs.Instance.{zones_of, meaning_of}
-use Rattle.search.specs.Outcomes.{came_of, outcome_of}
+use Rattle.search.specs.Outcomes.{came_of, outcome_of, Honest}
 use Rattle.search.specs.Store.{capacity_of}
 use Rattle.search.proofs.answers.Answers.{found_accepted}
 use Rattle.search.proofs.instance.Obeys.{laws}
-use Rattle.slots.specs.declared.origin.Origin.{Origin}
+use Rattle.slots.specs.declared.slot.Origin.{Origin}
 use Rattle.run_writer.specs.Branch.{kept_of, Ended, Standing, Stands, jumps_before}
 use Rattle.run_writer.specs.Crossing.{witnesses_of}
 use Rattle.run_writer.specs.Told.{Tells}
@@ -79,7 +79,7 @@ module _ (b : List ℕ) (ok : refusal_of b ≡ 0) (s s' : List ℤ) (t : Turn) (
       ∙ ap (λ x. findings_of x (state_of b amount).frac (length (state_of b amount).kept) (dropped_in (state_of b amount))) e
 
   -- ---- it did not meet the target
-  module _ (g : (o : Option Origin) → t.outcome ≡ Reached o → ⊥) where
+  module _ (g : (o : Origin) → t.outcome ≡ Reached o → ⊥) where
     missed : (P : Outcome → Type 0) → P going → ((k : ℕ) → P (ended (refused k))) → P (state_of b (length s)).outcome
     unfolding outcome_of
     missed P y n = subst P h.outcome (go t.outcome refl)
@@ -100,7 +100,7 @@ module _ (b : List ℕ) (ok : refusal_of b ≡ 0) (s s' : List ℤ) (t : Turn) (
         rw (findings_are refl) (missed (λ x. Tells b (length s) run (findings_of x q.frac (length q.kept) (dropped_in q))) tt (λ k. tt))
 
   -- ---- it met the target
-  module _ {o : Option Origin} (g : t.outcome ≡ Reached o) where
+  module _ {o : Origin} (g : t.outcome ≡ Reached o) where
     met : (state_of b (length s)).outcome ≡ ended (reached (came_of o))
     unfolding outcome_of
     met = sym h.outcome ∙ ap outcome_of g
@@ -116,7 +116,7 @@ module _ (b : List ℕ) (ok : refusal_of b ≡ 0) (s s' : List ℤ) (t : Turn) (
         (exact_there (system_of b) (zones_of b) (meaning_of b) 1 0 L c) (came_of o) met in
         record {
           came = came_of o;
-          told = refl;
+          told = subst Honest g h.honest;
           place = length (kept_of b amount);
           most = omega arith;
           node = a.node;

@@ -10,15 +10,14 @@ ghost use Rattle.run_writer.specs.Writing.{run_of};
 
 use crate::crossing::Jump;
 use automata::opened::Automaton;
-use slots::origin::Origin;
-use slots::slot::{decode, origin_of, slot_length};
+use slots::slot::{Origin, decode, origin_of, slot_length};
 
-// The branch to a zone that came so, in the store where a search has ended: its jumps, from the last one back.
+// The branch to a zone of this origin, in the store where a search has ended: its jumps, from the last one back.
 #[derive(Clone, Copy)]
 pub(crate) struct Branch<'a> {
     pub(crate) automaton: Automaton<'a>,
     pub(crate) store: &'a [i32],
-    pub(crate) origin: Option<Origin>,
+    pub(crate) origin: Origin,
     pub(crate) ghost stands: { ∥ Stands automaton.bytes.now store.now origin ∥₁ },
 }
 
@@ -33,13 +32,16 @@ impl<'a> Iterator for Branch<'a> {
     ghost remaining = { λ x. at_most (jumps_left x) };
 
     fn next(&mut self) -> Option<Jump<'a>> {
-        let origin = self.origin?;
+        let origin = self.origin;
+        if !origin.is_along() {
+            return None;
+        }
         let size = self.automaton.clocks + 1;
-        let slot = &self.store[origin.parent * slot_length(size)..];
+        let slot = &self.store[origin.slot() * slot_length(size)..];
         self.origin = origin_of(slot);
         Some(Jump {
             automaton: self.automaton,
-            edge: origin.edge,
+            edge: origin.edge(),
             zone: decode(slot, size),
         })
     }

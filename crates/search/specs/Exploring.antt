@@ -1,6 +1,6 @@
 -- What the functions of the search ask and give. A search in progress is a state of the definition; the code has it as a turn and the store.
 use Rattle.zones.specs.Reductions.{is_empty, safe_of}
-use Rattle.std.specs.Prelude.{ℕ, suc, ◌*◌, ◌≤◌, ◌<◌, ◌≡◌, Bool, false, true, Option, List, ℤ, pos, length, get_or, drop}
+use Rattle.std.specs.Prelude.{ℕ, suc, ◌*◌, ◌≤◌, ◌<◌, ◌≡◌, Bool, false, true, List, ℤ, pos, length, get_or, drop}
 use Rattle.zones.specs.declared.pair.Pair.{Pair}
 use Rattle.zones.specs.declared.reduction.Reduced.{Reduced}
 use Rattle.zones.specs.declared.zone.Work.{Work}
@@ -10,15 +10,15 @@ use Rattle.runs.specs.Limits.{scale}
 use Rattle.zones.specs.Successors.{enter_of, follow_of}
 use Rattle.zones.specs.Zones.{reset_of}
 use Rattle.search.specs.declared.outcome.Turn.{Turn}
-use Rattle.search.specs.Outcomes.{outcome_of, came_of}
+use Rattle.search.specs.Outcomes.{outcome_of, Honest}
 use Rattle.automata.specs.Automata.{clocks, locations, to, guard_of, invariant_of, resets_of}
 use Rattle.search.specs.Instance.{ZoneNode, ZoneState, work_of, result_of, zones_of}
 use Rattle.reachability.specs.Search.{Came, going, Nth, offer}
 use Rattle.automata.specs.Semantics.{system_of}
 use Rattle.slots.specs.Slots.{slot_length, slot_location, Framed}
 use Rattle.slots.specs.Containing.{within_slots}
-use Rattle.slots.specs.declared.origin.Origin.{Origin}
-use Rattle.search.specs.Store.{store_of, most_slots}
+use Rattle.slots.specs.declared.slot.Origin.{Origin}
+use Rattle.search.specs.Store.{origin_of, store_of, most_slots}
 
 -- ---- slot j, of the same location as the new one, contains it
 pub record Hits (n : ℕ) (new s : List ℤ) (j : ℕ) : Type 0 where
@@ -59,6 +59,7 @@ pub record Shown (n : ℕ) (s₀ : List ℤ) (q : ZoneState) (s : List ℤ) (t :
   pub again : t.dropped.again ≡ q.again
   pub inside : t.dropped.inside ≡ q.inside
   pub outcome : outcome_of t.outcome ≡ q.outcome
+  pub honest : Honest t.outcome
 
 -- a sound state that goes on
 pub record Live (b : List ℕ) (slots : ℕ) (s₀ : List ℤ) (q : ZoneState) (s : List ℤ) (t : Turn) : Type 0 where
@@ -92,14 +93,14 @@ successor_of b i w = follow_of (clocks b) (guard_of b i) (resets_of b i) (invari
 abbrev pub node_at : ℕ → Came → List ℕ → List Pair → ZoneNode
 node_at l c p z = record { at = l; zone = z; came = c; path = p }
 
--- a way to a zone of the origin o
-pub record Led (o : Option Origin) : Type 0 where
+-- a way to a zone whose slot tells the origin o
+pub record Led (o : Origin) : Type 0 where
   pub came : Came
   pub path : List ℕ
-  pub told : came_of o ≡ came
+  pub told : origin_of came ≡ o
 
 -- what the offer of r in l gives, however it was led to
-abbrev pub Offers : List ℕ → ℕ → List ℤ → Turn → ℕ → Option Origin → Reduced → List ℤ → Turn → Type 0
+abbrev pub Offers : List ℕ → ℕ → List ℤ → Turn → ℕ → Origin → Reduced → List ℤ → Turn → Type 0
 Offers b slots s t l o r s' t' =
     (p : Led o) → Continues b slots s t (λ q. offer (system_of b) (zones_of b) slots q (node_at l p.came p.path) (result_of t.safe r)) s' t'
 

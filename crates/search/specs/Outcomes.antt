@@ -1,10 +1,11 @@
 -- The outcome of a search, as the code has it: the definition's for each of its cases.
-use Rattle.std.specs.Prelude.{ℕ, ◌+◌, ◌*◌, ◌≤◌, Bool, true, false, Option, None, Some}
+use Rattle.std.specs.Prelude.{ℕ, ◌+◌, ◌*◌, ◌≤◌, Bool, true, false, ◌≡◌, pos, negsuc}
 use Rattle.reachability.specs.Search as definition
 use Rattle.automata.specs.Numbers.{number}
 use Rattle.automata.specs.declared.refusals.Refusal.{Refusal}
-use Rattle.slots.specs.declared.origin.Origin.{Origin}
-use Rattle.search.specs.Store.{most_slots}
+use Rattle.slots.specs.declared.slot.Origin.{Origin}
+use Rattle.zones.specs.Integers.{up}
+use Rattle.search.specs.Store.{origin_of, most_slots}
 use Rattle.zones.specs.declared.fraction.Fraction.{Fraction}
 use Rattle.zones.specs.Fractions.{lowered_by}
 use Rattle.search.specs.declared.outcome.Dropped.{Dropped}
@@ -13,14 +14,19 @@ use Rattle.search.specs.declared.outcome.Outcome.{Outcome}
 use Rattle.search.specs.declared.outcome.Outcome.TheVariants.{Going, Reached, Refused}
 
 -- where a zone came from, by its origin
-unfoldable pub came_of : Option Origin → definition.Came
-came_of None = definition.first_zone
-came_of (Some o) = definition.by_edge o.parent o.edge
+unfoldable pub came_of : Origin → definition.Came
+came_of o = elim o.parent [ pos j ↦ definition.by_edge j (up o.edge) | negsuc n ↦ definition.first_zone ]
 
 unfoldable pub outcome_of : Outcome → definition.Outcome
 outcome_of Going = definition.going
 outcome_of (Reached o) = definition.ended (definition.reached (came_of o))
 outcome_of (Refused k) = definition.ended (definition.refused (number k))
+
+-- the origin told is one that a slot tells
+abbrev pub Honest : Outcome → Type 0
+Honest Going = Unit {0}
+Honest (Reached o) = origin_of (came_of o) ≡ o
+Honest (Refused k) = Unit {0}
 
 -- ---- the turns after t, the exact fraction being `exact`
 -- "counted as again when every pair equals that of the kept zone, and as inside otherwise"
@@ -49,7 +55,7 @@ abbrev pub kept_by : Turn → Fraction → Turn
 kept_by t exact = record { count = t.count + 1; exact = exact; safe = t.safe; dropped = t.dropped; outcome = Going }
 
 -- a zone at the target, of the origin o
-abbrev pub reached_by : Turn → Fraction → Option Origin → Turn
+abbrev pub reached_by : Turn → Fraction → Origin → Turn
 reached_by t exact o = record { count = t.count; exact = exact; safe = t.safe; dropped = t.dropped; outcome = Reached o }
 
 -- a refusal by k

@@ -3,9 +3,10 @@ use Rattle.std.specs.Prelude.{ℕ, ◌/◌, cond, List, [], ◌∷◌, ◌++◌,
 use Rattle.zones.specs.declared.pair.Pair.{Pair}
 use Rattle.reachability.specs.Search.{Came, first_zone, by_edge, Node}
 use Rattle.slots.specs.Slots.{slot_length, no_origin, origin_along, head_of, slot_of}
+use Rattle.slots.specs.declared.slot.Origin.{Origin}
 
 -- where a zone came from, as its slot tells it
-unfoldable pub origin_of : Came → ℤ × ℤ
+unfoldable pub origin_of : Came → Origin
 origin_of first_zone = no_origin
 origin_of (by_edge parent edge) = origin_along parent edge
 

@@ -22,8 +22,7 @@ use automata::fields::Edge;
 use automata::opened::Automaton;
 use automata::refusals::Refusal;
 use slots::containment::{inside_of, is_within, largest_count};
-use slots::origin::Origin;
-use slots::slot::{decode, encode, keep, slot_length};
+use slots::slot::{Origin, decode, encode, keep, slot_length};
 use zones::fraction::Fraction;
 use zones::pair::Pair;
 use zones::reduction::Reduced;
@@ -69,7 +68,7 @@ fn judge(
     turn: Turn,
     capacity: usize,
     l: usize,
-    origin: Option<Origin>,
+    origin: Origin,
     w: Work,
 ) -> Turn
     requires there { (l < locations automaton.now.bytes.now) × (l ≡ target automaton.now.bytes.now → ⊥) }
@@ -111,7 +110,7 @@ fn offer(
     turn: Turn,
     capacity: usize,
     l: usize,
-    origin: Option<Origin>,
+    origin: Origin,
     r: Reduced,
 ) -> Turn
     requires there { l < locations automaton.now.bytes.now }
@@ -141,7 +140,7 @@ fn arrive(
     turn: Turn,
     capacity: usize,
     l: usize,
-    origin: Option<Origin>,
+    origin: Origin,
     w: Work,
     resets: [bool; 9],
 ) -> Turn
@@ -162,7 +161,7 @@ fn follow(
     store: &mut [i32],
     turn: Turn,
     capacity: usize,
-    origin: Option<Origin>,
+    origin: Origin,
     i: usize,
     edge: Edge,
     w: Work,
@@ -212,7 +211,7 @@ fn expand(
         if edge.from == l {
             let exact = t.exact;
             w.fraction = exact;
-            let origin = Some(Origin { parent, edge: i });
+            let origin = Origin::along(parent, i);
             t = follow(automaton, store, t, capacity, origin, i, edge, w);
             if t.has_ended() {
                 return t;
@@ -277,7 +276,7 @@ pub fn explore(automaton: &Automaton, store: &mut [i32]) -> Turn
         first,
         capacity,
         l,
-        None,
+        Origin::none(),
         Work::first(),
         [false; 9],
     );

@@ -4,15 +4,15 @@ ghost use Rattle.zones.specs.Ranges.{Fits32};
 ghost use Rattle.search.specs.Outcomes.{outcome_of, has_ended, Few, most_offers, dropped_with, emptied_by, contained_by, refused_by};
 
 use automata::refusals::Refusal;
-use slots::origin::Origin;
+use slots::slot::Origin;
 use zones::fraction::Fraction;
 
-// A search that goes on, or has stopped: at the target, by a zone that came so, or by a refusal. One that goes on when
+// A search that goes on, or has stopped: at the target, by a zone of the origin told, or by a refusal. One that goes on when
 // no zone is left to take holds.
 #[derive(Clone, Copy)]
 pub enum Outcome {
     Going,
-    Reached(Option<Origin>),
+    Reached(Origin),
     Refused(Refusal),
 }
 

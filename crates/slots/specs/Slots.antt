@@ -1,13 +1,14 @@
 -- "location, then pairs row by row, m before p"; "Each slot gains two numbers after the location .., so a slot takes 3 + 2(n + 1)²."
 -- A slot as one codec: its length, how it is written, and how it is read.
 -- Here `n` is the number of indices, clocks + 1; a place k of a zone's square is row k / 9 and column k % 9.
-use Rattle.std.specs.Prelude.{ℕ, zero, suc, ◌+◌, ◌-◌, ◌*◌, ◌%◌, ◌<◌, ◌≡◌, cond, List, [], ◌∷◌, ◌++◌, ltb, get_or, set, replicate, ℤ, pos}
-use Rattle.std.specs.Prelude.{negsuc, Option, None, Some}
+use Rattle.std.specs.Prelude.{ℕ, zero, suc, ◌+◌, ◌-◌, ◌*◌, ◌%◌, ◌<◌, ◌≡◌, Bool, cond, List, [], ◌∷◌, ◌++◌, ltb, get_or, set, replicate, ℤ, pos}
+use Rattle.std.specs.Prelude.{negsuc}
+use Rattle.std.specs.Int.Signed.{non_neg}
 use Rattle.zones.specs.declared.pair.Pair.{Pair}
 use Rattle.zones.specs.Containment.{place_of}
 use Rattle.zones.specs.Integers.{up}
 use Rattle.zones.specs.Pairs.{zero_pair}
-use Rattle.slots.specs.declared.origin.Origin.{Origin}
+use Rattle.slots.specs.declared.slot.Origin.{Origin}
 
 -- ---- what stands where
 -- the numbers before the pairs: the location, and where the zone came from
@@ -46,20 +47,18 @@ flat [] = []
 flat (q ∷ qs) = q.m ∷ pos q.p ∷ flat qs
 
 -- "the slot it came from and the edge taken, counted from 0, both −1 for the first zone"
-abbrev pub no_origin : ℤ × ℤ
-no_origin = (negsuc 0, negsuc 0)
+abbrev pub no_origin : Origin
+no_origin = record { parent = negsuc 0; edge = negsuc 0 }
 
-abbrev pub origin_along : ℕ → ℕ → ℤ × ℤ
-origin_along parent edge = (pos parent, pos edge)
+abbrev pub origin_along : ℕ → ℕ → Origin
+origin_along parent edge = record { parent = pos parent; edge = pos edge }
 
--- the two numbers that tell it
-unfoldable pub told_of : Option Origin → ℤ × ℤ
-told_of None = no_origin
-told_of (Some o) = origin_along o.parent o.edge
+abbrev pub is_along : Origin → Bool
+is_along o = non_neg o.parent
 
 -- the numbers before the pairs, of a zone of location l
-unfoldable pub head_of : ℕ → ℤ × ℤ → List ℤ
-head_of l o = pos l ∷ o.0 ∷ o.1 ∷ []
+unfoldable pub head_of : ℕ → Origin → List ℤ
+head_of l o = pos l ∷ o.parent ∷ o.edge ∷ []
 
 unfoldable pub slot_of : ℕ → List ℤ → List Pair → List ℤ
 slot_of n h z = h ++ flat (pairs_of n z)
@@ -68,13 +67,8 @@ slot_of n h z = h ++ flat (pairs_of n z)
 abbrev pub slot_location : List ℤ → ℤ
 slot_location s = get_or s 0 (pos 0)
 
--- where a zone came from, by its two numbers: from no slot where the first is negative
-unfoldable pub origin_read : ℤ → ℤ → ℤ × ℤ
-origin_read (pos parent) edge = origin_along parent (up edge)
-origin_read (negsuc n) edge = no_origin
-
-abbrev pub slot_origin : List ℤ → ℤ × ℤ
-slot_origin s = origin_read (get_or s 1 (pos 0)) (get_or s 2 (pos 0))
+abbrev pub slot_origin : List ℤ → Origin
+slot_origin s = record { parent = get_or s 1 (pos 0); edge = get_or s 2 (pos 0) }
 
 -- pair t
 abbrev pub slot_pair : List ℤ → ℕ → Pair

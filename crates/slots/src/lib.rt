@@ -2,5 +2,4 @@
 #![tactic(auto)]
 
 pub mod containment;
-pub mod origin;
 pub mod slot;

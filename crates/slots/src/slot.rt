@@ -3,10 +3,9 @@ ghost use Rattle.std.specs.Prelude.{◌≡◌, ◌++◌, ℕ, ◌+◌, ◌*◌, 
 ghost use Rattle.zones.specs.Integers.{up};
 ghost use Rattle.zones.specs.Ranges.{AllBounded, Bounded, last_counts};
 ghost use Rattle.runs.specs.Limits.{scale};
-ghost use Rattle.slots.specs.Slots.{fields, slot_length, spare, m_at, p_at, told_of, head_of, slot_of};
+ghost use Rattle.slots.specs.Slots.{fields, slot_length, spare, m_at, p_at, no_origin, origin_along, is_along, head_of, slot_of};
 ghost use Rattle.slots.specs.Slots.{slot_origin, slot_pair, zone_of};
 
-use crate::origin::Origin;
 use zones::pair::Pair;
 
 // The numbers before the pairs: the location, and the origin.
@@ -20,6 +19,60 @@ pub const FIRST_P: usize = FIELDS + 1;
 // The longest slot: of nine indices.
 const LONGEST: usize = 165;
 
+// Where a zone came from: the slot, and the edge taken; both −1 for the first zone, in document 02's words. They stay the slot's own numbers: whatever
+// two numbers a slot has, these are what is read of it, which an Option of a slot and an edge has no room for.
+#[derive(Clone, Copy)]
+pub struct Origin {
+    pub parent: i32,
+    pub edge: i32,
+}
+
+impl Origin {
+    // The first zone's.
+    pub fn none() -> Origin
+        ensures { result ≡ no_origin }
+    {
+        Origin {
+            parent: -1,
+            edge: -1,
+        }
+    }
+
+    // From a slot along an edge.
+    pub fn along(parent: usize, edge: usize) -> Origin
+        requires { (parent < 2147483648) × (edge < 2147483648) }
+        ensures { result ≡ origin_along parent edge }
+    {
+        Origin {
+            parent: parent as i32,
+            edge: edge as i32,
+        }
+    }
+
+    // Whether there is a slot that it came from.
+    pub fn is_along(self) -> bool
+        ensures { result ≡ is_along self }
+    {
+        let parent = self.parent;
+        0 <= parent
+    }
+
+    // That slot, and the edge.
+    pub fn slot(self) -> usize
+        requires { pos 0 ≤ℤ self.parent }
+        ensures { result ≡ up self.parent }
+    {
+        self.parent as usize
+    }
+
+    pub fn edge(self) -> usize
+        requires { pos 0 ≤ℤ self.edge }
+        ensures { result ≡ up self.edge }
+    {
+        self.edge as usize
+    }
+}
+
 // The number of numbers of a slot, for a zone of `size` indices.
 pub fn slot_length(size: usize) -> usize
     requires { size ≤ 9 }
@@ -28,31 +81,25 @@ pub fn slot_length(size: usize) -> usize
     FIELDS + 2 * (size * size)
 }
 
-// The numbers before the pairs, and zeros after them: the first zone came from no slot, for which both numbers are −1.
-fn headed(location: usize, origin: Option<Origin>) -> [i32; LONGEST]
+// The numbers before the pairs, and zeros after them.
+fn headed(location: usize, origin: Origin) -> [i32; LONGEST]
     requires { location < 256 }
-    ensures { result ≡ head_of location (told_of origin) ++ replicate (spare 0) (pos 0) }
+    ensures { result ≡ head_of location origin ++ replicate (spare 0) (pos 0) }
 {
     let mut slot = [0; LONGEST];
+    let parent = origin.parent;
+    let edge = origin.edge;
     slot[0] = location as i32;
-    match origin {
-        Some(o) => {
-            slot[1] = o.parent as i32;
-            slot[2] = o.edge as i32;
-        }
-        None => {
-            slot[1] = -1;
-            slot[2] = -1;
-        }
-    }
+    slot[1] = parent;
+    slot[2] = edge;
     slot
 }
 
 // The slot of a zone, and zeros after it.
-pub fn encode(location: usize, origin: Option<Origin>, z: [Pair; 81], size: usize) -> [i32; LONGEST]
+pub fn encode(location: usize, origin: Origin, z: [Pair; 81], size: usize) -> [i32; LONGEST]
     requires size_bound { (size ≤ 9) × (location < 256) }
     requires all_bounded { AllBounded scale last_counts size z }
-    ensures { result ≡ slot_of size (head_of location (told_of origin)) z ++ replicate (spare size) (pos 0) }
+    ensures { result ≡ slot_of size (head_of location origin) z ++ replicate (spare size) (pos 0) }
 {
     let mut slot = headed(location, origin);
     for i in 0..size {
@@ -73,20 +120,14 @@ fn put_pair(slot: &mut [i32; LONGEST], t: usize, q: Pair)
 }
 
 // Where the zone of a slot came from.
-pub fn origin_of(slot: &[i32]) -> Option<Origin>
+pub fn origin_of(slot: &[i32]) -> Origin
     requires { fields ≤ length slot.now }
-    ensures { told_of result ≡ slot_origin slot.now }
+    ensures { result ≡ slot_origin slot.now }
 {
-    let parent = slot[1];
-    let edge = slot[2];
-    let first = parent < 0;
-    if first {
-        return None;
+    Origin {
+        parent: slot[1],
+        edge: slot[2],
     }
-    Some(Origin {
-        parent: parent as usize,
-        edge: edge.max(0) as usize,
-    })
 }
 
 // The zone of a slot, (0, 0) outside its rows and columns.

@@ -1,5 +1,6 @@
 -- The run written from its end back: what stands in the buffer after each turn, and how the definition goes on from there.
 use Prim.Native.Nat.{ℕ, suc, ◌+◌, ◌*◌, ◌≤◌, ◌<◌}
+use mathlib.Core.Bool.{Bool, true, false}
 use mathlib.Core.List.{List, [], ◌∷◌, ◌++◌, append_assoc}
 use mathlib.Core.Path.{◌≡◌, refl, sym, ap, ◌∙◌}
 use lib.IntN.{ℤ, pos}
@@ -20,24 +21,24 @@ use Rattle.search.specs.Answers.{state_of}
 use Rattle.search.specs.Instance.{ZoneNode, zones_of, meaning_of}
 use Rattle.search.specs.Outcomes.{came_of}
 use Rattle.search.specs.Store.{capacity_of}
-use Rattle.std.specs.Prelude.{Option, None, Some}
+use Rattle.search.proofs.exploration.Judging.{came_back}
 use Rattle.search.proofs.instance.Obeys.{laws}
-use Rattle.slots.specs.declared.origin.Origin.{Origin}
-use Rattle.slots.specs.Slots.{told_of}
+use Rattle.slots.specs.declared.slot.Origin.{Origin}
+use Rattle.slots.specs.Slots.{is_along}
 use Rattle.witness.specs.declared.Back.{Back}
 use Rattle.witness.specs.Sizes.{AllUpTo}
 use Rattle.witness.specs.Witnesses.{clocks_of}
 use Rattle.zones.specs.declared.pair.Pair.{Pair}
+use Rattle.zones.specs.Integers.{up}
 use Rattle.run_writer.specs.Branch.{kept_of, Ended, Standing, origin_before, zone_before, jumps_before}
 use Rattle.run_writer.specs.Crossing.{witnesses_of, Crosses, back_along, landing_along}
 use Rattle.run_writer.specs.Writing.{run_of}
 use Rattle.run_writer.proofs.Witnessing.{crosses}
-use Rattle.run_writer.proofs.branch.Stepping.{source, zone_is, sound_zone, came_before}
-use Rattle.run_writer.proofs.branch.Walking.{along}
+use Rattle.run_writer.proofs.branch.Stepping.{source, zone_is, sound_zone, origin_is}
+use Rattle.run_writer.proofs.branch.Walking.{Along, along, first, edge_is}
 use Rattle.run_writer.proofs.crossing.Along.{landing_state}
 
--- ---- a zone that came along an edge
-module _ {b : List ℕ} {amount : ℕ} {s : List ℤ} (e : Ended b amount s) {o : Origin} (st : Standing b amount (Some o)) where
+module _ {b : List ℕ} {amount : ℕ} {s : List ℤ} (e : Ended b amount s) {o : Origin} (st : Standing b amount o) where
   abbrev ks : List ZoneNode
   ks = kept_of b amount
 
@@ -48,35 +49,48 @@ module _ {b : List ℕ} {amount : ℕ} {s : List ℤ} (e : Ended b amount s) {o 
       all_tight (system_of b) (zones_of b) (meaning_of b) 1 0 1 0 L.shapes L.exact (L.exact_falls 1 0) c
       (exact_there (system_of b) (zones_of b) (meaning_of b) 1 0 L c)
 
-  pub crosses_back : {z : List Pair} → z ≡ zone_before b amount o → Crosses b o.edge z
-  crosses_back g =
-      let k = source e st in
-      let j = along st in
-      let t = tights o.parent k j.kept in
-      rw (g ∙ zone_is e st)
-      (crosses b e.accepted o.edge k.zone st.node.zone j.before j.after j.edge (sound_zone e st) t.shape t.fit
-      j.made j.fine.1)
+  -- ---- a zone that came along an edge
+  module _ (h : is_along o ≡ true) where
+    abbrev a : Along st
+    a = along st h
 
-  -- the last state of the run to it
-  pub last_along : {z : List Pair} {r : List ℕ} → z ≡ zone_before b amount o → r ≡ landing_along b o.edge z
-      → r ≡ last_state (witnesses_of b) (kept_of b amount) (came_of (Some o))
-  unfolding last_state came_of
-  last_along g r =
-      r ∙ ap (landing_along b o.edge) (g ∙ zone_is e st) ∙ sym (rw (last_state, nth_tail ks o.parent (source e st) (along st).kept))
+    pub crosses_back : {i : ℕ} {z : List Pair} → i ≡ up o.edge → z ≡ zone_before b amount o → Crosses b i z
+    crosses_back f g =
+        let k = source e st h in
+        let j = a.jumps in
+        let t = tights a.parent k j.kept in
+        rw (f ∙ edge_is st a, g ∙ zone_is e st h)
+        (crosses b e.accepted a.edge k.zone st.node.zone j.before j.after j.edge (sound_zone e st h) t.shape t.fit
+        j.made j.fine.1)
 
-  -- one step of the definition
-  pub back_step : (m : ℕ) (v : List ℕ) (xs : List Step) {z : List Pair} {r : Back} (o' : Option Origin)
-      → z ≡ zone_before b amount o → r ≡ back_along b o.edge z v → told_of o' ≡ origin_before b amount o
-      → back_to (witnesses_of b) (suc m) (kept_of b amount) (came_of (Some o)) v xs
-      ≡ back_to (witnesses_of b) m (kept_of b amount) (came_of o') r.state (jump o.edge ∷ wait r.wait ∷ xs)
-  unfolding back_to came_of
-  back_step m v xs {r = w} o' g r p =
-      let w≡ = r ∙ ap (λ z. back_along b o.edge z v) (g ∙ zone_is e st) in
-      let c≡ = came_before e st o' p in
-      rw (back_to, nth_tail ks o.parent (source e st) (along st).kept)
-      (λ x. back_to (witnesses_of b) m ks (sym c≡ x) (sym w≡ x).state (jump o.edge ∷ wait (sym w≡ x).wait ∷ xs))
+    -- the last state of the run to it
+    pub last_along : {i : ℕ} {z : List Pair} {r : List ℕ} → i ≡ up o.edge → z ≡ zone_before b amount o → r ≡ landing_along b i z
+        → r ≡ last_state (witnesses_of b) (kept_of b amount) (came_of o)
+    unfolding last_state
+    last_along f g r =
+        let k = source e st h in
+        r ∙ (λ x. landing_along b ((f ∙ edge_is st a) x) ((g ∙ zone_is e st h) x))
+        ∙ sym (rw (a.came, last_state, nth_tail ks a.parent k a.jumps.kept))
 
-module _ {b : List ℕ} {amount : ℕ} {s : List ℤ} (e : Ended b amount s) where
+    -- one step of the definition
+    pub back_step : (m : ℕ) (v : List ℕ) (xs : List Step) {i : ℕ} {z : List Pair} {r : Back} {o' : Origin} → i ≡ up o.edge
+        → z ≡ zone_before b amount o → r ≡ back_along b i z v → o' ≡ origin_before b amount o
+        → back_to (witnesses_of b) (suc m) (kept_of b amount) (came_of o) v xs
+        ≡ back_to (witnesses_of b) m (kept_of b amount) (came_of o') r.state (jump i ∷ wait r.wait ∷ xs)
+    unfolding back_to
+    back_step m v xs {r = w} f g r p =
+        let k = source e st h in
+        let i≡ = f ∙ edge_is st a in
+        let w≡ = r ∙ (λ x. back_along b (i≡ x) ((g ∙ zone_is e st h) x) v) in
+        let c≡ = ap came_of (p ∙ origin_is e st h) ∙ came_back k.came in
+        rw (a.came, back_to, nth_tail ks a.parent k a.jumps.kept)
+        (λ x. back_to (witnesses_of b) m ks (sym c≡ x) (sym w≡ x).state (jump (sym i≡ x) ∷ wait (sym w≡ x).wait ∷ xs))
+
+  -- ---- the first zone
+  pub last_first : is_along o ≡ false → replicate 9 0 ≡ last_state (witnesses_of b) (kept_of b amount) (came_of o)
+  unfolding last_state
+  last_first h = ap (last_state (witnesses_of b) ks) (sym (first st h))
+
   -- no clock of the last state is above the scale
   zeros : (y : ℕ) → clocks_of (replicate 9 0) y ≤ scale
   zeros y = go (dec_lt y 9)
@@ -85,12 +99,12 @@ module _ {b : List ℕ} {amount : ℕ} {s : List ℤ} (e : Ended b amount s) whe
       go (yes h) = omega (arith, get_or-replicate {A = ℕ} 9 y 0 0 h)
       go (no h) = omega (arith, get_or-eq_default {A = ℕ} (replicate 9 0) 0 {n = y} (omega (arith, length-replicate {A = ℕ} 9 0)))
 
-  pub last_small : {o : Option Origin} → Standing b amount o → {v : List ℕ}
-      → v ≡ last_state (witnesses_of b) (kept_of b amount) (came_of o) → AllUpTo scale v
-  unfolding last_state came_of
-  last_small {o = None} st f y = rw f (zeros y)
-  last_small {o = Some o} st f y =
-      rw (f ∙ sym (last_along e st refl refl)) ((landing_state b e.accepted _ _ (crosses_back e st refl)).most y)
+  pub last_small : {v : List ℕ} → v ≡ last_state (witnesses_of b) (kept_of b amount) (came_of o) → AllUpTo scale v
+  last_small {v} f y = go (is_along o) refl
+    where
+      go : (t : Bool) → is_along o ≡ t → clocks_of v y ≤ scale
+      go true h = rw (f ∙ sym (last_along h refl refl refl)) ((landing_state b e.accepted _ _ (crosses_back h refl refl)).most y)
+      go false h = rw (f ∙ sym (last_first h)) (zeros y)
 
 -- ---- the buffer: two numbers become x and y
 two_more : (r R : List ℤ) (n : ℕ) (x y : ℤ) → n + 2 ≤ length r → set (set (take (n + 2) r ++ R) n x) (n + 1) y ≡ take n r ++ (x ∷ y ∷ R)
@@ -108,13 +122,13 @@ two_more r R n x y h =
     (set_at (front ++ (x ∷ [])) q R y (suc n) last ∙ append_snoc front x (y ∷ R))
 
 -- ---- with `left` jumps to go: the steps after them are written, and the definition goes on from the state v of a zone of the origin o
-pub record Filled (b : List ℕ) (amount : ℕ) (r₀ run : List ℤ) (k : ℕ) (o₀ o : Option Origin) (v : List ℕ) (left : ℕ) : Type 0 where
+pub record Filled (b : List ℕ) (amount : ℕ) (r₀ run : List ℤ) (k : ℕ) (o₀ o : Origin) (v : List ℕ) (left : ℕ) : Type 0 where
   pub steps : List Step
   pub rest : back_to (witnesses_of b) left (kept_of b amount) (came_of o) v steps ≡ run_of b (state_of b amount) (came_of o₀)
   pub count : length (jumps steps) + left ≡ k
   pub buffer : run ≡ take (2 * left + 2) r₀ ++ (numbers steps ++ drop (2 * k + 2) r₀)
 
-pub fill_none : {b : List ℕ} {amount : ℕ} {o : Option Origin} {k : ℕ} {v : List ℕ} (r : List ℤ) → k ≡ jumps_before b amount o
+pub fill_none : {b : List ℕ} {amount : ℕ} {o : Origin} {k : ℕ} {v : List ℕ} (r : List ℤ) → k ≡ jumps_before b amount o
     → v ≡ last_state (witnesses_of b) (kept_of b amount) (came_of o) → Filled b amount r r k o o v k
 fill_none {b} {amount} {o} {k} r e f = record {
   steps = [];
@@ -123,9 +137,9 @@ fill_none {b} {amount} {o} {k} r e f = record {
   buffer = sym (take-append-drop (2 * k + 2) r);
 }
 
-module _ {b : List ℕ} {amount : ℕ} {r₀ run : List ℤ} {k : ℕ} {o₀ o : Option Origin} {v : List ℕ} where
+module _ {b : List ℕ} {amount : ℕ} {r₀ run : List ℤ} {k : ℕ} {o₀ o : Origin} {v : List ℕ} where
   -- one jump more
-  pub fill_turn : {left' left : ℕ} (i : ℕ) (r : Back) {o' : Option Origin} → left' ≡ left + 1 → 2 * left' + 2 ≤ length r₀
+  pub fill_turn : {left' left : ℕ} (i : ℕ) (r : Back) {o' : Origin} → left' ≡ left + 1 → 2 * left' + 2 ≤ length r₀
       → Filled b amount r₀ run k o₀ o v left'
       → ((m : ℕ) (xs : List Step) → back_to (witnesses_of b) (suc m) (kept_of b amount) (came_of o) v xs
       ≡ back_to (witnesses_of b) m (kept_of b amount) (came_of o') r.state (jump i ∷ wait r.wait ∷ xs))

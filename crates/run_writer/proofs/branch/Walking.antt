@@ -1,9 +1,11 @@
 -- The walk back over the slots: from a zone's origin to the slot that it names, and to that slot's own origin.
 use Prim.Native.Nat.{ℕ, suc, ◌+◌, ◌-◌, ◌*◌, ◌≤◌}
+use mathlib.Core.Bool.{true, false, cond}
 use mathlib.Core.List.{List, [], ◌∷◌, ◌++◌}
-use mathlib.Core.Path.{◌≡◌, sym, ap, ◌∙◌, subst}
-use lib.IntN.{ℤ}
+use mathlib.Core.Path.{◌≡◌, refl, sym, ap, ◌∙◌, subst}
+use lib.IntN.{ℤ, pos}
 use lib.ListN.{length, drop, take, length-append}
+use lib.Signed.{◌≤ℤ◌}
 use native.Mathlib.Nat.{le_trans, mul-le-mul_right}
 use native.Mathlib.Omega.{arith}
 use Rattle.automata.specs.Automata.{clocks}
@@ -13,28 +15,30 @@ use Rattle.reachability.specs.Search.{Came, first_zone, by_edge, Nth}
 use Rattle.reachability.proofs.Branches.{path_is, branches}
 use Rattle.reachability.proofs.Lists.{nth_lt}
 use Rattle.reachability.proofs.Robust.{exact_there}
+use Rattle.runs.proofs.Contradictions.{true_false}
 use Rattle.search.specs.Answers.{state_of}
 use Rattle.search.specs.Exploring.{SoundState}
 use Rattle.search.specs.Instance.{ZoneNode, zones_of, meaning_of}
 use Rattle.search.specs.Outcomes.{came_of}
 use Rattle.search.specs.Store.{origin_of, most_slots, capacity_of}
 use Rattle.search.proofs.answers.Given.{final_sound}
-use Rattle.search.proofs.exploration.Judging.{n≤, origin_back}
+use Rattle.search.proofs.exploration.Judging.{n≤, came_back}
 use Rattle.search.proofs.exploration.Stores.{SlotAt, slot_at, store_length, capacity_room, capacity_small, slot_fits, lent_part}
 use Rattle.search.proofs.instance.Obeys.{laws}
-use Rattle.slots.specs.declared.origin.Origin.{Origin}
-use Rattle.slots.specs.Slots.{slot_length, slot_origin}
+use Rattle.slots.specs.declared.slot.Origin.{Origin}
+use Rattle.slots.specs.Slots.{slot_length, origin_along, is_along, slot_origin}
 use Rattle.slots.proofs.slot.Codec.{slot_origin_lem}
-use Rattle.std.specs.Prelude.{Option, Some}
-use Rattle.run_writer.specs.Branch.{kept_of, Ended, Standing}
+use Rattle.zones.specs.Integers.{up}
+use Rattle.zones.proofs.pairs.Integers.{le_make}
+use Rattle.run_writer.specs.Branch.{kept_of, Ended, Standing, jumps_before}
 
 -- the slots that are still to come, at most: each zone came from an older one
-abbrev pub left_of : Came → ℕ
-left_of first_zone = 0
-left_of (by_edge j i) = suc j
+abbrev pub left_of : Origin → ℕ
+left_of o = cond (is_along o) (suc (up o.parent)) 0
 
-pub left_branch : (b : List ℕ) (amount place : ℕ) (k : ZoneNode) (c : Came)
-    → Branch (system_of b) (zones_of b) (λ f. (meaning_of b).Exact f 1 0) (kept_of b amount) place k c → left_of c ≤ place
+left_branch : (b : List ℕ) (amount place : ℕ) (k : ZoneNode) (c : Came)
+    → Branch (system_of b) (zones_of b) (λ f. (meaning_of b).Exact f 1 0) (kept_of b amount) place k c → left_of (origin_of c) ≤ place
+unfolding origin_of
 left_branch b amount place k first_zone h = omega arith
 left_branch b amount place k (by_edge j i) h = h.earlier
 
@@ -61,20 +65,9 @@ module _ {b : List ℕ} {amount : ℕ} {s : List ℤ} (e : Ended b amount s) whe
   pub few : length (kept_of b amount) ≤ most_slots
   few = omega (arith, sound.most, capacity_small n amount)
 
-  pub came : Branches (system_of b) (zones_of b) (λ f. (meaning_of b).Exact f 1 0) (kept_of b amount)
+  came : Branches (system_of b) (zones_of b) (λ f. (meaning_of b).Exact f 1 0) ks
   came = branches (system_of b) (zones_of b) (λ f. (meaning_of b).Exact f 1 0) ((laws b e.accepted).exact_falls 1 0) capacity
       (exact_there (system_of b) (zones_of b) (meaning_of b) 1 0 (laws b e.accepted) capacity)
-
-  -- a jump leads to one zone more than to the zone that it leaves
-  pub one_more : (place : ℕ) (k : ZoneNode) (j i : ℕ)
-      (x : Jumps (system_of b) (zones_of b) (λ f. (meaning_of b).Exact f 1 0) (kept_of b amount) place k j i)
-      → length (path_of (kept_of b amount) (by_edge j i)) ≡ suc (length (path_of (kept_of b amount) x.parent.came))
-  one_more place k j i x =
-      let here : path_of ks (by_edge j i) ≡ x.parent.path ++ (i ∷ []) =
-      path_is (system_of b) (zones_of b) (λ f. (meaning_of b).Exact f 1 0) ks place k (by_edge j i) x ∙ x.path in
-      let there : path_of ks x.parent.came ≡ x.parent.path =
-      path_is (system_of b) (zones_of b) (λ f. (meaning_of b).Exact f 1 0) ks j x.parent x.parent.came (came j x.parent x.kept) in
-      omega (arith, ap length here, ap length there, length-append x.parent.path (i ∷ []))
 
   -- ---- the node at j, in its slot
   module _ (j : ℕ) (k : ZoneNode) (m : Nth (kept_of b amount) j k) where
@@ -87,25 +80,88 @@ module _ {b : List ℕ} {amount : ℕ} {s : List ℤ} (e : Ended b amount s) whe
     pub origin_at : {at : ℕ} → at ≡ j * slot_length (suc (clocks b)) → slot_origin (take (length s - at) (drop at s)) ≡ origin_of k.came
     origin_at {at} h =
         ap slot_origin (lent_part s at ∙ ap (λ (i : ℕ). drop i s) h ∙ slot_of.same)
-        ∙ slot_origin_lem n k.at (origin_of k.came) k.zone slot_of.rest ∙ origin_back k.came
+        ∙ slot_origin_lem n k.at (origin_of k.came) k.zone slot_of.rest
 
-    pub left_at : left_of k.came ≤ j
+    pub left_at : left_of (origin_of k.came) ≤ j
     left_at = left_branch b amount j k k.came (came j k m)
 
     -- a zone of the search stands there too
-    pub standing : {o : Option Origin} → came_of o ≡ k.came → Standing b amount o
-    standing e = record {
+    pub standing : Standing b amount (origin_of k.came)
+    standing = record {
       came = k.came;
-      told = e;
+      told = refl;
       place = j;
       most = omega (arith, nth_lt ks j k m);
       node = k;
       branch = came j k m;
     }
 
--- ---- an origin of a slot and an edge
-module _ {b : List ℕ} {amount : ℕ} {o : Origin} (st : Standing b amount (Some o)) where
-  -- the jump from that slot
-  pub along : Jumps (system_of b) (zones_of b) (λ f. (meaning_of b).Exact f 1 0) (kept_of b amount) st.place st.node o.parent o.edge
-  unfolding came_of
-  along = rw (sym st.told) at st.branch
+-- ---- an origin, and what it tells
+module _ {b : List ℕ} {amount : ℕ} {o : Origin} (st : Standing b amount o) where
+  pub came_is : came_of o ≡ st.came
+  came_is = ap came_of (sym st.told) ∙ came_back st.came
+
+  -- a slot and an edge
+  pub record Along : Type 0 where
+    pub parent : ℕ
+    pub edge : ℕ
+    pub told : o ≡ origin_along parent edge
+    pub came : came_of o ≡ by_edge parent edge
+    pub jumps : Jumps (system_of b) (zones_of b) (λ f. (meaning_of b).Exact f 1 0) (kept_of b amount) st.place st.node parent edge
+
+  pub along : is_along o ≡ true → Along
+  unfolding origin_of
+  along h = go st.came refl st.branch
+    where
+      go : (c : Came) → st.came ≡ c
+          → Branch (system_of b) (zones_of b) (λ f. (meaning_of b).Exact f 1 0) (kept_of b amount) st.place st.node st.came → Along
+      go first_zone g x = true_false (sym h ∙ ap is_along (sym st.told ∙ ap origin_of g))
+      go (by_edge j i) g x = record {
+        parent = j;
+        edge = i;
+        told = sym st.told ∙ ap origin_of g;
+        came = came_is ∙ g;
+        jumps = subst (Branch (system_of b) (zones_of b) (λ f. (meaning_of b).Exact f 1 0) (kept_of b amount) st.place st.node) g x;
+      }
+
+  -- none
+  pub first : is_along o ≡ false → came_of o ≡ first_zone
+  unfolding origin_of
+  first h = go st.came refl
+    where
+      go : (c : Came) → st.came ≡ c → came_of o ≡ first_zone
+      go first_zone g = came_is ∙ g
+      go (by_edge j i) g = true_false (ap is_along (sym (ap origin_of g) ∙ st.told) ∙ h)
+
+  pub none_left : is_along o ≡ false → jumps_before b amount o ≡ 0
+  unfolding path_of
+  none_left h = ap (λ c. length (path_of (kept_of b amount) c)) (first h)
+
+  pub left_most : left_of o ≤ st.place
+  left_most = subst (λ (x : Origin). left_of x ≤ st.place) st.told (left_branch b amount st.place st.node st.came st.branch)
+
+  module _ (a : Along) where
+    pub left_is : left_of o ≡ suc a.parent
+    left_is = ap left_of a.told
+
+    pub parent_is : up o.parent ≡ a.parent
+    parent_is = ap (λ (x : Origin). up x.parent) a.told
+
+    pub edge_is : up o.edge ≡ a.edge
+    edge_is = ap (λ (x : Origin). up x.edge) a.told
+
+    pub asks_edge : pos 0 ≤ℤ o.edge
+    asks_edge = subst (λ (x : Origin). pos 0 ≤ℤ x.edge) (sym a.told) (le_make (pos 0) (pos a.edge) (omega arith))
+
+    -- one jump more than to the zone of the slot that it names
+    pub one_more : {s : List ℤ} → Ended b amount s → jumps_before b amount o ≡ suc (jumps_before b amount (origin_of a.jumps.parent.came))
+    one_more e =
+        let ks = kept_of b amount in
+        let k = a.jumps.parent in
+        let here : path_of ks (came_of o) ≡ k.path ++ (a.edge ∷ []) =
+        ap (path_of ks) came_is
+        ∙ path_is (system_of b) (zones_of b) (λ f. (meaning_of b).Exact f 1 0) ks st.place st.node st.came st.branch ∙ a.jumps.path in
+        let there : path_of ks (came_of (origin_of k.came)) ≡ k.path =
+        ap (path_of ks) (came_back k.came)
+        ∙ path_is (system_of b) (zones_of b) (λ f. (meaning_of b).Exact f 1 0) ks a.parent k k.came (came e a.parent k a.jumps.kept) in
+        omega (arith, ap length here, ap length there, length-append k.path (a.edge ∷ []))

@@ -7,7 +7,7 @@ use mathlib.Core.Logic.{⊎_elim}
 use borrow.Author.Tests.{eq-eqb, ne_eqb}
 use lib.IntN.{ℤ}
 use lib.ListN.{length}
-use Rattle.std.specs.Prelude.{Option, Result, Ok, Err}
+use Rattle.std.specs.Prelude.{Result, Ok, Err}
 use native.Mathlib.Nat.{eq-zero-or-pos}
 use native.Mathlib.Omega.{arith}
 use Rattle.zones.specs.declared.fraction.Fraction.{Fraction}
@@ -20,7 +20,7 @@ use Rattle.search.specs.declared.verdict.Verdict.TheVariants as verdict
 use Rattle.search.specs.declared.outcome.Outcome.{Outcome}
 use Rattle.search.specs.declared.outcome.Outcome.TheVariants.{Going, Reached}
 use Rattle.search.specs.declared.outcome.Outcome.TheVariants as outcome
-use Rattle.slots.specs.declared.origin.Origin.{Origin}
+use Rattle.slots.specs.declared.slot.Origin.{Origin}
 use Rattle.search.specs.declared.verdict.Holding.TheVariants.{AnyError, Below}
 use Rattle.automata.specs.Automata.{clocks}
 use Rattle.automata.specs.Numbers.{number, named}
@@ -53,7 +53,7 @@ module _ {x : Outcome} (exact safe : Fraction) (zones : ℕ) (d : Dropped) where
   unfolding outcome_of findings_of
   finds_holding e f g = rw e (ap Ok (g ∙ (λ i. found_of (Holds (f i)) exact zones d)))
 
-  pub finds_reached : {o : Option Origin} → x ≡ Reached o → {y : Findings} → y ≡ found_of verdict.Reached exact zones d →
+  pub finds_reached : {o : Origin} → x ≡ Reached o → {y : Findings} → y ≡ found_of verdict.Reached exact zones d →
       Ok y ≡ findings_of (outcome_of x) (fractions_of exact safe) zones d
   unfolding outcome_of findings_of
   finds_reached e g = rw e (ap Ok g)

@@ -14,7 +14,6 @@ use Rattle.zones.specs.Ranges.{Fits32, Sized, counts}
 use Rattle.zones.specs.Settled.{Settled}
 use Rattle.zones.specs.Successors.{meet_of}
 use Rattle.zones.specs.Zones.{set_of}
-use Rattle.std.specs.Prelude.{Option}
 use Rattle.automata.specs.declared.fields.Edge.{Edge}
 use Rattle.search.specs.Outcomes.{emptied_by}
 use Rattle.search.specs.declared.outcome.Turn.{Turn}
@@ -22,13 +21,13 @@ use Rattle.automata.specs.Accepted.{Accepted}
 use Rattle.automata.specs.Automata.{clocks, edges, locations, to, guard_of, resets_of, invariant_of}
 use Rattle.search.specs.Exploring.{Offers, arrival_of, successor_of, SoundResult, SoundZone}
 use Rattle.automata.specs.Opened.{edge_of}
-use Rattle.slots.specs.declared.origin.Origin.{Origin}
+use Rattle.slots.specs.declared.slot.Origin.{Origin}
 use Rattle.search.proofs.exploration.Judging.{gives_empty}
 use Rattle.search.proofs.exploration.Sounding.{node_sized, follow_sound}
 use Rattle.search.proofs.successor.Stepping.{followed_none, followed, guard_scale, met_safe, met_sized, met_settled, resets_are}
 
 -- an offer gives the same, by whatever name its location and its zone go
-pub gives_of : (b : List ℕ) (capacity : ℕ) (s : List ℤ) (turn : Turn) (s' : List ℤ) (t : Turn) {l l' : ℕ} {o : Option Origin} {r r' : Reduced} →
+pub gives_of : (b : List ℕ) (capacity : ℕ) (s : List ℤ) (turn : Turn) (s' : List ℤ) (t : Turn) {l l' : ℕ} {o : Origin} {r r' : Reduced} →
     l ≡ l' → r ≡ r' → Offers b capacity s turn l o r s' t → Offers b capacity s turn l' o r' s' t
 gives_of b capacity s turn s' t e f g p = rw (← e, ← f) (g p)
 
@@ -43,7 +42,7 @@ module _ (b : List ℕ) (a : Accepted b) (i : ℕ) (hi : i < edges b) (w : Work)
     emptied_fits =
         met_safe (clocks b) a.complete.clocks≤ w refl counts (omega arith) (omega arith) (guard_of b i) (guard_scale b a i hi) taken_sized e
 
-    pub follows_none : is_empty r ≡ true → (capacity : ℕ) (s : List ℤ) (turn : Turn) (o : Option Origin) → {t : Turn} →
+    pub follows_none : is_empty r ≡ true → (capacity : ℕ) (s : List ℤ) (turn : Turn) (o : Origin) → {t : Turn} →
         t ≡ emptied_by turn r.work.fraction (safe_of r) → Offers b capacity s turn (to b i) o (successor_of b i w) s t
     follows_none f capacity s turn o {t} g =
         gives_of b capacity s turn s t refl

@@ -1,7 +1,7 @@
 -- The search from its first zone on: what the code's whole search shows.
 -- Assumes nothing.
 use Prim.Native.Nat.{ℕ, suc, ◌*◌, ◌≤◌}
-use mathlib.Core.Path.{◌≡◌, refl, ap}
+use mathlib.Core.Path.{◌≡◌, refl, sym, ap, ◌∙◌}
 use mathlib.Core.Bool.{true, false}
 use mathlib.Core.List.{List, []}
 use lib.IntN.{ℤ}
@@ -13,7 +13,7 @@ use Rattle.zones.specs.Successors.{enter_of}
 use Rattle.zones.specs.Zones.{first_work}
 use Rattle.search.specs.declared.outcome.Outcome.TheVariants.{Going}
 use Rattle.search.specs.declared.outcome.Turn.{Turn}
-use Rattle.search.specs.Outcomes.{came_of, outcome_of, has_ended, Few}
+use Rattle.search.specs.Outcomes.{outcome_of, has_ended, Few}
 use Rattle.automata.specs.Accepted.{Accepted}
 use Rattle.automata.specs.Automata.{clocks, start, invariant_of}
 use Rattle.search.specs.Exploring.{Shown, Live, Offers, Continues}
@@ -21,9 +21,9 @@ use Rattle.search.specs.Exploring as exploring
 use Rattle.search.specs.Instance.{ZoneState, fractions_of, zones_of, result_of, entering, search_of}
 use Rattle.reachability.specs.Search.{first_zone, first_node, nothing, begin, take_from, search}
 use Rattle.automata.specs.Semantics.{system_of}
-use Rattle.std.specs.Prelude.{None}
-use Rattle.slots.specs.Slots.{slot_length}
-use Rattle.search.specs.Store.{store_of, slots_of, most_slots, capacity_of}
+use Rattle.slots.specs.declared.slot.Origin.{Origin}
+use Rattle.slots.specs.Slots.{slot_length, no_origin}
+use Rattle.search.specs.Store.{origin_of, store_of, slots_of, most_slots, capacity_of}
 use Rattle.search.specs.Answers.{state_of}
 use Rattle.reachability.proofs.Accounts.{offer_drops}
 use Rattle.reachability.proofs.Later.{take-later}
@@ -51,7 +51,7 @@ module _ {b : List ℕ} (a : Accepted b) (s : List ℤ) {capacity : ℕ} (es : c
   blank-live : Live b capacity s blank s first_turn
   unfolding store_of slots_of outcome_of
   blank-live = record {
-    shown = record { number = refl; store = refl; exact = refl; safe = refl; again = refl; inside = refl; outcome = refl };
+    shown = record { number = refl; store = refl; exact = refl; safe = refl; again = refl; inside = refl; outcome = refl; honest = tt };
     sound = nothing_sound b a capacity;
     goes = refl;
   }
@@ -62,11 +62,15 @@ module _ {b : List ℕ} (a : Accepted b) (s : List ℤ) {capacity : ℕ} (es : c
   room : capacity ≤ most_slots
   room = rw es (capacity_small (suc (clocks b)) (length s))
 
+  none : origin_of first_zone ≡ no_origin
+  unfolding origin_of
+  none = refl
+
   pub blank_going : exploring.Going b capacity s first_turn
   blank_going = record { base = s; state = blank; live = blank-live; long = long; few = room }
 
-  module _ {r : Reduced} (er : r ≡ enter_of (clocks b) (invariant_of b (start b)) first_work)
-      {s' : List ℤ} {t' : Turn} (g : Offers b capacity s first_turn (start b) None r s' t') where
+  module _ {r : Reduced} (er : r ≡ enter_of (clocks b) (invariant_of b (start b)) first_work) {o : Origin} (eo : o ≡ no_origin)
+      {s' : List ℤ} {t' : Turn} (g : Offers b capacity s first_turn (start b) o r s' t') where
     abbrev state : ZoneState
     state = begin (system_of b) (zones_of b) capacity
 
@@ -75,8 +79,7 @@ module _ {b : List ℕ} (a : Accepted b) (s : List ℤ) {capacity : ℕ} (es : c
     entered = ap (result_of no_limit) er
 
     shown : Shown (suc (clocks b)) s state s' t'
-    unfolding came_of
-    shown = rw entered at ((g (record { came = first_zone; path = []; told = refl })).shows s blank blank-live)
+    shown = rw entered at ((g (record { came = first_zone; path = []; told = none ∙ sym eo })).shows s blank blank-live)
 
     whole : take_from (system_of b) (zones_of b) capacity capacity 0 state ≡ state_of b (length s)
     unfolding search

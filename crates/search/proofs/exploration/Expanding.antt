@@ -1,7 +1,7 @@
 -- The edges of a taken node: what each turn of the code's loop shows.
 -- Assumes nothing.
 use Prim.Native.Nat.{ℕ, suc, ◌+◌, ◌-◌, ◌*◌, ◌<◌, ◌≤◌}
-use mathlib.Core.Path.{◌≡◌, sym, ap, ◌∙◌, subst}
+use mathlib.Core.Path.{◌≡◌, refl, sym, ap, ◌∙◌, subst}
 use mathlib.Core.Bool.{true, false}
 use mathlib.Core.List.{List, [], ◌∷◌, ◌++◌}
 use lib.IntN.{ℤ}
@@ -12,23 +12,26 @@ use Rattle.zones.specs.declared.pair.Pair.{Pair}
 use Rattle.zones.specs.declared.zone.Work.{Work}
 use Rattle.zones.specs.Ranges.{Fits32}
 use Rattle.search.specs.declared.outcome.Turn.{Turn}
-use Rattle.search.specs.Outcomes.{came_of, outcome_of, has_ended, Few, most_offers}
+use Rattle.search.specs.Outcomes.{outcome_of, has_ended, Few, most_offers}
 use Rattle.automata.specs.Accepted.{Accepted}
 use Rattle.automata.specs.Automata.{clocks, edges, from, to}
 use Rattle.search.specs.Exploring.{SoundState, SoundZone, Shown, Live, Going, Offers, node_at, successor_of}
 use Rattle.search.specs.Instance.{ZoneState, ZoneNode, work_of, result_of, following, zones_of}
 use Rattle.reachability.specs.Search.{Came, by_edge, going, child, follow, expand}
 use Rattle.automata.specs.Semantics.{system_of}
-use Rattle.std.specs.Prelude.{Some}
-use Rattle.slots.specs.declared.origin.Origin.{Origin}
-use Rattle.slots.specs.Slots.{slot_length}
-use Rattle.search.specs.Store.{most_slots}
+use Rattle.slots.specs.declared.slot.Origin.{Origin}
+use Rattle.slots.specs.Slots.{slot_length, origin_along}
+use Rattle.search.specs.Store.{origin_of, most_slots}
 use Rattle.reachability.proofs.Accounts.{offer_drops}
 use Rattle.reachability.proofs.Judged.{followed, follow_on}
 use Rattle.reachability.proofs.Later.{expand_later}
 use Rattle.search.proofs.exploration.Judging.{live-length}
 use Rattle.search.proofs.exploration.Ending.{still, stays}
 use Rattle.search.proofs.exploration.Sounding.{follow_sound, offer_sound}
+
+along : (j i : ℕ) → origin_of (by_edge j i) ≡ origin_along j i
+unfolding origin_of
+along j i = refl
 
 module _ (b : List ℕ) (capacity j l : ℕ) (z : List Pair) (c : Came) (p : List ℕ) where
   abbrev node : ZoneNode
@@ -106,8 +109,8 @@ module _ {b : List ℕ} {capacity j l : ℕ} {z : List Pair} {c : Came} {p : Lis
       taken-sound = subst (λ (x : Work). SoundZone b x.zone) (sym e) sz
 
       -- s' and t' are what the offer of its successor left
-      module _ (at : from b i ≡ l) {o : Origin} (ej : o.parent ≡ j) (ei : o.edge ≡ i) {s' : List ℤ} {t' : Turn}
-          (g : Offers b capacity s t (to b i) (Some o) (successor_of b i v) s' t') where
+      module _ (at : from b i ≡ l) {o : Origin} (eo : o ≡ origin_along j i) {s' : List ℤ} {t' : Turn}
+          (g : Offers b capacity s t (to b i) o (successor_of b i v) s' t') where
         abbrev next : ZoneState
         next = followed (system_of b) (zones_of b) capacity j (node_at l c p z) i w.state
 
@@ -119,8 +122,7 @@ module _ {b : List ℕ} {capacity j l : ℕ} {z : List Pair} {c : Came} {p : Lis
             λ k. result_of (w.live.shown.safe k) (successor_of b i (f k))
 
         shown : Shown (suc (clocks b)) s₀ next s' t'
-        unfolding came_of
-        shown = rw offered at ((g (record { came = by_edge j i; path = p ++ (i ∷ []); told = λ k. by_edge (ej k) (ei k) })).shows s₀ w.state w.live)
+        shown = rw offered at ((g (record { came = by_edge j i; path = p ++ (i ∷ []); told = along j i ∙ sym eo })).shows s₀ w.state w.live)
 
         sound : SoundState b capacity next
         sound =

@@ -10,7 +10,7 @@ use mathlib.Core.Bool.{Bool, true, false}
 use mathlib.Core.List.{List, [], ◌∷◌, ◌++◌}
 use borrow.Author.Tests.{lt-ltb, le-ltb, eq-eqb, ne_eqb}
 use lib.Dec.{eqb}
-use lib.IntN.{ℤ, pos, negsuc}
+use lib.IntN.{ℤ, pos}
 use lib.Signed.{◌≤ℤ◌}
 use lib.ListN.{length, get_or, take, drop, replicate, length-append}
 use native.Mathlib.Omega.{arith}
@@ -20,10 +20,11 @@ use Rattle.zones.specs.declared.reduction.Reduced.{Reduced}
 use Rattle.zones.specs.declared.zone.Work.{Work}
 use Rattle.zones.specs.Containment.{equal, inside_below, largest_count}
 use Rattle.zones.specs.Fractions.{no_limit, lowered_by}
-use Rattle.std.specs.Prelude.{Option, None, Some}
+use Rattle.std.specs.Prelude.{Option, Some}
 use Rattle.std.specs.Option.{unwrap_or}
 use Rattle.zones.specs.Ranges.{AllBounded, Sized, Fits32, counts, last_counts}
 use Rattle.runs.specs.Limits.{scale}
+use Rattle.search.specs.declared.outcome.Outcome.TheVariants.{Reached}
 use Rattle.search.specs.declared.outcome.Turn.{Turn}
 use Rattle.search.specs.Outcomes.{came_of, outcome_of, Few, most_offers, dropped_with, emptied_by, contained_by, kept_by, reached_by, refused_by}
 use Rattle.automata.specs.Accepted.{Accepted}
@@ -39,40 +40,27 @@ use Rattle.search.specs.Instance.{Fractions, fractions_of, ZoneState, ZoneNode, 
 use Rattle.reachability.specs.Search as defined
 use Rattle.reachability.specs.Search.{Came, first_zone, by_edge, reached, refused, ended, Nth, none, find, dropping, judge, offer}
 use Rattle.automata.specs.Semantics.{system_of}
-use Rattle.slots.specs.Slots.{slot_length, spare, p_at, told_of, head_of, slot_of, origin_read, zone_of, Framed}
-use Rattle.zones.specs.Integers.{up}
+use Rattle.slots.specs.Slots.{slot_length, spare, p_at, head_of, slot_of, zone_of, Framed}
 use Rattle.slots.specs.Containing.{inside_slots, equal_slots, largest_slot, Readable, ComparableSlots}
-use Rattle.slots.specs.declared.origin.Origin.{Origin}
+use Rattle.slots.specs.declared.slot.Origin.{Origin}
 use Rattle.search.specs.Store.{origin_of, store_of}
 use Rattle.reachability.proofs.Judged.{Judged, was_target, was_inside, was_big, was_kept, was_full, computes}
 use Rattle.slots.proofs.slot.Codec.{head_size, slot_taken, slot_counts, slot_readable, slot_bounded, zone_of_slot, inside_slots_lem}
 use Rattle.slots.proofs.slot.Codec.{equal_slots_lem, largest_slot_lem}
 use Rattle.search.proofs.exploration.Stores.{slot_as, SlotAt, slot_at, store_length, store_more, hit_none, hit_first, slot_fits, lent_part}
 
--- an origin's numbers are those of its way, and it is read back out of them
-pub origin_told : (o : Option Origin) → told_of o ≡ origin_of (came_of o)
-unfolding told_of came_of origin_of
-origin_told None = refl
-origin_told (Some o) = refl
+-- the outcome that tells the origin is the definition's
+pub came_back : (c : Came) → came_of (origin_of c) ≡ c
+unfolding came_of origin_of
+came_back first_zone = refl
+came_back (by_edge j i) = refl
 
-pub origin_back : (c : Came) → origin_read (origin_of c).0 (origin_of c).1 ≡ origin_of c
-unfolding origin_read origin_of
-origin_back first_zone = refl
-origin_back (by_edge j i) = refl
+met_by : {o : Origin} {c : Came} → origin_of c ≡ o → outcome_of (Reached o) ≡ ended (reached c)
+unfolding outcome_of
+met_by {c = c} e = ap (λ x. ended (reached x)) (ap came_of (sym e) ∙ came_back c)
 
-came_told : ℤ × ℤ → Came
-came_told (pos parent, edge) = by_edge parent (up edge)
-came_told (negsuc n, edge) = first_zone
-
-told_back : (c : Came) → came_told (origin_of c) ≡ c
-unfolding origin_of came_told
-told_back first_zone = refl
-told_back (by_edge j i) = refl
-
-pub came_back : (o : Option Origin) (c : Came) → told_of o ≡ origin_of c → came_of o ≡ c
-unfolding told_of came_of came_told
-came_back None c e = ap came_told e ∙ told_back c
-came_back (Some o) c e = ap came_told e ∙ told_back c
+well_told : {o : Origin} (c : Came) → origin_of c ≡ o → origin_of (came_of o) ≡ o
+well_told c e = ap origin_of (ap came_of (sym e) ∙ came_back c) ∙ e
 
 -- the element at a place that is there
 pub record At {X : Type 0} (xs : List X) (j : ℕ) : Type 0 where
@@ -143,9 +131,9 @@ module _ (b : List ℕ) (a : Accepted b) where
 
   -- ---- the zone to be judged, in the state q that the store and the turn show
   module _ {capacity : ℕ} {s₀ : List ℤ} {q : ZoneState} {s : List ℤ} {turn : Turn} (d : Live b capacity s₀ q s turn)
-      {l : ℕ} (away : l ≡ target b → ⊥) (w : Work) {o : Option Origin} (p : Led o) (rest : List ℤ)
-      {j : ℕ} (h : FirstHit n (slot_of n (head_of l (told_of o)) w.zone ++ rest) s turn.count j) where
-    first : FirstHit n (slot_of n (head_of l (told_of o)) w.zone ++ rest) (store_of n q.kept s₀) (length q.kept) j
+      {l : ℕ} (away : l ≡ target b → ⊥) (w : Work) {o : Origin} (p : Led o) (rest : List ℤ)
+      {j : ℕ} (h : FirstHit n (slot_of n (head_of l o) w.zone ++ rest) s turn.count j) where
+    first : FirstHit n (slot_of n (head_of l o) w.zone ++ rest) (store_of n q.kept s₀) (length q.kept) j
     first = rw (d.shown.store, d.shown.number) at h
 
     abbrev to_judge : ZoneNode
@@ -174,6 +162,7 @@ module _ (b : List ℕ) (a : Accepted b) where
       again = d.shown.again;
       inside = d.shown.inside;
       outcome = refl;
+      honest = tt;
     }
 
     -- and one with one zone dropped
@@ -188,6 +177,7 @@ module _ (b : List ℕ) (a : Accepted b) where
       again = omega (arith, d.shown.again);
       inside = d.shown.inside;
       outcome = refl;
+      honest = tt;
     })
     dropped_as below {u = false} e x y = rw e (record {
       number = d.shown.number;
@@ -197,12 +187,13 @@ module _ (b : List ℕ) (a : Accepted b) where
       again = d.shown.again;
       inside = omega (arith, d.shown.inside);
       outcome = refl;
+      honest = tt;
     })
 
     -- it is inside a kept one: the oldest such counts
     judged_inside : j < turn.count → {at : ℕ} → at ≡ j * slot_length n → {below : Fraction} {t : Bool} →
-        below ≡ inside_slots (slot_of n (head_of l (told_of o)) w.zone ++ rest) (take (length s - at) (drop at s)) (n * n) →
-        t ≡ equal_slots (slot_of n (head_of l (told_of o)) w.zone ++ rest) (take (length s - at) (drop at s)) (n * n) →
+        below ≡ inside_slots (slot_of n (head_of l o) w.zone ++ rest) (take (length s - at) (drop at s)) (n * n) →
+        t ≡ equal_slots (slot_of n (head_of l o) w.zone ++ rest) (take (length s - at) (drop at s)) (n * n) →
         Shown n s₀ after s (contained_by turn w.fraction below t)
     unfolding lowered_inside
     judged_inside hj {at} e g u =
@@ -212,16 +203,16 @@ module _ (b : List ℕ) (a : Accepted b) where
         let hd = head_of m.node.at (origin_of m.node.came) in
         let hd≡ = head_size m.node.at (origin_of m.node.came) in
         let f : _ ≡ inside_below n w.zone m.node.zone =
-        g ∙ rw k (inside_slots_lem n (head_of l (told_of o)) (head_size l (told_of o)) w.zone rest hd hd≡ m.node.zone t.rest n≤) in
+        g ∙ rw k (inside_slots_lem n (head_of l o) (head_size l o) w.zone rest hd hd≡ m.node.zone t.rest n≤) in
         let v : _ ≡ equal n w.zone m.node.zone =
-        u ∙ rw k (equal_slots_lem n (head_of l (told_of o)) (head_size l (told_of o)) w.zone rest hd hd≡ m.node.zone t.rest n≤) in
-        shows (was_inside m.node off (hit_first b n≤ l (told_of o) w.zone q.kept s₀ rest j first m.node m.nth))
+        u ∙ rw k (equal_slots_lem n (head_of l o) (head_size l o) w.zone rest hd hd≡ m.node.zone t.rest n≤) in
+        shows (was_inside m.node off (hit_first b n≤ l o w.zone q.kept s₀ rest j first m.node m.nth))
         (dropped_as _ v (ap (lowered_by w.fraction) f) (ap (lowered_by turn.safe) f))
 
     -- no kept one contains it
     module _ (out : turn.count ≤ j) where
       alone : find (system_of b) (zones_of b) q.kept l w.zone ≡ none
-      alone = hit_none b n≤ l (told_of o) w.zone q.kept s₀ rest j first (omega (arith, d.shown.number))
+      alone = hit_none b n≤ l o w.zone q.kept s₀ rest j first (omega (arith, d.shown.number))
 
       judged_big : counts < largest_count n w.zone → Shown n s₀ after s (refused_by turn w.fraction ErrorCountTooLarge)
       unfolding overcounted
@@ -236,13 +227,12 @@ module _ (b : List ℕ) (a : Accepted b) where
         judged_full r = shows (was_full off alone counted (omega (arith, d.shown.number))) stopped_by
 
         judged_kept : turn.count < capacity → {at : ℕ} {s' : List ℤ} → at ≡ turn.count * slot_length n →
-            s' ≡ take at s ++ (take (slot_length n) (slot_of n (head_of l (told_of o)) w.zone ++ rest) ++ drop (at + slot_length n) s) →
+            s' ≡ take at s ++ (take (slot_length n) (slot_of n (head_of l o) w.zone ++ rest) ++ drop (at + slot_length n) s) →
             Shown n s₀ after s' (kept_by turn w.fraction)
         unfolding outcome_of
         judged_kept r {at} e f =
-            let t = slot_taken n (head_of l (told_of o)) (head_size l (told_of o)) w.zone rest n≤ in
-            let told : slot_of n (head_of l (told_of o)) w.zone ≡ slot_as n to_judge =
-            ap (λ (x : ℤ × ℤ). slot_of n (head_of l x) w.zone) (origin_told o ∙ ap origin_of p.told) in
+            let t = slot_taken n (head_of l o) (head_size l o) w.zone rest n≤ in
+            let told : slot_of n (head_of l o) w.zone ≡ slot_as n to_judge = ap (λ (x : Origin). slot_of n (head_of l x) w.zone) (sym p.told) in
             let m = store_more n n≤ q.kept to_judge s₀ at (e ∙ ap (λ (c : ℕ). c * slot_length n) d.shown.number) in
             shows (was_kept off alone counted (omega (arith, d.shown.number))) (record {
               number = omega (arith, d.shown.number, length-append q.kept (to_judge ∷ []));
@@ -252,10 +242,11 @@ module _ (b : List ℕ) (a : Accepted b) where
               again = d.shown.again;
               inside = d.shown.inside;
               outcome = refl;
+              honest = tt;
             })
 
 -- ---- the same, as the code has it: w has entered l, which is not the target, and `size` is the number of indices
-pub record Entered (b : List ℕ) (l : ℕ) (o : Option Origin) (w : Work) (capacity : ℕ) (turn : Turn) (s : List ℤ) (size : ℕ) : Type 0 where
+pub record Entered (b : List ℕ) (l : ℕ) (o : Origin) (w : Work) (capacity : ℕ) (turn : Turn) (s : List ℤ) (size : ℕ) : Type 0 where
   pub accepted : Accepted b
   pub location : l < locations b
   pub away : l ≡ target b → ⊥
@@ -265,7 +256,7 @@ pub record Entered (b : List ℕ) (l : ℕ) (o : Option Origin) (w : Work) (capa
   pub size≡ : size ≡ suc (clocks b)
 
 -- by what `judge` requires
-pub enters : (A : Automaton) (o : Option Origin) {l : ℕ} {w : Work} {capacity : ℕ} {turn : Turn} {s : List ℤ} →
+pub enters : (A : Automaton) (o : Origin) {l : ℕ} {w : Work} {capacity : ℕ} {turn : Turn} {s : List ℤ} →
     (l < locations A.bytes.now) × (l ≡ target A.bytes.now → ⊥) → exploring.Going A.bytes.now capacity s turn × Few most_offers turn.dropped →
     Sized last_counts (suc (clocks A.bytes.now)) w × Framed (suc (clocks A.bytes.now)) w.zone →
     Entered A.bytes.now l o w capacity turn s (A.clocks + 1)
@@ -279,7 +270,7 @@ enters A o there going sized = record {
   size≡ = size≡ A.counted;
 }
 
-module _ {b : List ℕ} {l : ℕ} {o : Option Origin} {w : Work} {capacity : ℕ} {turn : Turn} {s : List ℤ} {size : ℕ}
+module _ {b : List ℕ} {l : ℕ} {o : Origin} {w : Work} {capacity : ℕ} {turn : Turn} {s : List ℤ} {size : ℕ}
     (entered : Entered b l o w capacity turn s size) where
   abbrev a : Accepted b
   a = entered.accepted
@@ -294,9 +285,9 @@ module _ {b : List ℕ} {l : ℕ} {o : Option Origin} {w : Work} {capacity : ℕ
   asks_encode = rw es ((n≤ b a, omega (arith, entered.location, a.complete.locations≤)), entered.sized.ranged.bounded)
 
   -- the slot of w
-  module _ {new : List ℤ} (en : new ≡ slot_of size (head_of l (told_of o)) w.zone ++ replicate (spare size) (pos 0)) where
+  module _ {new : List ℤ} (en : new ≡ slot_of size (head_of l o) w.zone ++ replicate (spare size) (pos 0)) where
     pub asks_largest : Readable new (size * size)
-    asks_largest = rw en (slot_readable size (head_of l (told_of o)) (head_size l (told_of o)) w.zone _ (omega (arith, es, n≤ b a)))
+    asks_largest = rw en (slot_readable size (head_of l o) (head_size l o) w.zone _ (omega (arith, es, n≤ b a)))
 
     pub asks_find : (size ≤ 9) × (turn.count * slot_length size ≤ length s) × (slot_length size ≤ length new)
     asks_find = (omega (arith, es, n≤ b a), rw es (going_slots b a i), asks_largest.long)
@@ -309,12 +300,12 @@ module _ {b : List ℕ} {l : ℕ} {o : Option Origin} {w : Work} {capacity : ℕ
   slot_within e h = next_within e (omega (arith, going_count b a i))
 
   -- what each branch gives
-  module _ {new : List ℤ} (en : new ≡ slot_of size (head_of l (told_of o)) w.zone ++ replicate (spare size) (pos 0))
+  module _ {new : List ℤ} (en : new ≡ slot_of size (head_of l o) w.zone ++ replicate (spare size) (pos 0))
       {j : ℕ} (h : FirstHit size new s turn.count j) where
-    new≡ : new ≡ slot_of (n b a) (head_of l (told_of o)) w.zone ++ replicate (spare (n b a)) (pos 0)
-    new≡ = en ∙ ap (λ (k : ℕ). slot_of k (head_of l (told_of o)) w.zone ++ replicate (spare k) (pos 0)) es
+    new≡ : new ≡ slot_of (n b a) (head_of l o) w.zone ++ replicate (spare (n b a)) (pos 0)
+    new≡ = en ∙ ap (λ (k : ℕ). slot_of k (head_of l o) w.zone ++ replicate (spare k) (pos 0)) es
 
-    hits : FirstHit (n b a) (slot_of (n b a) (head_of l (told_of o)) w.zone ++ replicate (spare (n b a)) (pos 0)) s turn.count j
+    hits : FirstHit (n b a) (slot_of (n b a) (head_of l o) w.zone ++ replicate (spare (n b a)) (pos 0)) s turn.count j
     hits = rw (es, new≡) at h
 
     abbrev op : Led o → ZoneState → ZoneState
@@ -331,10 +322,9 @@ module _ {b : List ℕ} {l : ℕ} {o : Option Origin} {w : Work} {capacity : ℕ
           let k = m.node in
           let t = stored_slot b a d j k m.nth in
           rw (es, new≡, part b a s j at k here t) (record {
-            new_reads = slot_readable _ (head_of l (told_of o)) (head_size l (told_of o)) w.zone _ (n≤ b a);
+            new_reads = slot_readable _ (head_of l o) (head_size l o) w.zone _ (n≤ b a);
             old_reads = slot_readable _ (head_of k.at (origin_of k.came)) (head_size k.at (origin_of k.came)) k.zone _ (n≤ b a);
-            new_bounded = slot_bounded _ (head_of l (told_of o)) (head_size l (told_of o)) w.zone _
-                scale last_counts (n≤ b a) entered.sized.ranged.bounded;
+            new_bounded = slot_bounded _ (head_of l o) (head_size l o) w.zone _ scale last_counts (n≤ b a) entered.sized.ranged.bounded;
             old_bounded = slot_bounded _ (head_of k.at (origin_of k.came)) (head_size k.at (origin_of k.came)) k.zone _
                 scale last_counts (n≤ b a)
                 (node_bounded b a k (i.live.sound.nodes j k m.nth));
@@ -355,9 +345,7 @@ module _ {b : List ℕ} {l : ℕ} {o : Option Origin} {w : Work} {capacity : ℕ
 
     module _ (out : turn.count ≤ j) {most : ℕ} (em : most ≡ largest_slot new (size * size)) where
       largest : most ≡ largest_count (n b a) w.zone
-      largest =
-          em ∙ (λ i. largest_slot (new≡ i) (es i * es i))
-          ∙ largest_slot_lem _ (head_of l (told_of o)) (head_size l (told_of o)) w.zone _ (n≤ b a)
+      largest = em ∙ (λ i. largest_slot (new≡ i) (es i * es i)) ∙ largest_slot_lem _ (head_of l o) (head_size l o) w.zone _ (n≤ b a)
 
       pub gives_big : counts < most → (p : Led o) →
           Continues b capacity s turn (op p) s (refused_by turn w.fraction ErrorCountTooLarge)
@@ -383,7 +371,7 @@ pub lowers : (turn : Turn) (exact : Fraction) {safe : Fraction} {o : Option Frac
     emptied_by turn exact safe ≡ emptied_by turn exact (unwrap_or o no_limit)
 lowers turn exact e = ap (λ (o : Option Fraction). emptied_by turn exact (unwrap_or o no_limit)) (sym e)
 
-module _ (b : List ℕ) (capacity : ℕ) (s : List ℤ) (turn : Turn) (l : ℕ) {o : Option Origin} (r : Reduced) (p : Led o) where
+module _ (b : List ℕ) (capacity : ℕ) (s : List ℤ) (turn : Turn) (l : ℕ) {o : Origin} (r : Reduced) (p : Led o) where
   abbrev offers : ZoneState → ZoneState
   offers q = offer (system_of b) (zones_of b) capacity q (node_at l p.came p.path) (result_of turn.safe r)
 
@@ -398,6 +386,7 @@ module _ (b : List ℕ) (capacity : ℕ) (s : List ℤ) (turn : Turn) (l : ℕ) 
       again = d.shown.again;
       inside = d.shown.inside;
       outcome = refl;
+      honest = tt;
     });
   }
 
@@ -415,7 +404,8 @@ module _ (b : List ℕ) (capacity : ℕ) (s : List ℤ) (turn : Turn) (l : ℕ) 
           safe = refl;
           again = d.shown.again;
           inside = d.shown.inside;
-          outcome = ap (λ c. ended (reached c)) p.told;
+          outcome = met_by p.told;
+          honest = well_told p.came p.told;
         }));
   }
 

@@ -22,6 +22,7 @@ use Rattle.search.specs.Exploring.{Hits, FirstHit}
 use Rattle.search.specs.Instance.{ZoneNode, zones_of}
 use Rattle.reachability.specs.Search.{Found, none, found, Nth, find}
 use Rattle.automata.specs.Semantics.{system_of}
+use Rattle.slots.specs.declared.slot.Origin.{Origin}
 use Rattle.slots.specs.Slots.{slot_length, head_of, slot_of, slot_location}
 use Rattle.slots.specs.Containing.{within_slots}
 use Rattle.search.specs.Store.{origin_of, slots_of, store_of, most_slots, capacity_of}
@@ -156,7 +157,7 @@ pub misses_more : (n : ℕ) (new s : List ℤ) (j : ℕ) → ((i : ℕ) → i < 
 misses_more n new s j f g i h = up_to (λ i. Hits n new s i → ⊥) j f g i (omega arith)
 
 -- ---- the first slot that contains the new one is the node that the definition finds
-module _ (b : List ℕ) (n≤ : suc (clocks b) ≤ 9) (l : ℕ) (o : ℤ × ℤ) (z : List Pair) where
+module _ (b : List ℕ) (n≤ : suc (clocks b) ≤ 9) (l : ℕ) (o : Origin) (z : List Pair) where
   abbrev n : ℕ
   n = suc (clocks b)
 

@@ -32,7 +32,8 @@ use Rattle.zones.proofs.places.Inside.{bounded_place}
 use Rattle.zones.proofs.sets.Squares.{up_to}
 use Rattle.slots.specs.Slots.{fields, slot_length, m_at, p_at, pairs_to, pairs_of, flat, head_of, slot_of, slot_location, slot_pair, counted}
 use Rattle.slots.specs.Slots.{square_to}
-use Rattle.slots.specs.Slots.{slot_origin, origin_read, zone_of, Framed}
+use Rattle.slots.specs.Slots.{slot_origin, zone_of, Framed}
+use Rattle.slots.specs.declared.slot.Origin.{Origin}
 use Rattle.slots.specs.Containing.{compare_numbers, every_pair, within_slots, equal_slots, inside_slots, largest_slot, Readable}
 
 -- ---- how many places count
@@ -194,15 +195,15 @@ module _ (n : ℕ) (hd : List ℤ) (hd≡ : length hd ≡ fields) (z : List Pair
         (λ k h c ih. rw (lt-ltb (k % 9) n c, slot_p k h c, ih)) (λ k c ih. rw (le-ltb (k % 9) n c) ih)
 
 -- the head of a zone of location l, and what is read of it
-pub head_size : (l : ℕ) (o : ℤ × ℤ) → length (head_of l o) ≡ fields
+pub head_size : (l : ℕ) (o : Origin) → length (head_of l o) ≡ fields
 unfolding head_of
 head_size l o = refl
 
-pub slot_location_lem : (n l : ℕ) (o : ℤ × ℤ) (z : List Pair) (rest : List ℤ) → slot_location (slot_of n (head_of l o) z ++ rest) ≡ pos l
+pub slot_location_lem : (n l : ℕ) (o : Origin) (z : List Pair) (rest : List ℤ) → slot_location (slot_of n (head_of l o) z ++ rest) ≡ pos l
 unfolding slot_of head_of
 slot_location_lem n l o z rest = refl
 
-pub slot_origin_lem : (n l : ℕ) (o : ℤ × ℤ) (z : List Pair) (rest : List ℤ) → slot_origin (slot_of n (head_of l o) z ++ rest) ≡ origin_read o.0 o.1
+pub slot_origin_lem : (n l : ℕ) (o : Origin) (z : List Pair) (rest : List ℤ) → slot_origin (slot_of n (head_of l o) z ++ rest) ≡ o
 unfolding slot_of head_of
 slot_origin_lem n l o z rest = refl
 

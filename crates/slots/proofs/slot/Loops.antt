@@ -32,6 +32,7 @@ use Rattle.zones.specs.Ranges.{Fits32, ChoiceReady, last_counts, widest}
 use Rattle.runs.specs.Limits.{scale}
 use Rattle.runs.proofs.Contradictions.{true_false}
 use Rattle.zones.proofs.ranges.Ranges.{lowered_narrow, chosen_narrow, last_here}
+use Rattle.slots.specs.declared.slot.Origin.{Origin}
 use Rattle.slots.specs.Slots.{fields, longest, spare, m_at, p_at, pairs_to, flat, head_of, slot_of, slot_pair, counted, square_to}
 use Rattle.slots.specs.Containing.{compare_numbers, every_pair, within_slots, inside_slots, largest_slot, ComparableSlots}
 use Rattle.slots.proofs.slot.Codec.{counted_in, counted_out, counted_all, row_counted, rows_counted, pairs_in, pairs_out, pairs_length, head_size}
@@ -229,10 +230,10 @@ encoded n hd z k = (hd ++ flat (pairs_to n k z)) ++ replicate (longest - m_at (c
 abbrev pub head_in : List ℤ → List ℤ
 head_in slot = take fields slot
 
-pub head_in_lem : (l : ℕ) (o : ℤ × ℤ) {slot : List ℤ} → slot ≡ head_of l o ++ replicate (spare 0) (pos 0) → head_in slot ≡ head_of l o
+pub head_in_lem : (l : ℕ) (o : Origin) {slot : List ℤ} → slot ≡ head_of l o ++ replicate (spare 0) (pos 0) → head_in slot ≡ head_of l o
 head_in_lem l o e = rw e (take_at (head_of l o) (replicate (spare 0) (pos 0)) fields (head_size l o))
 
-module _ (n l : ℕ) (o : ℤ × ℤ) (z : List Pair) where
+module _ (n l : ℕ) (o : Origin) (z : List Pair) where
   pub encode_start : {slot : List ℤ} → slot ≡ head_of l o ++ replicate (spare 0) (pos 0) → slot ≡ encoded n (head_of l o) z (0 * 9)
   unfolding encoded pairs_to flat counted
   encode_start e = rw (append-nil (head_of l o)) e

@@ -42,11 +42,11 @@ module _ (c : After-edge-edge) where
       c.requires.going.0.base c.requires.going.0.state c.loop-i.i c.loop-i.store c.loop-i.t
   some = c.loop-i.invariant.1 first_zone [] c.requires.going.0.base c.requires.going.0.state c.requires.going.0.live
 
-pub invariant_of-origin : goal.invariant_of-origin
-invariant_of-origin c = record {
-  parent_small = omega (arith, c.requires.parent_kept.0);
-  edge_small = omega (arith, within (goal.at.invariant_of-origin c).After-edge-edge, c.args.automaton.now.accepted.complete.edges≤);
-}
+pub along-origin-requires : goal.along-origin-requires
+along-origin-requires c = (
+  omega (arith, c.requires.parent_kept.0),
+  omega (arith, within (goal.at.along-origin-requires c).After-edge-edge, c.args.automaton.now.accepted.complete.edges≤),
+)
 
 pub follow-t-requires : goal.follow-t-requires
 follow-t-requires c =
@@ -77,7 +77,7 @@ shape_of-store-then-has_ended c =
     (within (goal.at.shape_of-store-then-has_ended c).After-edge-edge) a pre.1
     (taken_is (goal.at.shape_of-store-then-has_ended c).After-edge-edge)
     (leaves (goal.at.shape_of-store-then-has_ended c).After-edge-edge c.if-edge-l.true)
-    refl refl c.follow-t.ensures pre.0.long
+    c.along-origin.ensures c.follow-t.ensures pre.0.long
     ∙ sym (going_length _ a pre.0)
 
 pub returns-then-has_ended : goal.returns-then-has_ended
@@ -87,7 +87,7 @@ returns-then-has_ended c =
     λ x p. record {
       shows = λ s₀ q₀ h. stops (c.loop-i.invariant.1 x p s₀ q₀ h) (within (goal.at.returns-then-has_ended c).After-edge-edge) a pre.1
           (taken_is (goal.at.returns-then-has_ended c).After-edge-edge)
-          (leaves (goal.at.returns-then-has_ended c).After-edge-edge c.if-edge-l.true) refl refl c.follow-t.ensures
+          (leaves (goal.at.returns-then-has_ended c).After-edge-edge c.if-edge-l.true) c.along-origin.ensures c.follow-t.ensures
           (sym c.has_ended.ensures ∙ c.if-has_ended.true);
     }
 
@@ -105,7 +105,7 @@ loop-i-preserved c =
           elim c.if-edge-l.branch [
             | then-edge-l+else-has_ended x ↦
                 rw (x.store-is, x.t-is) (goes_on between (within here) a pre.1 (taken_is here) (leaves here x.if-edge-l.true)
-                refl refl x.follow-t.ensures (sym x.has_ended.ensures ∙ x.if-has_ended.false))
+                x.along-origin.ensures x.follow-t.ensures (sym x.has_ended.ensures ∙ x.if-has_ended.false))
             | else-edge-l x ↦
                 rw (x.store-is, x.t-is)
                 (passes between (within here) (λ e. x.if-edge-l.false (ap (λ (k : Edge). k.from) c.edge-edge.ensures ∙ e)))

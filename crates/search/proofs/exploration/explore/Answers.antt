@@ -74,7 +74,7 @@ module _ (c : After-arrive-t) where
 
   offered : Begun bytes c.capacity_of-capacity.result c.args.store.now c.arrive-t.new.store c.arrive-t.result
   offered =
-      begun c.args.automaton.now.accepted _ room refl
+      begun c.args.automaton.now.accepted _ room refl c.none.ensures
       (gives_of _ _ _ _ _ _ c.start-l.ensures came c.arrive-t.ensures)
 
 pub returns-then-has_ended : goal.returns-then-has_ended
