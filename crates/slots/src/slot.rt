@@ -19,8 +19,8 @@ pub const FIRST_P: usize = FIELDS + 1;
 // The longest slot: of nine indices.
 const LONGEST: usize = 165;
 
-// Where a zone came from: the slot, and the edge taken; both −1 for the first zone, in document 02's words. They stay the slot's own numbers: whatever
-// two numbers a slot has, these are what is read of it, which an Option of a slot and an edge has no room for.
+// Where a zone came from: the slot, and the edge taken; both −1 for the first zone, in document 02's words. They are the slot's own numbers:
+// whatever two a slot has, these are what is read of it, which an Option of a slot and an edge has no room for.
 #[derive(Clone, Copy)]
 pub struct Origin {
     pub parent: i32,
