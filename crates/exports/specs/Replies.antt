@@ -1,6 +1,8 @@
 -- Answers as numbers: what a call gives back, and what it leaves in the places that were lent to it.
 use Rattle.std.specs.Prelude.{ℕ, Bool, cond, List, ◌∷◌, [], Option, Some, None, Result, Ok, Err, is_some}
+use Rattle.automata.specs.Numbers.{number}
 use Rattle.automata.specs.declared.refusals.Refusal.{Refusal}
+use Rattle.automata.specs.declared.refusals.Refusal.TheVariants.{UnsoundCache}
 use Rattle.search.specs.declared.verdict.Answer.{Answer}
 use Rattle.search.specs.declared.verdict.Findings.{Findings}
 use Rattle.search.specs.Verdicts.{numbers_of}
@@ -55,4 +57,4 @@ passes_told = after (λ yes old. cond yes 1 0)
 
 -- ---- a cache: 0, or 11
 unfoldable pub sound_number : Bool → ℕ
-sound_number t = cond t 0 11
+sound_number t = cond t 0 (number UnsoundCache)
