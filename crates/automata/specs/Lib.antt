@@ -7,5 +7,6 @@ pub mod Accepted
 pub mod Semantics
 pub mod Opened
 pub mod Canonical
+pub mod Constraints
 pub mod Forms
 pub mod Examples

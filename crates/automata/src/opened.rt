@@ -2,11 +2,12 @@
 // fetched from the bytes, and not copied out.
 ghost use Rattle.std.specs.Prelude.{◌≡◌, ◌+◌, ◌*◌, ◌≤◌, ◌<◌, length, IfOk};
 ghost use Rattle.automata.specs.Accepted.{Accepted};
-ghost use Rattle.automata.specs.Automata.{start, target, invariant_at, edge_at};
+ghost use Rattle.automata.specs.Automata.{clocks, locations, edges, start, target, invariant_at, edge_at};
 ghost use Rattle.automata.specs.Numbers.{number_in};
 ghost use Rattle.automata.specs.Opened.{Counted, edge_of, limits_of};
 ghost use Rattle.automata.specs.Refusals.{refusal_of};
 
+use crate::constraint::Constraint;
 use crate::fields;
 use crate::fields::{Edge, Limits};
 use crate::refusals::{Refusal, check};
@@ -23,6 +24,8 @@ pub struct Automaton<'a> {
 }
 
 impl<'a> Automaton<'a> {
+    ghost use Rattle.automata.specs.Constraints.{Constrains};
+
     // The automaton of the bytes, or why they are turned down.
     pub fn open(bytes: &'a [u8]) -> Result<Automaton<'a>, Refusal>
         ensures refusal { number_in result ≡ refusal_of bytes.now }
@@ -63,6 +66,30 @@ impl<'a> Automaton<'a> {
         ensures { result ≡ edge_at self.now.bytes.now i }
     {
         fields::edge_in(self.clocks, self.locations, i)
+    }
+
+    // The invariant of location l.
+    pub fn invariant(&self, l: usize) -> Constraint<'a>
+        requires { l < locations self.now.bytes.now }
+        ensures { Constrains self.now.bytes.now (invariant_at self.now.bytes.now l) result }
+    {
+        Constraint {
+            bytes: self.bytes,
+            at: self.invariant_at(l),
+            clocks: self.clocks,
+        }
+    }
+
+    // The guard of edge i.
+    pub fn guard(&self, i: usize) -> Constraint<'a>
+        requires { i < edges self.now.bytes.now }
+        ensures { Constrains self.now.bytes.now (edge_at self.now.bytes.now i + 3) result }
+    {
+        Constraint {
+            bytes: self.bytes,
+            at: self.edge_at(i) + 3,
+            clocks: self.clocks,
+        }
     }
 
     // Its edge i.
