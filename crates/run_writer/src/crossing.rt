@@ -79,7 +79,7 @@ impl<'a> Jump<'a> {
         let at = self.automaton.edge_at(self.edge) + 3;
         let w = Work {
             zone: self.zone,
-            fraction: Fraction { n: 1, d: 0 },
+            fraction: Fraction::NO_LIMIT,
         };
         narrow(&self.automaton, at, self.automaton.clocks, w, false)
     }

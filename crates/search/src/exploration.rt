@@ -262,8 +262,8 @@ pub fn explore(automaton: &Automaton, store: &mut [i32]) -> Turn
     let l = automaton.start();
     let first = Turn {
         count: 0,
-        exact: Fraction { n: 1, d: 0 },
-        safe: Fraction { n: 1, d: 0 },
+        exact: Fraction::NO_LIMIT,
+        safe: Fraction::NO_LIMIT,
         dropped: Dropped {
             again: 0,
             inside: 0,

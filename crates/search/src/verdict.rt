@@ -65,7 +65,7 @@ impl From<Holding> for Fraction {
 
     fn from(h: Holding) -> Fraction {
         match h {
-            Holding::AnyError => Fraction { n: 1, d: 0 },
+            Holding::AnyError => Fraction::NO_LIMIT,
             Holding::Below(f) => f,
         }
     }

@@ -51,7 +51,7 @@ pub fn inside_of(new: &[i32], old: &[i32], pairs: usize) -> Inside
     requires { ComparableSlots new.now old.now pairs }
     ensures { result ≡ inside_of new.now old.now pairs }
 {
-    let mut below = Fraction { n: 1, d: 0 };
+    let mut below = Fraction::NO_LIMIT;
     let mut equal = true;
     for t in 0..pairs {
         let a = get_pair(new, t);

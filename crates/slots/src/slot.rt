@@ -136,7 +136,7 @@ pub fn decode(slot: &[i32], size: usize) -> [Pair; 81]
     requires counts_natural { (t : ℕ) → t < size * size → pos 0 ≤ℤ get_or slot.now (p_at t) (pos 0) }
     ensures { result ≡ zone_of size slot.now }
 {
-    let mut z = [Pair { m: 0, p: 0 }; 81];
+    let mut z = [Pair::ZERO; 81];
     for i in 0..size {
         for j in 0..size {
             z[i * 9 + j] = get_pair(slot, i * size + j);

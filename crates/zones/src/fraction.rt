@@ -3,7 +3,7 @@ ghost use Rattle.std.specs.Prelude.{◌≡◌};
 ghost use Rattle.zones.specs.Fractions.{lowered_by, gcd_of, lowest_terms};
 ghost use Rattle.zones.specs.Ranges.{Fits32};
 
-// n/d: the error e/s must stay below it. 1/0 is no limit.
+// n/d: the error e/s must stay below it.
 #[derive(Clone, Copy)]
 pub struct Fraction {
     pub n: u64,
@@ -11,6 +11,9 @@ pub struct Fraction {
 }
 
 impl Fraction {
+    // It is above every other.
+    pub const NO_LIMIT: Fraction = Fraction { n: 1, d: 0 };
+
     // The lower of the two; on equality the one that is there.
     pub fn lowered(self, o: Fraction) -> Fraction
         requires { Fits32 self × Fits32 o }

@@ -63,6 +63,8 @@ pub(crate) struct Choice {
 }
 
 impl Pair {
+    pub const ZERO: Pair = Pair { m: 0, p: 0 };
+
     // An upper limit hi, loosened by the error.
     pub fn at_most(hi: u32) -> Pair
         ensures { result ≡ at_most hi }
@@ -107,7 +109,7 @@ impl Pair {
                 d: self.p - o.p,
             }
         } else {
-            Fraction { n: 1, d: 0 }
+            Fraction::NO_LIMIT
         }
     }
 

@@ -22,8 +22,8 @@ fn seen_with(seen: Option<Fraction>, q: Pair) -> Option<Fraction>
     ensures { result ≡ seen_with q seen }
 {
     if q.m < 0 {
-        let before = seen.unwrap_or(Fraction { n: 1, d: 0 });
-        return Some(before.lowered(q.threshold(Pair { m: 0, p: 0 })));
+        let before = seen.unwrap_or(Fraction::NO_LIMIT);
+        return Some(before.lowered(q.threshold(Pair::ZERO)));
     }
     seen
 }

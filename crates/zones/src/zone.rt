@@ -19,8 +19,8 @@ impl Work {
         ensures { result ≡ first_work }
     {
         Work {
-            zone: [Pair { m: 0, p: 0 }; 81],
-            fraction: Fraction { n: 1, d: 0 },
+            zone: [Pair::ZERO; 81],
+            fraction: Fraction::NO_LIMIT,
         }
     }
 

@@ -56,7 +56,7 @@ fn varied(z: [Pair; 81], t: u64) -> Work
     };
     Work {
         zone: y,
-        fraction: Fraction { n: 1, d: 0 },
+        fraction: Fraction::NO_LIMIT,
     }
 }
 
@@ -91,7 +91,7 @@ fn pair_of(at: usize) -> Pair
     let i = at / 9;
     let j = at % 9;
     if i == j {
-        return Pair { m: 0, p: 0 };
+        return Pair::ZERO;
     }
     Pair {
         m: ((17 * i + 13 * j) % 31 + 1) as i64,
