@@ -9,8 +9,12 @@ unfoldable pub some : ℕ → (ℕ → Bool) → Bool
 some zero f = false
 some (suc k) f = cond (f k) true (some k f)
 
+-- "n, m or E outside its range"
+abbrev pub out_of_counts : ℕ → ℕ → ℕ → Bool
+out_of_counts n m e = eqb n 0 || (ltb 8 n || (eqb m 0 || (ltb 64 m || ltb 256 e)))
+
 abbrev pub counts_out_of_range : List ℕ → Bool
-counts_out_of_range s = eqb (clocks s) 0 || (ltb 8 (clocks s) || (eqb (locations s) 0 || (ltb 64 (locations s) || ltb 256 (edges s))))
+counts_out_of_range s = out_of_counts (clocks s) (locations s) (edges s)
 
 -- "start, target, from or to is m or more"
 abbrev pub misplaced : ℕ → ℕ → ℕ → Bool

@@ -1,14 +1,24 @@
-// Document 01's card, a timed automaton as bytes: its fields, read where they lie.
+// Document 01's card, a timed automaton as bytes: its parts, read where they lie.
 ghost use Rattle.std.specs.Prelude.{◌≡◌, ◌+◌, ◌*◌, ◌≤◌, ◌<◌, length};
-ghost use Rattle.automata.specs.Accepted.{Complete};
-ghost use Rattle.automata.specs.Automata.{clocks, locations, edges, start, target, invariant_in, edge_in, invariant_at, edge_at, from, to};
-ghost use Rattle.automata.specs.Automata.{reset_byte, reset_set, lo_at, hi_at};
-ghost use Rattle.automata.specs.Opened.{edge_of, limits_of, upper_of};
+ghost use Rattle.automata.specs.Automata.{invariant_in, edge_in, reset_set};
+ghost use Rattle.automata.specs.Opened.{head_of, edge_there, limits_of, upper_of};
+ghost use Rattle.automata.specs.Refusals.{out_of_counts, out_of_range};
 
+use crate::refusals::SCALE;
 use encoding::{be16, be32};
 
 // The hi of a guard without an upper limit.
 pub const NO_UPPER: u32 = 4294967295;
+
+// The counts, the start and the target: what stands behind the length and the version.
+#[derive(Clone, Copy)]
+pub struct Head {
+    pub clocks: usize,
+    pub locations: usize,
+    pub start: usize,
+    pub target: usize,
+    pub edges: usize,
+}
 
 // The ends of an edge and, for each clock by its number, whether it is reset.
 #[derive(Clone, Copy)]
@@ -25,40 +35,28 @@ pub struct Limits {
     pub hi: u32,
 }
 
-// ---- the fields
-pub(crate) fn clocks(automaton: &[u8]) -> usize
-    requires { 11 ≤ length automaton.now }
-    ensures { result ≡ clocks automaton.now }
-{
-    usize::from(automaton[5])
-}
+impl Head {
+    pub fn read(bytes: &[u8]) -> Head
+        requires { 11 ≤ length bytes.now }
+        ensures { result ≡ head_of bytes.now }
+    {
+        Head {
+            clocks: usize::from(bytes[5]),
+            locations: usize::from(bytes[6]),
+            start: usize::from(bytes[7]),
+            target: usize::from(bytes[8]),
+            edges: usize::from(be16(bytes, 9)),
+        }
+    }
 
-pub(crate) fn locations(automaton: &[u8]) -> usize
-    requires { 11 ≤ length automaton.now }
-    ensures { result ≡ locations automaton.now }
-{
-    usize::from(automaton[6])
-}
-
-pub fn start(automaton: &[u8]) -> usize
-    requires { 11 ≤ length automaton.now }
-    ensures { result ≡ start automaton.now }
-{
-    usize::from(automaton[7])
-}
-
-pub fn target(automaton: &[u8]) -> usize
-    requires { 11 ≤ length automaton.now }
-    ensures { result ≡ target automaton.now }
-{
-    usize::from(automaton[8])
-}
-
-pub(crate) fn edges(automaton: &[u8]) -> usize
-    requires { 11 ≤ length automaton.now }
-    ensures { result ≡ edges automaton.now }
-{
-    usize::from(be16(automaton, 9))
+    // Whether a count is outside its range.
+    pub(crate) fn counts_out_of_range(self) -> bool
+        ensures { result ≡ out_of_counts self.clocks self.locations self.edges }
+    {
+        let n = self.clocks;
+        let m = self.locations;
+        n == 0 || 8 < n || m == 0 || 64 < m || 256 < self.edges
+    }
 }
 
 // ---- where the parts stand
@@ -78,45 +76,6 @@ pub fn edge_in(n: usize, m: usize, i: usize) -> usize
     11 + 8 * n * m + i * (3 + 8 * n)
 }
 
-// The same of an automaton, whose counts need not be in range.
-pub(crate) fn invariant_at(automaton: &[u8], l: usize) -> usize
-    requires { (11 ≤ length automaton.now) × (l < 256) }
-    ensures { result ≡ invariant_at automaton.now l }
-{
-    invariant_in(clocks(automaton), l)
-}
-
-pub(crate) fn edge_at(automaton: &[u8], i: usize) -> usize
-    requires { (11 ≤ length automaton.now) × (i < 65536) }
-    ensures { result ≡ edge_at automaton.now i }
-{
-    edge_in(clocks(automaton), locations(automaton), i)
-}
-
-pub(crate) fn edge_from(automaton: &[u8], i: usize) -> usize
-    requires complete { Complete automaton.now }
-    requires i_bound { i < edges automaton.now }
-    ensures { result ≡ from automaton.now i }
-{
-    usize::from(automaton[edge_at(automaton, i)])
-}
-
-pub(crate) fn edge_to(automaton: &[u8], i: usize) -> usize
-    requires complete { Complete automaton.now }
-    requires i_bound { i < edges automaton.now }
-    ensures { result ≡ to automaton.now i }
-{
-    usize::from(automaton[edge_at(automaton, i) + 1])
-}
-
-pub(crate) fn reset_byte(automaton: &[u8], i: usize) -> u8
-    requires complete { Complete automaton.now }
-    requires i_bound { i < edges automaton.now }
-    ensures { result ≡ reset_byte automaton.now i }
-{
-    automaton[edge_at(automaton, i) + 2]
-}
-
 // For each clock by its number, whether the byte resets it. Clock 0 is none.
 fn reset_set(b: u8) -> [bool; 9]
     ensures { result ≡ reset_set b }
@@ -134,56 +93,38 @@ fn reset_set(b: u8) -> [bool; 9]
     ]
 }
 
-fn edge_resets(automaton: &[u8], i: usize) -> [bool; 9]
-    requires complete { Complete automaton.now }
-    requires i_bound { i < edges automaton.now }
-    ensures { result ≡ reset_set (reset_byte automaton.now i) }
-{
-    reset_set(reset_byte(automaton, i))
-}
-
 impl Edge {
-    // Edge i.
-    pub(crate) fn read(automaton: &[u8], i: usize) -> Edge
-        requires { Complete automaton.now × (i < edges automaton.now) }
-        ensures { result ≡ edge_of automaton.now i }
+    // The edge that stands at `at`.
+    pub(crate) fn read(bytes: &[u8], at: usize) -> Edge
+        requires { at + 3 ≤ length bytes.now }
+        ensures { result ≡ edge_there bytes.now at }
     {
         Edge {
-            from: edge_from(automaton, i),
-            to: edge_to(automaton, i),
-            resets: edge_resets(automaton, i),
+            from: usize::from(bytes[at]),
+            to: usize::from(bytes[at + 1]),
+            resets: reset_set(bytes[at + 2]),
         }
     }
 }
 
-// The lo of clock x, counted from 1, among the limits at `at`.
-pub(crate) fn lo_at(automaton: &[u8], at: usize, x: usize) -> u32
-    requires x_nonzero { 0 < x }
-    requires x_in_bounds { at + 8 * x ≤ length automaton.now }
-    ensures { result ≡ lo_at automaton.now at x }
-{
-    be32(automaton, at + 8 * (x - 1))
-}
-
-// The hi of clock x, counted from 1, among the limits at `at`.
-pub(crate) fn hi_at(automaton: &[u8], at: usize, x: usize) -> u32
-    requires x_nonzero { 0 < x }
-    requires x_in_bounds { at + 8 * x ≤ length automaton.now }
-    ensures { result ≡ hi_at automaton.now at x }
-{
-    be32(automaton, at + 8 * (x - 1) + 4)
-}
-
 impl Limits {
     // Of clock x, counted from 1, among the limits at `at`.
-    pub(crate) fn read(automaton: &[u8], at: usize, x: usize) -> Limits
-        requires { (0 < x) × (at + 8 * x ≤ length automaton.now) }
-        ensures { result ≡ limits_of automaton.now at x }
+    pub fn read(bytes: &[u8], at: usize, x: usize) -> Limits
+        requires { (0 < x) × (at + 8 * x ≤ length bytes.now) }
+        ensures { result ≡ limits_of bytes.now at x }
     {
+        let there = at + 8 * (x - 1);
         Limits {
-            lo: lo_at(automaton, at, x),
-            hi: hi_at(automaton, at, x),
+            lo: be32(bytes, there),
+            hi: be32(bytes, there + 4),
         }
+    }
+
+    // Whether a lo or a hi is outside its range, which for a guard's hi has one number more: `may_lack` says which range it is.
+    pub(crate) fn out_of_range(self, may_lack: bool) -> bool
+        ensures { result ≡ out_of_range may_lack self.lo self.hi }
+    {
+        SCALE < self.lo || SCALE < self.hi && !(may_lack && self.hi == NO_UPPER)
     }
 
     // The hi, where there is one.

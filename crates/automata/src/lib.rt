@@ -5,3 +5,4 @@ pub mod constraint;
 pub mod fields;
 pub mod opened;
 pub mod refusals;
+mod whole;

@@ -1,15 +1,14 @@
 // Document 01's opened card: an automaton with its counts and the lent bytes that it was read from. Limits and edges are
 // fetched from the bytes, and not copied out.
-ghost use Rattle.std.specs.Prelude.{◌≡◌, ◌+◌, ◌*◌, ◌≤◌, ◌<◌, length, IfOk};
+ghost use Rattle.std.specs.Prelude.{◌≡◌, ◌+◌, ◌*◌, ◌≤◌, ◌<◌, IfOk};
 ghost use Rattle.automata.specs.Accepted.{Accepted};
 ghost use Rattle.automata.specs.Automata.{clocks, locations, edges, start, target, invariant_at, edge_at};
 ghost use Rattle.automata.specs.Numbers.{number_in};
-ghost use Rattle.automata.specs.Opened.{Counted, edge_of, limits_of};
+ghost use Rattle.automata.specs.Opened.{Counted, edge_of};
 ghost use Rattle.automata.specs.Refusals.{refusal_of};
 
 use crate::constraint::Constraint;
-use crate::fields;
-use crate::fields::{Edge, Limits};
+use crate::fields::{Edge, Head, edge_in, invariant_in};
 use crate::refusals::{Refusal, check};
 
 // An automaton that is not turned down, with the counts that it has.
@@ -31,25 +30,25 @@ impl<'a> Automaton<'a> {
         ensures refusal { number_in result ≡ refusal_of bytes.now }
         ensures opened { IfOk result (λ a. a.bytes ≡ bytes.entry) }
     {
-        check(bytes)?;
+        let head = check(bytes)?;
         Ok(Automaton {
             bytes,
-            clocks: fields::clocks(bytes),
-            locations: fields::locations(bytes),
-            edges: fields::edges(bytes),
+            clocks: head.clocks,
+            locations: head.locations,
+            edges: head.edges,
         })
     }
 
     pub fn start(&self) -> usize
         ensures { result ≡ start self.now.bytes.now }
     {
-        fields::start(self.bytes)
+        Head::read(self.bytes).start
     }
 
     pub fn target(&self) -> usize
         ensures { result ≡ target self.now.bytes.now }
     {
-        fields::target(self.bytes)
+        Head::read(self.bytes).target
     }
 
     // The place of the limits of location l.
@@ -57,7 +56,7 @@ impl<'a> Automaton<'a> {
         requires { l < 256 }
         ensures { result ≡ invariant_at self.now.bytes.now l }
     {
-        fields::invariant_in(self.clocks, l)
+        invariant_in(self.clocks, l)
     }
 
     // The place of edge i; of the first that is not there, the length.
@@ -65,7 +64,7 @@ impl<'a> Automaton<'a> {
         requires { i < 65536 }
         ensures { result ≡ edge_at self.now.bytes.now i }
     {
-        fields::edge_in(self.clocks, self.locations, i)
+        edge_in(self.clocks, self.locations, i)
     }
 
     // The invariant of location l.
@@ -97,14 +96,6 @@ impl<'a> Automaton<'a> {
         requires { i < self.now.edges }
         ensures { result ≡ edge_of self.now.bytes.now i }
     {
-        Edge::read(self.bytes, i)
-    }
-
-    // The limits of its clock x, counted from 1, among those at `at`.
-    pub fn limits(&self, at: usize, x: usize) -> Limits
-        requires { (0 < x) × (at + 8 * x ≤ length self.now.bytes.now) }
-        ensures { result ≡ limits_of self.now.bytes.now at x }
-    {
-        Limits::read(self.bytes, at, x)
+        Edge::read(self.bytes, self.edge_at(i))
     }
 }

@@ -1,11 +1,23 @@
--- Whether a number below k passes a test, as a loop that counts up finds it.
+-- Whether a number below k passes a test, as std's `any` finds it.
 -- Assumes nothing.
-use Prim.Native.Nat.{ℕ, zero, suc, ◌+◌, ◌<◌, ◌≤◌}
+use Prim.Native.Nat.{ℕ, zero, suc, ◌<◌}
+use denote.Param.Members.{Mut}
+use lib.ListN.{length}
 use mathlib.Core.Path.{◌≡◌, refl, sym, ap, ◌∙◌}
 use mathlib.Core.Bool.{Bool, true, false, cond}
+use mathlib.Core.List.{List}
 use native.Mathlib.Decide.{ℕ_discrete}
-use native.Mathlib.Nat.{not-suc-le-zero}
+use native.Mathlib.Nat.{not-suc-le-zero, zero-add}
 use native.Mathlib.Omega.{arith}
+use Rattle.std.specs.Bool.{MatchBool}
+use Rattle.std.specs.Fn.{Called}
+use Rattle.std.specs.Iterator.{YieldsThen}
+use Rattle.std.specs.List.{AllWithin, FoldsTo, HoldsAt, range_with_len}
+use Rattle.std.specs.Prelude.{Option, MatchOption}
+use Rattle.std.specs.declared.ops.Range.{Range}
+use Rattle.std.proofs.iter.Yields.{nat_range_steps}
+use Rattle.std.proofs.lemmas.Iterator.{YieldsList-from_range, cases_from_any}
+use Rattle.std.proofs.lemmas.List.FromFn.{length-range_with_len, get_or-range_with_len}
 use Rattle.runs.proofs.Contradictions.{true_false}
 use Rattle.automata.specs.Refusals.{some}
 
@@ -34,16 +46,22 @@ found f {k = k} i h e = go (some k f) refl
     go true g = g
     go false g = true_false (sym e ∙ fails f k g i h)
 
--- ---- a loop at i, before which none has passed
-pub passed : (f : ℕ → Bool) {i : ℕ} → some i f ≡ false → f i ≡ false → some (i + 1) f ≡ false
-unfolding some
-passed f {i = i} h e = let g : i + 1 ≡ suc i = omega arith in rw g (rw e h)
+-- ---- what std's `any` over the numbers below n answers
+module _ (f : ℕ → Bool) where
+  answers : (k : ℕ) {r : Bool} → MatchBool r ((i : ℕ) × (i < length (range_with_len 0 k)) × HoldsAt (λ x. true ≡ f x) (range_with_len 0 k) i)
+      (AllWithin (λ x. false ≡ f x) (range_with_len 0 k) 0 (length (range_with_len 0 k))) → r ≡ some k f
+  answers k {r = true} h =
+      let i : h.0 < k = omega (arith, h.1, length-range_with_len 0 k) in
+      sym (found f h.0 i (sym (rw (get_or-range_with_len 0 k h.0 0 i, zero-add h.0) at (h.2 0))))
+  answers k {r = false} h =
+      sym (none f k (λ i l. sym (rw (get_or-range_with_len 0 k i 0 l, zero-add i) at (h i 0 (omega arith) (omega (arith, length-range_with_len 0 k))))))
 
--- at its start
-pub begins : (f : ℕ → Bool) → some 0 f ≡ false
-unfolding some
-begins f = refl
-
--- and at its end
-pub ends : (f : ℕ → Bool) {k i : ℕ} → some i f ≡ false → k ≤ i → i ≤ k → false ≡ some k f
-ends f {k = k} {i = i} h a b = let g : k ≡ i = omega arith in rw g (sym h)
+  pub some_from_any : {F : Type 0} {g : Mut F (ℕ × Unit {0}) Bool} {j : F} {u : Range ℕ} {n k : ℕ} {r : Bool}
+      → (xs : List ℕ) × (o : Option ℕ) × (q : F) × YieldsThen nat_range_steps (record { start = 0; end = n }) xs o u
+      × FoldsTo (λ p x q. Called g p (x, tt) false q) j xs q
+      × MatchOption o (r ≡ false) (λ x. (r ≡ true) × ((h : F) × Called g q (x, tt) true h))
+      → n ≡ k → ((x : ℕ) (b : Bool) (q : F) → Called g j (x, tt) b q → (q ≡ j) × (b ≡ f x)) → r ≡ some k f
+  some_from_any {n = n} ran e calls =
+      rw (sym e)
+      (answers n (cases_from_any _ _ _ (λ x. true ≡ f x) (λ x. false ≡ f x) ran (YieldsList-from_range 0 n n refl (omega arith))
+      (λ x q c. (calls x true q c).1) (λ x q. calls x false q)))

@@ -1,0 +1,102 @@
+// Bytes that are all there, and whether document 01's "Turned down" has 6, 7 or 8 for what they say.
+ghost use Rattle.std.specs.Prelude.{◌≡◌};
+ghost use Rattle.automata.specs.Accepted.{Complete};
+ghost use Rattle.automata.specs.Opened.{head_of};
+
+use crate::fields::{Edge, Head, Limits, edge_in, invariant_in};
+
+// As many bytes as the counts ask, and their head.
+#[derive(Clone, Copy)]
+pub(crate) struct Whole<'a> {
+    pub bytes: &'a [u8],
+    pub head: Head,
+    pub ghost complete: { Complete bytes.now },
+    pub ghost read: { head ≡ head_of bytes.now },
+}
+
+impl<'a> Whole<'a> {
+    ghost use Rattle.std.specs.Prelude.{◌+◌, ◌*◌, ◌≤◌, ◌<◌, length};
+    ghost use Rattle.automata.specs.Automata.{invariant_at, edge_at};
+    ghost use Rattle.automata.specs.Refusals.{no_such_location, no_such_clock, out_of_range_at, invariant_out_of_range};
+    ghost use Rattle.automata.specs.Refusals.{guard_out_of_range, limit_out_of_range};
+
+    // The place of the limits of location l, which are there.
+    fn invariant_at(&self, l: usize) -> usize
+        requires { l < self.now.head.locations }
+        ensures place { result ≡ invariant_at self.now.bytes.now l }
+        ensures within { result + 8 * self.now.head.clocks ≤ length self.now.bytes.now }
+    {
+        invariant_in(self.head.clocks, l)
+    }
+
+    // The place of edge i, which is there.
+    fn edge_at(&self, i: usize) -> usize
+        requires { i < self.now.head.edges }
+        ensures place { result ≡ edge_at self.now.bytes.now i }
+        ensures within { result + (3 + 8 * self.now.head.clocks) ≤ length self.now.bytes.now }
+    {
+        edge_in(self.head.clocks, self.head.locations, i)
+    }
+
+    pub(crate) fn no_such_location(&self) -> bool
+        ensures { result ≡ no_such_location self.now.bytes.now }
+    {
+        let head = self.head;
+        misplaced(head.locations, head.start, head.target)
+            || (0..head.edges).any(|i| {
+                let edge = Edge::read(self.bytes, self.edge_at(i));
+                misplaced(head.locations, edge.from, edge.to)
+            })
+    }
+
+    pub(crate) fn no_such_clock(&self) -> bool
+        ensures { result ≡ no_such_clock self.now.bytes.now }
+    {
+        let bound = reset_bound(self.head.clocks);
+        (0..self.head.edges).any(|i| bound <= u32::from(self.bytes[self.edge_at(i) + 2]))
+    }
+
+    // Whether one of the limits at `at` is out of range.
+    fn out_of_range_at(&self, may_lack: bool, at: usize) -> bool
+        requires { at + 8 * self.now.head.clocks ≤ length self.now.bytes.now }
+        ensures { result ≡ out_of_range_at self.now.bytes.now may_lack at }
+    {
+        (0..self.head.clocks).any(|x| Limits::read(self.bytes, at, x + 1).out_of_range(may_lack))
+    }
+
+    fn invariant_out_of_range(&self) -> bool
+        ensures { result ≡ invariant_out_of_range self.now.bytes.now }
+    {
+        (0..self.head.locations).any(|l| self.out_of_range_at(false, self.invariant_at(l)))
+    }
+
+    fn guard_out_of_range(&self) -> bool
+        ensures { result ≡ guard_out_of_range self.now.bytes.now }
+    {
+        (0..self.head.edges).any(|i| self.out_of_range_at(true, self.edge_at(i) + 3))
+    }
+
+    pub(crate) fn limit_out_of_range(&self) -> bool
+        ensures { result ≡ limit_out_of_range self.now.bytes.now }
+    {
+        self.invariant_out_of_range() || self.guard_out_of_range()
+    }
+}
+
+ghost use Rattle.std.specs.Prelude.{◌≤◌, ◌^◌};
+ghost use Rattle.automata.specs.Refusals.{misplaced};
+
+// Whether one of two places is none of the m locations.
+fn misplaced(m: usize, a: usize, b: usize) -> bool
+    ensures { result ≡ misplaced m a b }
+{
+    m <= a || m <= b
+}
+
+// The first reset byte that names a clock above n.
+fn reset_bound(n: usize) -> u32
+    requires { n ≤ 8 }
+    ensures { result ≡ 2 ^ n }
+{
+    1 << n
+}
