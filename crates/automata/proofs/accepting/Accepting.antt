@@ -5,7 +5,7 @@ use mathlib.Core.Path.{◌≡◌, refl, sym, ap, ◌∙◌}
 use mathlib.Core.Bool.{Bool, true, false, not, cond, ◌&&◌, ◌||◌}
 use mathlib.Core.List.{List}
 use mathlib.Core.Logic.{◌↔◌}
-use borrow.Author.Tests.{ltb-false, leb-false, le-ltb, lt-leb, eqb-true, ne_eqb, not-false}
+use borrow.Author.Tests.{ltb-false, leb-false, le-ltb, lt-leb, eq-eqb, eqb-true, ne_eqb, not-false}
 use lib.Dec.{ltb, leb, eqb}
 use lib.ListN.{length}
 use native.Mathlib.Nat.{not-suc-le-zero}
@@ -18,7 +18,7 @@ use Rattle.automata.specs.Refusals.{some, counts_out_of_range, misplaced, no_suc
 use Rattle.automata.specs.Refusals.{invariant_out_of_range, guard_out_of_range, limit_out_of_range, refusal_of}
 use Rattle.automata.proofs.fields.Resets.{no_bit}
 use Rattle.automata.proofs.accepting.Some.{fails, none}
-use Rattle.automata.proofs.accepting.Refusing.{neither, complete, refusal_rest}
+use Rattle.automata.proofs.accepting.Refusing.{neither, complete}
 
 -- ---- the numbers
 small : (t : Bool) (k r : ℕ) → k ≤ 8 → r ≤ 8 → cond t k r ≤ 8
@@ -189,9 +189,19 @@ module _ (s : List ℕ) (a : Accepted s) where
       (λ x g k. record { lo≤ = a.guard_lo i x h g k; hi≤ = λ e. a.guard_hi i x h g k e })))
 
   refused_by_none : refusal_of s ≡ 0
+  unfolding refusal_of
   refused_by_none =
-      refusal_rest s a.complete.head a.field a.version≡ counted a.complete.size
-      ∙ rw (placed, none (λ i. leb (2 ^ clocks s) (reset_byte s i)) (edges s) (λ i h. lt-leb _ _ (a.resets< i h)), ranged)
+      let c = a.complete in
+      rw (
+        le-ltb _ _ c.head,
+        eq-eqb _ _ a.field,
+        eq-eqb _ _ a.version≡,
+        counted,
+        eq-eqb (length_field s) (formula s) (a.field ∙ c.size),
+        placed,
+        none (λ i. leb (2 ^ clocks s) (reset_byte s i)) (edges s) (λ i h. lt-leb _ _ (a.resets< i h)),
+        ranged,
+      )
 
 pub free : (s : List ℕ) → Accepted s ↔ (refusal_of s ≡ 0)
 free s = (refused_by_none s, accepted s)
