@@ -1,5 +1,4 @@
 -- Which refusal it is, and what holds of an automaton to which none applies.
 pub mod Some
-pub mod Refusing
 pub mod Accepting
 pub mod Numbering

@@ -1,41 +1,35 @@
 -- An automaton is accepted exactly where none of 1 to 8 turns it down: each test that it passes, as a fact.
 -- Assumes nothing.
 use Prim.Native.Nat.{ℕ, zero, suc, ◌+◌, ◌^◌, ◌<◌, ◌≤◌}
-use mathlib.Core.Path.{◌≡◌, refl, sym, ap, ◌∙◌}
+use mathlib.Core.Path.{◌≡◌, refl, sym, ◌∙◌}
 use mathlib.Core.Bool.{Bool, true, false, not, cond, ◌&&◌, ◌||◌}
 use mathlib.Core.List.{List}
 use mathlib.Core.Logic.{◌↔◌}
-use borrow.Author.Tests.{ltb-false, leb-false, le-ltb, lt-leb, eq-eqb, eqb-true, ne_eqb, not-false}
+use borrow.Author.Tests.{ltb-false, leb-false, le-ltb, lt-leb, eq-eqb, eqb-true, not-false}
 use lib.Dec.{ltb, leb, eqb}
 use lib.ListN.{length}
 use native.Mathlib.Nat.{not-suc-le-zero}
 use native.Mathlib.Omega.{arith}
 use Rattle.runs.specs.Limits.{scale}
-use Rattle.automata.specs.Accepted.{Accepted}
+use Rattle.runs.proofs.Contradictions.{true_false}
+use Rattle.std.proofs.Common.{rules, tests}
+use Rattle.automata.specs.Accepted.{Accepted, Complete}
 use Rattle.automata.specs.Automata.{length_field, version, clocks, locations, edges, start, target, from, to, reset_byte, formula, lo_at, hi_at}
 use Rattle.automata.specs.Automata.{no_upper, limits_at, invariant_at, edge_at, invariant_of, guard_of, resets_of}
 use Rattle.automata.specs.Refusals.{some, counts_out_of_range, misplaced, no_such_location, no_such_clock, out_of_range, out_of_range_at}
 use Rattle.automata.specs.Refusals.{invariant_out_of_range, guard_out_of_range, limit_out_of_range, refusal_of}
 use Rattle.automata.proofs.fields.Resets.{no_bit}
 use Rattle.automata.proofs.accepting.Some.{fails, none}
-use Rattle.automata.proofs.accepting.Refusing.{neither, complete}
+
+-- a test that fails
+neither : (a b : Bool) → (a || b) ≡ false → (a ≡ false) × (b ≡ false)
+neither true b e = true_false e
+neither false b e = (refl, e)
 
 -- ---- the numbers
-small : (t : Bool) (k r : ℕ) → k ≤ 8 → r ≤ 8 → cond t k r ≤ 8
-small true k r h g = h
-small false k r h g = g
-
 pub refusal_small : (s : List ℕ) → refusal_of s ≤ 8
 unfolding refusal_of
-refusal_small s =
-    small (ltb (length s) 11) 1 _ (omega arith)
-    (small (not (eqb (length_field s) (length s))) 2 _ (omega arith)
-    (small (not (eqb (version s) 1)) 3 _ (omega arith)
-    (small (counts_out_of_range s) 4 _ (omega arith)
-    (small (not (eqb (length_field s) (formula s))) 5 _ (omega arith)
-    (small (no_such_location s) 6 _ (omega arith)
-    (small (no_such_clock s) 7 _ (omega arith)
-    (small (limit_out_of_range s) 8 0 (omega arith) (omega arith))))))))
+refusal_small s = search (rules, tests)
 
 passed : (t : Bool) (k r : ℕ) → cond t (suc k) r ≡ 0 → (t ≡ false) × (r ≡ 0)
 passed true k r e = absurd (omega arith)
@@ -78,14 +72,8 @@ record InRange (mayLack : Bool) (lo hi : ℕ) : Type 0 where
   pub lo≤ : lo ≤ scale
   pub hi≤ : (mayLack && eqb hi no_upper) ≡ false → hi ≤ scale
 
-excused : (t u : Bool) → (t && not u) ≡ false → u ≡ false → t ≡ false
-excused true u e f = sym (ap not f) ∙ e
-excused false u e f = refl
-
 in_range : (mayLack : Bool) (lo hi : ℕ) → out_of_range mayLack lo hi ≡ false → InRange mayLack lo hi
-in_range mayLack lo hi e =
-    let n = neither (ltb scale lo) _ e in
-    record { lo≤ = ltb-false scale lo n.0; hi≤ = λ f. ltb-false scale hi (excused (ltb scale hi) (mayLack && eqb hi no_upper) n.1 f) }
+in_range mayLack lo hi e = search (rules, tests)
 
 all_in_range : (s : List ℕ) (mayLack : Bool) (at : ℕ) → out_of_range_at s mayLack at ≡ false → (x : ℕ) → 0 < x → x ≤ clocks s
     → InRange mayLack (lo_at s at x) (hi_at s at x)
@@ -95,18 +83,15 @@ all_in_range s mayLack at e (suc x) h g =
     in_range mayLack _ _ (fails (λ x. out_of_range mayLack (lo_at s at (suc x)) (hi_at s at (suc x))) (clocks s) e x g)
 
 present : {lo hi : ℕ} → InRange false lo hi → eqb hi no_upper ≡ false
-present {lo} {hi} r = let h = r.hi≤ refl in ne_eqb hi no_upper (λ q. omega arith)
+present r = search (rules, tests)
 
 -- ---- all of them
 module _ (s : List ℕ) (p : Passed s) where
-  places : (misplaced (locations s) (start s) (target s) ≡ false) × (some (edges s) (λ i. misplaced (locations s) (from s i) (to s i)) ≡ false)
-  places = neither (misplaced (locations s) (start s) (target s)) _ p.places
+  complete : Complete s
+  complete = search (rules, tests)
 
-  ends : (leb (locations s) (start s) ≡ false) × (leb (locations s) (target s) ≡ false)
-  ends = neither (leb (locations s) (start s)) _ places.0
-
-  edge_ends : (i : ℕ) → i < edges s → (leb (locations s) (from s i) ≡ false) × (leb (locations s) (to s i) ≡ false)
-  edge_ends i h = neither (leb (locations s) (from s i)) _ (fails _ (edges s) places.1 i h)
+  edge_ends : (i : ℕ) → i < edges s → misplaced (locations s) (from s i) (to s i) ≡ false
+  edge_ends = fails _ (edges s) (neither (misplaced (locations s) (start s) (target s)) _ p.places).1
 
   few_resets : (i : ℕ) → i < edges s → reset_byte s i < 2 ^ clocks s
   few_resets i h = leb-false _ _ (fails (λ i. leb (2 ^ clocks s) (reset_byte s i)) (edges s) p.resets i h)
@@ -124,13 +109,13 @@ module _ (s : List ℕ) (p : Passed s) where
   unfolding resets_of invariant_of guard_of limits_at
   passed_all =
       record {
-        complete = complete s p.head p.counts p.size;
+        complete = complete;
         field = p.field;
         version≡ = p.version≡;
-        start< = leb-false _ _ ends.0;
-        target< = leb-false _ _ ends.1;
-        from< = λ i h. leb-false _ _ (edge_ends i h).0;
-        to< = λ i h. leb-false _ _ (edge_ends i h).1;
+        start< = search (rules, tests);
+        target< = search (rules, tests);
+        from< = λ i h. let e = edge_ends i h in search (rules, tests);
+        to< = λ i h. let e = edge_ends i h in search (rules, tests);
         resets< = few_resets;
         invariant_lo = λ l x h g k. (invariant_fits l x h g k).lo≤;
         invariant_hi = λ l x h g k. (invariant_fits l x h g k).hi≤ refl;
@@ -148,19 +133,8 @@ unfolding resets_of
 unreset s a i x h g = no_bit (reset_byte s i) (clocks s) x (a.resets< i h) g
 
 -- ---- and back: none of the tests turns down an accepted one
-both : {a b : Bool} → a ≡ false → b ≡ false → (a || b) ≡ false
-both e f = rw (e, f)
-
 within : (mayLack : Bool) (lo hi : ℕ) → InRange mayLack lo hi → out_of_range mayLack lo hi ≡ false
-within mayLack lo hi r = both (le-ltb scale lo r.lo≤) (go (mayLack && eqb hi no_upper) refl)
-  where
-    go : (t : Bool) → (mayLack && eqb hi no_upper) ≡ t → (ltb scale hi && not (mayLack && eqb hi no_upper)) ≡ false
-    go true e = rw e (and_false (ltb scale hi))
-      where
-        and_false : (u : Bool) → (u && false) ≡ false
-        and_false true = refl
-        and_false false = refl
-    go false e = rw (le-ltb scale hi (r.hi≤ e))
+within mayLack lo hi r = search (rules, tests)
 
 module _ (s : List ℕ) (a : Accepted s) where
   limits-within : (mayLack : Bool) (at : ℕ) → ((x : ℕ) → 0 < x → x ≤ clocks s → InRange mayLack (lo_at s at x) (hi_at s at x)) →
@@ -169,24 +143,23 @@ module _ (s : List ℕ) (a : Accepted s) where
   limits-within mayLack at h = none _ (clocks s) (λ x g. within mayLack _ _ (h (suc x) (omega arith) g))
 
   counted : counts_out_of_range s ≡ false
-  counted =
-      let c = a.complete in
-      both (ne_eqb (clocks s) 0 (λ e. absurd (omega (arith, c.clocks≥)))) (both (le-ltb 8 (clocks s) c.clocks≤)
-      (both (ne_eqb (locations s) 0 (λ e. absurd (omega (arith, c.locations≥)))) (both (le-ltb 64 (locations s) c.locations≤)
-      (le-ltb 256 (edges s) c.edges≤))))
+  counted = search (rules, tests)
+
+  edges_placed : some (edges s) (λ i. misplaced (locations s) (from s i) (to s i)) ≡ false
+  edges_placed = none _ (edges s) (λ i h. let p = a.from< i h in let q = a.to< i h in search (rules, tests))
 
   placed : no_such_location s ≡ false
-  placed =
-      both (both (lt-leb _ _ a.start<) (lt-leb _ _ a.target<))
-      (none _ (edges s) (λ i h. both (lt-leb _ _ (a.from< i h)) (lt-leb _ _ (a.to< i h))))
+  placed = let e = edges_placed in search (rules, tests)
 
   ranged : limit_out_of_range s ≡ false
   unfolding invariant_of guard_of limits_at
   ranged =
-      both (none _ (locations s) (λ l h. limits-within false (invariant_at s l)
-      (λ x g k. record { lo≤ = a.invariant_lo l x h g k; hi≤ = λ e. a.invariant_hi l x h g k })))
-      (none _ (edges s) (λ i h. limits-within true (edge_at s i + 3)
-      (λ x g k. record { lo≤ = a.guard_lo i x h g k; hi≤ = λ e. a.guard_hi i x h g k e })))
+      rw (
+        none (λ l. out_of_range_at s false (invariant_at s l)) (locations s)
+        (λ l h. limits-within false (invariant_at s l) (λ x g k. record { lo≤ = a.invariant_lo l x h g k; hi≤ = λ e. a.invariant_hi l x h g k })),
+        none (λ i. out_of_range_at s true (edge_at s i + 3)) (edges s)
+        (λ i h. limits-within true (edge_at s i + 3) (λ x g k. record { lo≤ = a.guard_lo i x h g k; hi≤ = λ e. a.guard_hi i x h g k e })),
+      )
 
   refused_by_none : refusal_of s ≡ 0
   unfolding refusal_of
