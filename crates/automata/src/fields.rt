@@ -61,6 +61,7 @@ impl Head {
 
 // ---- where the parts stand
 // The place of the limits of location l, with n clocks.
+#[tactic(auto, unfolding(crate::specs::Automata::invariant_in))]
 pub fn invariant_in(n: usize, l: usize) -> usize
     requires { (n < 256) × (l < 256) }
     ensures { result ≡ invariant_in n l }
@@ -69,6 +70,7 @@ pub fn invariant_in(n: usize, l: usize) -> usize
 }
 
 // The place of edge i, with n clocks and m locations.
+#[tactic(auto, unfolding(crate::specs::Automata::edge_in))]
 pub fn edge_in(n: usize, m: usize, i: usize) -> usize
     requires { (n < 256) × (m < 256) × (i < 65536) }
     ensures { result ≡ edge_in n m i }
@@ -77,6 +79,7 @@ pub fn edge_in(n: usize, m: usize, i: usize) -> usize
 }
 
 // For each clock by its number, whether the byte resets it. Clock 0 is none.
+#[tactic(auto, unfolding(crate::specs::Automata::reset_set, crate::specs::Automata::firsts, crate::specs::Automata::in_byte))]
 fn reset_set(b: u8) -> [bool; 9]
     ensures { result ≡ reset_set b }
 {
@@ -128,6 +131,7 @@ impl Limits {
     }
 
     // The hi, where there is one.
+    #[tactic(auto, unfolding(crate::specs::Opened::upper_of))]
     pub fn upper(self) -> Option<u32>
         ensures { result ≡ upper_of self.hi }
     {

@@ -68,6 +68,7 @@ impl<'a> Automaton<'a> {
     }
 
     // The invariant of location l.
+    #[tactic(auto, using(crate::proofs::fields::Places::places))]
     pub fn invariant(&self, l: usize) -> Constraint<'a>
         requires { l < locations self.now.bytes.now }
         ensures { Constrains self.now.bytes.now (invariant_at self.now.bytes.now l) result }
@@ -80,6 +81,7 @@ impl<'a> Automaton<'a> {
     }
 
     // The guard of edge i.
+    #[tactic(auto, using(crate::proofs::fields::Places::places))]
     pub fn guard(&self, i: usize) -> Constraint<'a>
         requires { i < edges self.now.bytes.now }
         ensures { Constrains self.now.bytes.now (edge_at self.now.bytes.now i + 3) result }
@@ -92,6 +94,7 @@ impl<'a> Automaton<'a> {
     }
 
     // Its edge i.
+    #[tactic(auto, using(crate::proofs::fields::Places::places))]
     pub fn edge(&self, i: usize) -> Edge
         requires { i < self.now.edges }
         ensures { result ≡ edge_of self.now.bytes.now i }

@@ -21,6 +21,7 @@ impl<'a> Whole<'a> {
     ghost use Rattle.automata.specs.Refusals.{guard_out_of_range, limit_out_of_range};
 
     // The place of the limits of location l, which are there.
+    #[tactic(auto, using(crate::proofs::fields::Places::places))]
     fn invariant_at(&self, l: usize) -> usize
         requires { l < self.now.head.locations }
         ensures place { result ≡ invariant_at self.now.bytes.now l }
@@ -30,6 +31,7 @@ impl<'a> Whole<'a> {
     }
 
     // The place of edge i, which is there.
+    #[tactic(auto, using(crate::proofs::fields::Places::places))]
     fn edge_at(&self, i: usize) -> usize
         requires { i < self.now.head.edges }
         ensures place { result ≡ edge_at self.now.bytes.now i }

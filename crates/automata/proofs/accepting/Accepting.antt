@@ -56,16 +56,7 @@ passes s e =
     let p6 = passed (no_such_location s) 5 _ p5.1 in
     let p7 = passed (no_such_clock s) 6 _ p6.1 in
     let p8 = passed (limit_out_of_range s) 7 _ p7.1 in
-    record {
-      head = ltb-false _ _ p1.0;
-      field = eqb-true _ _ (not-false _ p2.0);
-      version≡ = eqb-true _ _ (not-false _ p3.0);
-      size = sym (eqb-true _ _ (not-false _ p2.0)) ∙ eqb-true (length_field s) (formula s) (not-false _ p5.0);
-      counts = p4.0;
-      places = p6.0;
-      resets = p7.0;
-      limits = p8.0;
-    }
+    search (rules, tests)
 
 -- ---- limits
 record InRange (mayLack : Bool) (lo hi : ℕ) : Type 0 where

@@ -6,6 +6,7 @@ use lib.ListN.{length}
 use native.Mathlib.Nat.{mul-le-mul_left, mul-le-mul_right, mul-suc, suc-mul}
 use native.Mathlib.Omega.{arith}
 use Rattle.automata.specs.Accepted.{Complete}
+use Rattle.automata.proofs.fields.Counting.{counted}
 use Rattle.automata.specs.Automata.{clocks, locations, edges, invariant_in, edge_in, invariant_at, edge_at}
 
 module _ (s : List ℕ) (complete : Complete s) where
@@ -21,3 +22,5 @@ module _ (s : List ℕ) (complete : Complete s) where
       let row : i * (3 + 8 * clocks s) + (3 + 8 * clocks s) ≤ edges s * (3 + 8 * clocks s) =
       rw (suc-mul i (3 + 8 * clocks s)) at (mul-le-mul_right (3 + 8 * clocks s) h) in
       omega arith
+
+pub ruleset places = (invariant_within, edge-within, counted)
