@@ -26,6 +26,7 @@ impl<'a> Automaton<'a> {
     ghost use Rattle.automata.specs.Constraints.{Constrains};
 
     // The automaton of the bytes, or why they are turned down.
+    #[tactic(auto, using(crate::proofs::accepting::Accepting::accepted, crate::proofs::fields::Counting::counted))]
     pub fn open(bytes: &'a [u8]) -> Result<Automaton<'a>, Refusal>
         ensures refusal { number_in result ≡ refusal_of bytes.now }
         ensures opened { IfOk result (λ a. a.bytes ≡ bytes.entry) }

@@ -1,11 +1,11 @@
 -- An automaton is accepted exactly where none of 1 to 8 turns it down: each test that it passes, as a fact.
 -- Assumes nothing.
 use Prim.Native.Nat.{ℕ, zero, suc, ◌+◌, ◌^◌, ◌<◌, ◌≤◌}
-use mathlib.Core.Path.{◌≡◌, refl, sym, ◌∙◌}
+use mathlib.Core.Path.{◌≡◌, refl, ◌∙◌}
 use mathlib.Core.Bool.{Bool, true, false, not, cond, ◌&&◌, ◌||◌}
 use mathlib.Core.List.{List}
 use mathlib.Core.Logic.{◌↔◌}
-use borrow.Author.Tests.{ltb-false, leb-false, le-ltb, lt-leb, eq-eqb, eqb-true, not-false}
+use borrow.Author.Tests.{leb-false, le-ltb, lt-leb, eq-eqb}
 use lib.Dec.{ltb, leb, eqb}
 use lib.ListN.{length}
 use native.Mathlib.Nat.{not-suc-le-zero}

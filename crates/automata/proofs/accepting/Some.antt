@@ -47,21 +47,20 @@ found f {k = k} i h e = go (some k f) refl
     go false g = true_false (sym e ∙ fails f k g i h)
 
 -- ---- what std's `any` over the numbers below n answers
-module _ (f : ℕ → Bool) where
-  answers : (k : ℕ) {r : Bool} → MatchBool r ((i : ℕ) × (i < length (range_with_len 0 k)) × HoldsAt (λ x. true ≡ f x) (range_with_len 0 k) i)
-      (AllWithin (λ x. false ≡ f x) (range_with_len 0 k) 0 (length (range_with_len 0 k))) → r ≡ some k f
-  answers k {r = true} h =
-      let i : h.0 < k = omega (arith, h.1, length-range_with_len 0 k) in
-      sym (found f h.0 i (sym (rw (get_or-range_with_len 0 k h.0 0 i, zero-add h.0) at (h.2 0))))
-  answers k {r = false} h =
-      sym (none f k (λ i l. sym (rw (get_or-range_with_len 0 k i 0 l, zero-add i) at (h i 0 (omega arith) (omega (arith, length-range_with_len 0 k))))))
+answers : (f : ℕ → Bool) (k : ℕ) {r : Bool} → MatchBool r ((i : ℕ) × (i < length (range_with_len 0 k)) × HoldsAt (λ x. true ≡ f x) (range_with_len 0 k) i)
+    (AllWithin (λ x. false ≡ f x) (range_with_len 0 k) 0 (length (range_with_len 0 k))) → r ≡ some k f
+answers f k {r = true} h =
+    let i : h.0 < k = omega (arith, h.1, length-range_with_len 0 k) in
+    sym (found f h.0 i (sym (rw (get_or-range_with_len 0 k h.0 0 i, zero-add h.0) at (h.2 0))))
+answers f k {r = false} h =
+    sym (none f k (λ i l. sym (rw (get_or-range_with_len 0 k i 0 l, zero-add i) at (h i 0 (omega arith) (omega (arith, length-range_with_len 0 k))))))
 
-  pub some_from_any : {F : Type 0} {g : Mut F (ℕ × Unit {0}) Bool} {j : F} {u : Range ℕ} {n k : ℕ} {r : Bool}
-      → (xs : List ℕ) × (o : Option ℕ) × (q : F) × YieldsThen nat_range_steps (record { start = 0; end = n }) xs o u
-      × FoldsTo (λ p x q. Called g p (x, tt) false q) j xs q
-      × MatchOption o (r ≡ false) (λ x. (r ≡ true) × ((h : F) × Called g q (x, tt) true h))
-      → n ≡ k → ((x : ℕ) (b : Bool) (q : F) → Called g j (x, tt) b q → (q ≡ j) × (b ≡ f x)) → r ≡ some k f
-  some_from_any {n = n} ran e calls =
-      rw (sym e)
-      (answers n (cases_from_any _ _ _ (λ x. true ≡ f x) (λ x. false ≡ f x) ran (YieldsList-from_range 0 n n refl (omega arith))
-      (λ x q c. (calls x true q c).1) (λ x q. calls x false q)))
+pub some_from_any : {f : ℕ → Bool} {F : Type 0} {g : Mut F (ℕ × Unit {0}) Bool} {j : F} {u : Range ℕ} {n k : ℕ} {r : Bool}
+    → (xs : List ℕ) × (o : Option ℕ) × (q : F) × YieldsThen nat_range_steps (record { start = 0; end = n }) xs o u
+    × FoldsTo (λ p x q. Called g p (x, tt) false q) j xs q
+    × MatchOption o (r ≡ false) (λ x. (r ≡ true) × ((h : F) × Called g q (x, tt) true h))
+    → n ≡ k → ((x : ℕ) (b : Bool) (q : F) → Called g j (x, tt) b q → (q ≡ j) × (b ≡ f x)) → r ≡ some k f
+some_from_any {f} {n = n} ran e calls =
+    rw (sym e)
+    (answers f n (cases_from_any _ _ _ (λ x. true ≡ f x) (λ x. false ≡ f x) ran (YieldsList-from_range 0 n n refl (omega arith))
+    (λ x q c. (calls x true q c).1) (λ x q. calls x false q)))

@@ -1,8 +1,6 @@
 -- An edge ends at what is no location: std's `any` over the edges.
 use mathlib.Core.Path.{sym, ◌∙◌}
 use Rattle.std.proofs.Common.{rules, tests}
-use Rattle.automata.specs.Automata.{locations, from, to}
-use Rattle.automata.specs.Refusals.{misplaced}
 use Rattle.automata.proofs.accepting.Some.{some_from_any}
 use Rattle.automata.proofs.fields.Counting.{counted}
 use Rattle.automata.proofs.whole.Whole.no_such_location.Goals as goal
@@ -10,6 +8,5 @@ use Rattle.automata.proofs.whole.Whole.no_such_location.Goals as goal
 pub returns-else-misplaced : goal.returns-else-misplaced
 returns-else-misplaced c =
     let w = c.args.self.now in
-    let s = w.bytes.now in
     rw (sym (rw w.read at c.misplaced.ensures) ∙ c.if-misplaced.false)
-    (some_from_any (λ i. misplaced (locations s) (from s i) (to s i)) c.any.ensures.ran (counted w.read).edges≡ (λ x b q k. search (rules, tests)))
+    (some_from_any c.any.ensures.ran (counted w.read).edges≡ (λ x b q k. search (rules, tests)))
