@@ -53,9 +53,7 @@ impl Head {
     pub(crate) fn counts_out_of_range(self) -> bool
         ensures { result ≡ out_of_counts self.clocks self.locations self.edges }
     {
-        let n = self.clocks;
-        let m = self.locations;
-        n == 0 || 8 < n || m == 0 || 64 < m || 256 < self.edges
+        !(1..=8).contains(&self.clocks) || !(1..=64).contains(&self.locations) || 256 < self.edges
     }
 }
 

@@ -50,6 +50,7 @@ impl Refusal {
     pub fn number(self) -> u32
         ensures { result ≡ number self }
     {
+        // The cast that the language has for the number beside a variant.
         self as u32
     }
 }

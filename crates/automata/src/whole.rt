@@ -1,7 +1,10 @@
 // Bytes that are all there, and whether document 01's "Turned down" has 6, 7 or 8 for what they say.
-ghost use Rattle.std.specs.Prelude.{◌≡◌};
+ghost use Rattle.std.specs.Prelude.{◌≡◌, ◌+◌, ◌*◌, ◌^◌, ◌≤◌, ◌<◌, length};
 ghost use Rattle.automata.specs.Accepted.{Complete};
+ghost use Rattle.automata.specs.Automata.{invariant_at, edge_at};
 ghost use Rattle.automata.specs.Opened.{head_of};
+ghost use Rattle.automata.specs.Refusals.{misplaced, no_such_location, no_such_clock, out_of_range_at, invariant_out_of_range};
+ghost use Rattle.automata.specs.Refusals.{guard_out_of_range, limit_out_of_range};
 
 use crate::fields::{Edge, Head, Limits, edge_in, invariant_in};
 
@@ -15,11 +18,6 @@ pub(crate) struct Whole<'a> {
 }
 
 impl<'a> Whole<'a> {
-    ghost use Rattle.std.specs.Prelude.{◌+◌, ◌*◌, ◌≤◌, ◌<◌, length};
-    ghost use Rattle.automata.specs.Automata.{invariant_at, edge_at};
-    ghost use Rattle.automata.specs.Refusals.{no_such_location, no_such_clock, out_of_range_at, invariant_out_of_range};
-    ghost use Rattle.automata.specs.Refusals.{guard_out_of_range, limit_out_of_range};
-
     // The place of the limits of location l, which are there.
     #[tactic(auto, using(crate::proofs::fields::Places::places))]
     fn invariant_at(&self, l: usize) -> usize
@@ -84,9 +82,6 @@ impl<'a> Whole<'a> {
         self.invariant_out_of_range() || self.guard_out_of_range()
     }
 }
-
-ghost use Rattle.std.specs.Prelude.{◌≤◌, ◌^◌};
-ghost use Rattle.automata.specs.Refusals.{misplaced};
 
 // Whether one of two places is none of the m locations.
 fn misplaced(m: usize, a: usize, b: usize) -> bool

@@ -147,9 +147,9 @@ module _ (s : List ℕ) (a : Accepted s) where
   ranged =
       rw (
         none (λ l. out_of_range_at s false (invariant_at s l)) (locations s)
-        (λ l h. limits-within false (invariant_at s l) (λ x g k. record { lo≤ = a.invariant_lo l x h g k; hi≤ = λ e. a.invariant_hi l x h g k })),
+            (λ l h. limits-within false (invariant_at s l) (λ x g k. record { lo≤ = a.invariant_lo l x h g k; hi≤ = λ e. a.invariant_hi l x h g k })),
         none (λ i. out_of_range_at s true (edge_at s i + 3)) (edges s)
-        (λ i h. limits-within true (edge_at s i + 3) (λ x g k. record { lo≤ = a.guard_lo i x h g k; hi≤ = λ e. a.guard_hi i x h g k e })),
+            (λ i h. limits-within true (edge_at s i + 3) (λ x g k. record { lo≤ = a.guard_lo i x h g k; hi≤ = λ e. a.guard_hi i x h g k e })),
       )
 
   refused_by_none : refusal_of s ≡ 0
