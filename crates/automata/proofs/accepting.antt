@@ -1,4 +1,4 @@
--- Which refusal it is, and what holds of an automaton to which none applies.
+-- What holds of an automaton to which no refusal applies, and the numbers of the refusals.
 pub mod Some
 pub mod Accepting
 pub mod Numbering

@@ -76,7 +76,7 @@ pub fn edge_in(n: usize, m: usize, i: usize) -> usize
     11 + 8 * n * m + i * (3 + 8 * n)
 }
 
-// For each clock by its number, whether the byte resets it. Clock 0 is none.
+// For each clock by its number, whether the byte resets it. Clock 0 is none. Written out it needs no answer; `array::from_fn` needs thirty lines.
 #[tactic(auto, unfolding(crate::specs::Automata::reset_set, crate::specs::Automata::firsts, crate::specs::Automata::in_byte))]
 fn reset_set(b: u8) -> [bool; 9]
     ensures { result ≡ reset_set b }

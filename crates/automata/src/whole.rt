@@ -8,7 +8,7 @@ ghost use Rattle.automata.specs.Refusals.{guard_out_of_range, limit_out_of_range
 
 use crate::fields::{Edge, Head, Limits, edge_in, invariant_in};
 
-// As many bytes as the counts ask, and their head.
+// As many bytes as the counts ask, and their head. Its methods take it by value: behind a reference each turn would load the counts again.
 #[derive(Clone, Copy)]
 pub(crate) struct Whole<'a> {
     pub bytes: &'a [u8],
@@ -20,26 +20,26 @@ pub(crate) struct Whole<'a> {
 impl<'a> Whole<'a> {
     // The place of the limits of location l, which are there.
     #[tactic(auto, using(crate::proofs::fields::Places::places))]
-    fn invariant_at(&self, l: usize) -> usize
-        requires { l < self.now.head.locations }
-        ensures place { result ≡ invariant_at self.now.bytes.now l }
-        ensures within { result + 8 * self.now.head.clocks ≤ length self.now.bytes.now }
+    fn invariant_at(self, l: usize) -> usize
+        requires { l < self.head.locations }
+        ensures place { result ≡ invariant_at self.entry.bytes.now l }
+        ensures within { result + 8 * self.entry.head.clocks ≤ length self.entry.bytes.now }
     {
         invariant_in(self.head.clocks, l)
     }
 
     // The place of edge i, which is there.
     #[tactic(auto, using(crate::proofs::fields::Places::places))]
-    fn edge_at(&self, i: usize) -> usize
-        requires { i < self.now.head.edges }
-        ensures place { result ≡ edge_at self.now.bytes.now i }
-        ensures within { result + (3 + 8 * self.now.head.clocks) ≤ length self.now.bytes.now }
+    fn edge_at(self, i: usize) -> usize
+        requires { i < self.head.edges }
+        ensures place { result ≡ edge_at self.entry.bytes.now i }
+        ensures within { result + (3 + 8 * self.entry.head.clocks) ≤ length self.entry.bytes.now }
     {
         edge_in(self.head.clocks, self.head.locations, i)
     }
 
-    pub(crate) fn no_such_location(&self) -> bool
-        ensures { result ≡ no_such_location self.now.bytes.now }
+    pub(crate) fn no_such_location(self) -> bool
+        ensures { result ≡ no_such_location self.entry.bytes.now }
     {
         let head = self.head;
         misplaced(head.locations, head.start, head.target)
@@ -49,35 +49,35 @@ impl<'a> Whole<'a> {
             })
     }
 
-    pub(crate) fn no_such_clock(&self) -> bool
-        ensures { result ≡ no_such_clock self.now.bytes.now }
+    pub(crate) fn no_such_clock(self) -> bool
+        ensures { result ≡ no_such_clock self.entry.bytes.now }
     {
         let bound = reset_bound(self.head.clocks);
         (0..self.head.edges).any(|i| bound <= u32::from(self.bytes[self.edge_at(i) + 2]))
     }
 
     // Whether one of the limits at `at` is out of range.
-    fn out_of_range_at(&self, may_lack: bool, at: usize) -> bool
-        requires { at + 8 * self.now.head.clocks ≤ length self.now.bytes.now }
-        ensures { result ≡ out_of_range_at self.now.bytes.now may_lack at }
+    fn out_of_range_at(self, may_lack: bool, at: usize) -> bool
+        requires { at + 8 * self.head.clocks ≤ length self.bytes.now }
+        ensures { result ≡ out_of_range_at self.entry.bytes.now may_lack at }
     {
         (0..self.head.clocks).any(|x| Limits::read(self.bytes, at, x + 1).out_of_range(may_lack))
     }
 
-    fn invariant_out_of_range(&self) -> bool
-        ensures { result ≡ invariant_out_of_range self.now.bytes.now }
+    fn invariant_out_of_range(self) -> bool
+        ensures { result ≡ invariant_out_of_range self.entry.bytes.now }
     {
         (0..self.head.locations).any(|l| self.out_of_range_at(false, self.invariant_at(l)))
     }
 
-    fn guard_out_of_range(&self) -> bool
-        ensures { result ≡ guard_out_of_range self.now.bytes.now }
+    fn guard_out_of_range(self) -> bool
+        ensures { result ≡ guard_out_of_range self.entry.bytes.now }
     {
         (0..self.head.edges).any(|i| self.out_of_range_at(true, self.edge_at(i) + 3))
     }
 
-    pub(crate) fn limit_out_of_range(&self) -> bool
-        ensures { result ≡ limit_out_of_range self.now.bytes.now }
+    pub(crate) fn limit_out_of_range(self) -> bool
+        ensures { result ≡ limit_out_of_range self.entry.bytes.now }
     {
         self.invariant_out_of_range() || self.guard_out_of_range()
     }

@@ -28,7 +28,7 @@ firsts_at zero f x h = absurd (not-suc-le-zero h)
 firsts_at (suc n) f zero h = refl
 firsts_at (suc n) f (suc x) h = firsts_at n (λ x. f (suc x)) x (le_of_suc-le-suc h)
 
--- what `edge_resets` gives, read at a clock
+-- what `reset_set` gives, read at a clock
 pub resets_at : (s : List ℕ) (i x : ℕ) → x < 9 → get_or (reset_set (reset_byte s i)) x false ≡ resets_of s i x
 unfolding reset_set resets_of
 resets_at s i = firsts_at 9 (in_byte (reset_byte s i))

@@ -5,4 +5,4 @@ use Rattle.automata.proofs.fields.Counting.{counted}
 use Rattle.automata.proofs.whole.Whole.invariant_out_of_range.Goals as goal
 
 pub returns : goal.returns
-returns c = some_from_any c.any.ensures.ran (counted c.args.self.now.read).locations≡ (λ x b q k. search (rules, tests))
+returns c = some_from_any c.any.ensures.ran (counted c.args.self.read).locations≡ (λ x b q k. search (rules, tests))

@@ -5,4 +5,4 @@ use Rattle.automata.proofs.fields.Counting.{counted}
 use Rattle.automata.proofs.whole.Whole.no_such_clock.Goals as goal
 
 pub returns : goal.returns
-returns c = some_from_any c.any.ensures.ran (counted c.args.self.now.read).edges≡ (λ x b q k. search (rules, tests))
+returns c = some_from_any c.any.ensures.ran (counted c.args.self.read).edges≡ (λ x b q k. search (rules, tests))

@@ -7,6 +7,6 @@ use Rattle.automata.proofs.whole.Whole.no_such_location.Goals as goal
 
 pub returns-else-misplaced : goal.returns-else-misplaced
 returns-else-misplaced c =
-    let w = c.args.self.now in
+    let w = c.args.self in
     rw (sym (rw w.read at c.misplaced.ensures) ∙ c.if-misplaced.false)
     (some_from_any c.any.ensures.ran (counted w.read).edges≡ (λ x b q k. search (rules, tests)))
