@@ -105,7 +105,7 @@ impl Pair {
     {
         if o.p < self.p {
             Fraction {
-                n: (o.m - self.m) as u64,
+                n: o.m.abs_diff(self.m),
                 d: self.p - o.p,
             }
         } else {

@@ -78,12 +78,11 @@ impl Work {
         ensures { result ≡ reduce_of size self }
     {
         let mut work = self;
-        let j = 0;
         for k in 1..size {
             for i in 1..size {
-                let there = work.zone[i * 9 + j];
-                let choice = there.smaller(work.zone[i * 9 + k].sum(work.zone[k * 9 + j]));
-                work.zone[i * 9 + j] = choice.pair;
+                let there = work.zone[i * 9];
+                let choice = there.smaller(work.zone[i * 9 + k].sum(work.zone[k * 9]));
+                work.zone[i * 9] = choice.pair;
                 lower(&mut work.fraction, choice.threshold);
             }
         }

@@ -223,9 +223,6 @@ diagonal_small {a} h = record { m = omega (arith, h.high, h.deep, abs_law a.m); 
 pub bounded_small : {a : Pair} → Bounded scale last_counts a → Small a
 bounded_small h = record { m = omega (arith, h.m); p = omega (arith, h.p) }
 
-pub step_small : {a : Pair} → Bounded scale step_counts a → Small a
-step_small h = record { m = omega (arith, h.m); p = omega (arith, h.p) }
-
 pub spread_small : {a : Pair} → Spread scale step_counts 9 a → Small a
 spread_small {a} h = record { m = omega (arith, h.high, h.deep, abs_law a.m); p = omega (arith, h.p) }
 
@@ -277,26 +274,29 @@ module _ (n : ℕ) (w : Work) (size : length w.zone ≡ 81) (r : Ready w n) wher
         diagonal = (alive_at widest widest scale step_counts here n w r.n≤ alive r.bounded k (omega arith) f).diagonal k h;
       })
 
--- one turn of a round's inner loop: s is the zone as it stands there
-pub record TurnReady (s : Work) (k i j : ℕ) : Type 0 where
-  pub at : Spread scale step_counts 9 (entry s i j)
-  pub to : Spread scale step_counts 9 (entry s i k)
-  pub from : Spread scale step_counts 9 (entry s k j)
-  pub fraction : Fits32 s.fraction
+-- one turn of a round's inner loop, of the pair there and the two of the way round: what it asks
+pub record TurnReady (f : Fraction) (there to from : Pair) : Type 0 where
+  pub adds : Small to × Small from
+  pub compares : Small there × Small (sum_of to from)
+  pub lowers : Fits32 f × Fits32 (smaller_of there (sum_of to from)).threshold
+
+turn_small : {f : Fraction} {a x y : Pair} → Fits32 f → Spread scale step_counts 9 a → Spread scale step_counts 9 x → Spread scale step_counts 9 y →
+    TurnReady f a x y
+turn_small t h k l = record {
+  adds = (spread_small k, spread_small l);
+  compares = (spread_small h, sum-small _ _ k l);
+  lowers = (t, choice_narrow widest widest scale step_counts here _ _ _ h k l);
+}
 
 pub turn_ready : (n k : ℕ) (w : Work) → length w.zone ≡ 81 → RoundReady w n k → (i j : ℕ) →
-    i < n → j < n → (v s : Work) → v ≡ round_steps n k i w → s ≡ row_steps k i j v → TurnReady s k i j
+    i < n → j < n → (v s : Work) → v ≡ round_steps n k i w → s ≡ row_steps k i j v →
+    TurnReady s.fraction (entry s i j) (entry s i k) (entry s k j)
 turn_ready n k w size r i j hi hj v s e g =
-    subst (λ (x : Work). TurnReady x k i j) (sym (g ∙ ap (row_steps k i j) e)) (record {
-      at = at_small widest widest scale step_counts here n k w size r.n≤ r.k< r.diagonal r.spread i j hi hj;
-      to = to-small widest widest scale step_counts here n k w size r.n≤ r.k< r.diagonal r.spread i j hi hj;
-      from = from-small widest widest scale step_counts here n k w size r.n≤ r.k< r.diagonal r.spread i j hi hj;
-      fraction =
-          inside_narrow widest widest scale step_counts here n k w size r.n≤ r.k< r.diagonal r.spread r.fraction i j hi (omega arith);
-    })
-
-pub turn_narrow : (s : Work) (k i j : ℕ) → TurnReady s k i j → Fits32 (smaller_of (entry s i j) (sum_of (entry s i k) (entry s k j))).threshold
-turn_narrow s k i j t = choice_narrow widest widest scale step_counts here _ _ _ t.at t.to t.from
+    subst (λ (x : Work). TurnReady x.fraction (entry x i j) (entry x i k) (entry x k j)) (sym (g ∙ ap (row_steps k i j) e)) (turn_small
+    (inside_narrow widest widest scale step_counts here n k w size r.n≤ r.k< r.diagonal r.spread r.fraction i j hi (omega arith))
+    (at_small widest widest scale step_counts here n k w size r.n≤ r.k< r.diagonal r.spread i j hi hj)
+    (to-small widest widest scale step_counts here n k w size r.n≤ r.k< r.diagonal r.spread i j hi hj)
+    (from-small widest widest scale step_counts here n k w size r.n≤ r.k< r.diagonal r.spread i j hi hj))
 
 -- ---- in the reduction of w: what its loops ask, v being the zone after k middle indices
 module _ (n : ℕ) (w : Work) (size : length w.zone ≡ 81) (r : Ready w n) (k : ℕ) (v : Work) (k< : k < n)
@@ -309,7 +309,8 @@ module _ (n : ℕ) (w : Work) (size : length w.zone ≡ 81) (r : Ready w n) (k :
       (alive_at widest widest scale step_counts here n w r.n≤
       (record { size = size; diagonal = r.diagonal }) r.bounded k (omega arith) (ap is_empty e)).size
 
-  pub turn_of : (i j : ℕ) → i < n → j < n → (u s : Work) → u ≡ round_steps n k i v → s ≡ row_steps k i j u → TurnReady s k i j
+  pub turn_of : (i j : ℕ) → i < n → j < n → (u s : Work) → u ≡ round_steps n k i v → s ≡ row_steps k i j u →
+      TurnReady s.fraction (entry s i j) (entry s i k) (entry s k j)
   turn_of = turn_ready n k v long ready
 
   pub skip_of : {u : Work} (i : ℕ) → i ≡ k → u ≡ round_steps n k i v → u ≡ round_steps n k (i + 1) v

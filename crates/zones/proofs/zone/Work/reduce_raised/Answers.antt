@@ -1,16 +1,14 @@
 -- `Work::reduce_raised` meets its contract: all that the definition's other comparisons do is leave the zone as it is.
 use mathlib.Core.Path.{◌≡◌, refl, sym, subst, ◌∙◌}
 use native.Mathlib.Omega.{arith}
-use borrow.Author.Rules.{rules}
 use lib.ListN.{length}
 use Rattle.zones.specs.declared.zone.Work.{Work}
 use Rattle.zones.specs.Zones.{pair_at}
-use Rattle.zones.specs.Ranges.{Fits32}
 use Rattle.zones.specs.Reductions.{row_steps}
 use Rattle.zones.specs.Settled.{Raised}
 use Rattle.zones.proofs.settled.Columns.{column_step, column_first, zero_row, column_next, column_live}
-use Rattle.zones.proofs.ranges.Ranges.{TurnReady, spread_small, sum-small, turn_narrow, turn_of}
-use Rattle.zones.proofs.reductions.Rounds.{relaxed_is, round_all}
+use Rattle.zones.proofs.ranges.Ranges.{TurnReady, turn_of}
+use Rattle.zones.proofs.reductions.Rounds.{first_of, first_is, column_is, round_all}
 use Rattle.zones.proofs.reductions.Progress.{reduced_next, reduced_end}
 use Rattle.zones.proofs.zone.Work.reduce_raised.Goals as goal
 use Rattle.zones.proofs.zone.Work.reduce_raised.Goals.{In-loop-i}
@@ -37,37 +35,31 @@ loop-i-init c =
     )
 
 -- past the three reads: what the comparison asks of the pairs and the fraction
-turn : (c : In-loop-i) →
-    TurnReady c.loop-i.work c.loop-k.k c.loop-i.i 0
+turn : (c : In-loop-i) → let s : Work = c.loop-i.work in
+    TurnReady s.fraction (first_of s.zone c.loop-i.i) (pair_at s.zone c.loop-i.i c.loop-k.k) (first_of s.zone c.loop-k.k)
 unfolding row_steps
 turn c = let size : length c.args.self.zone ≡ 81 = c.well_formed.0.1.1.0.1.0.1 in
-    turn_of _ c.args.self size c.requires.0 _ _ (omega arith)
-    c.loop-k.invariant.3 _ 0 (omega arith) c.requires.1.some _ _ c.loop-i.invariant.4 refl
+    rw (first_is _ _, first_is _ _) (turn_of _ c.args.self size c.requires.0 _ _ (omega arith)
+    c.loop-k.invariant.3 _ 0 (omega arith) c.requires.1.some _ _ c.loop-i.invariant.4 refl)
 
 pub sum-requires : goal.sum-requires
 unfolding pair_at
-sum-requires c = let t = turn (goal.at.sum-requires c).In-loop-i in (spread_small t.to, spread_small t.from)
+sum-requires c = (turn (goal.at.sum-requires c).In-loop-i).adds
 
 pub smaller-choice-requires : goal.smaller-choice-requires
 unfolding pair_at
-smaller-choice-requires c =
-    let t = turn (goal.at.smaller-choice-requires c).In-loop-i in
-    (spread_small t.at, rw c.sum.ensures (sum-small _ _ t.to t.from))
+smaller-choice-requires c = rw c.sum.ensures (turn (goal.at.smaller-choice-requires c).In-loop-i).compares
 
 pub lower-requires : goal.lower-requires
 unfolding pair_at
-lower-requires c =
-    let t = turn (goal.at.lower-requires c).In-loop-i in
-    let fits : Fits32 c.smaller-choice.result.threshold =
-    rw (c.smaller-choice.ensures, c.sum.ensures) (turn_narrow _ _ _ _ t) in
-    search rules
+lower-requires c = rw (c.smaller-choice.ensures, c.sum.ensures) (turn (goal.at.lower-requires c).In-loop-i).lowers
 
 pub loop-i-preserved : goal.loop-i-preserved
 unfolding pair_at
 loop-i-preserved c =
     let d = c.requires.1 in
     let now : Work = c.loop-i.work in
-    let step = relaxed_is now _ _ _ _ _ _ c.sum.ensures c.smaller-choice.ensures c.lower.ensures in
+    let step = column_is now _ _ _ _ _ c.sum.ensures c.smaller-choice.ensures c.lower.ensures in
     let was = c.loop-k.invariant.4 d.base d.settled d.raised in
     let o = c.loop-i.invariant.5 d.base d.settled was in (
       omega arith,
