@@ -6,6 +6,7 @@ ghost use Rattle.zones_bench.specs.Bench.{bench_pair, bench_square, bench_work, 
 
 use zones::fraction::Fraction;
 use zones::pair::Pair;
+use zones::reduction::Unreduced;
 use zones::zone::Work;
 
 // A checksum over `times` reductions of a zone of `size` indices; 0 where there is no such zone.
@@ -40,7 +41,11 @@ fn once(z: [Pair; 81], size: usize, t: u64) -> u64
     requires { (z ≡ bench_square) × (0 < size) × (size ≤ 9) }
     ensures { (result ≡ bench_once size t) × (result < 2000006) }
 {
-    let r = varied(z, t).reduce(size);
+    let unreduced = Unreduced {
+        work: varied(z, t),
+        size,
+    };
+    let r = unreduced.reduce();
     probe(r.work, size)
 }
 

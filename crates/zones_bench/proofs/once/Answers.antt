@@ -4,8 +4,8 @@ use Rattle.zones_bench.specs.Bench.{bench_once}
 use Rattle.zones_bench.proofs.Filling.{work_ready}
 use Rattle.zones_bench.proofs.once.Goals as goal
 
-pub reduce-r-requires : goal.reduce-r-requires
-reduce-r-requires c = rw c.varied.ensures (work_ready _ _ (omega arith))
+pub invariant_of-unreduced : goal.invariant_of-unreduced
+invariant_of-unreduced c = record { ready = rw c.varied.ensures (work_ready _ _ (omega arith)) }
 
 pub returns : goal.returns
 unfolding bench_once

@@ -73,6 +73,21 @@ pub raise-raised-requires : goal.raise-raised-requires
 raise-raised-requires c =
     record { few_clocks = (asks (goal.at.raise-raised-requires c).After-reset-cleared).0 }
 
+pub invariant_of-unreduced : goal.invariant_of-unreduced
+unfolding invariant_of
+invariant_of-unreduced c =
+    let a = c.args.automaton.now.accepted in
+    let hl = c.requires.there in
+    let at = at≡ (goal.at.invariant_of-unreduced c).After-reset-cleared in
+    let n = size≡ (goal.at.invariant_of-unreduced c).After-reset-cleared in
+    let live = sym c.is_some.ensures ∙ c.if-is_some.false in
+    record {
+      ready =
+          raised_ready _ (n≤ (goal.at.invariant_of-unreduced c).After-reset-cleared) _ (one_more n) (10 * counts) (omega arith) (omega arith) _
+          (invariant_scale _ a _ hl) (ready (goal.at.invariant_of-unreduced c).After-reset-cleared).0 (meets _ _ at n c.narrow-met.ensures) live
+          (λ x px hx. a.invariant_hi _ x hl px (omega arith)) (raises _ _ at n c.raise-raised.ensures);
+    }
+
 pub reduce_raised-requires : goal.reduce_raised-requires
 unfolding invariant_of
 reduce_raised-requires c =
@@ -83,14 +98,9 @@ reduce_raised-requires c =
     let met = meets _ _ at n c.narrow-met.ensures in
     let up = raises _ _ at n c.raise-raised.ensures in
     let live = sym c.is_some.ensures ∙ c.if-is_some.false in
-    let o = invariant_scale _ a _ hl in (
-      raised_ready _ (n≤ (goal.at.reduce_raised-requires c).After-reset-cleared) _ (one_more n) (10 * counts) (omega arith) (omega arith) _ o
-          (ready (goal.at.reduce_raised-requires c).After-reset-cleared).0 met live
-          (λ x px hx. a.invariant_hi _ x hl px (omega arith)) up,
-      raised_lifted _ (n≤ (goal.at.reduce_raised-requires c).After-reset-cleared) _ (one_more n) (10 * counts) (omega arith) (omega arith) _ o
-          (ready (goal.at.reduce_raised-requires c).After-reset-cleared).0 met live
-          (λ x px hx. a.invariant_present _ x hl px (omega arith)) up,
-    )
+    raised_lifted _ (n≤ (goal.at.reduce_raised-requires c).After-reset-cleared) _ (one_more n) (10 * counts) (omega arith) (omega arith) _
+    (invariant_scale _ a _ hl) (ready (goal.at.reduce_raised-requires c).After-reset-cleared).0 met live
+    (λ x px hx. a.invariant_present _ x hl px (omega arith)) up
 
 pub returns : goal.returns
 unfolding invariant_of
@@ -109,5 +119,5 @@ overflow_add-c c = omega (arith, few (goal.at.overflow_add-c c).Start)
 pub reset-cleared-requires : goal.reset-cleared-requires
 reset-cleared-requires c = omega (arith, few (goal.at.reset-cleared-requires c).Start)
 
-pub overflow_add-c-2 : goal.overflow_add-c-2
-overflow_add-c-2 c = omega (arith, few (goal.at.overflow_add-c-2 c).Start)
+pub overflow_add-unreduced : goal.overflow_add-unreduced
+overflow_add-unreduced c = omega (arith, few (goal.at.overflow_add-unreduced c).Start)
