@@ -2,6 +2,7 @@
 #![tactic(auto)]
 
 ghost use Rattle.std.specs.Prelude.{◌≡◌, ◌<◌, ◌≤◌};
+ghost use Rattle.std.proofs.Props.{props};
 ghost use Rattle.zones_bench.specs.Bench.{bench_pair, bench_square, bench_work, probe_of, bench_once, bench_total, bench_of};
 
 use zones::fraction::Fraction;
@@ -14,74 +15,77 @@ use zones::zone::Work;
 pub extern "C" fn zones_bench_reduce(size: usize, times: u64) -> u64
     ensures { result ≡ bench_of size times }
 {
-    if size == 0 {
+    if size == 0 || 9 < size {
         return 0;
     }
-    if 9 < size {
-        return 0;
-    }
-    total(size, times)
-}
-
-// Each time a copy of the square is varied and reduced.
-fn total(size: usize, times: u64) -> u64
-    requires { (0 < size) × (size ≤ 9) }
-    ensures { result ≡ bench_total size times }
-{
-    let z = square();
-    let mut sum: u64 = 0;
-    for t in 0..times {
-        sum = (sum + once(z, size, t)) % 1000003;
-    }
-    sum
-}
-
-// The probe after one reduction.
-fn once(z: [Pair; 81], size: usize, t: u64) -> u64
-    requires { (z ≡ bench_square) × (0 < size) × (size ≤ 9) }
-    ensures { (result ≡ bench_once size t) × (result < 2000006) }
-{
-    let unreduced = Unreduced {
-        work: varied(z, t),
+    let bench = Bench {
+        square: square(),
         size,
     };
-    let r = unreduced.reduce();
-    probe(r.work, size)
+    bench.total(times)
 }
 
-// The zone to be reduced: entry (1, 0) goes with t.
-fn varied(z: [Pair; 81], t: u64) -> Work
-    requires { z ≡ bench_square }
-    ensures { result ≡ bench_work t }
-{
-    let mut y = z;
-    y[9] = Pair {
-        m: (t % 64) as i64,
-        p: t % 16,
-    };
-    Work {
-        zone: y,
-        fraction: Fraction::NO_LIMIT,
+// The square that every reduction begins with, but for the entry that is varied, and how many of its indices are reduced.
+#[derive(Drop)]
+struct Bench {
+    square: [Pair; 81],
+    size: usize,
+    ghost filled: { square ≡ bench_square } by { Prim.hlevel props },
+    ghost some: { (0 < size) × (size ≤ 9) },
+}
+
+impl Bench {
+    // Each time a copy of the square is varied and reduced.
+    fn total(&self, times: u64) -> u64
+        ensures { result ≡ bench_total self.now.size times }
+    {
+        let mut sum: u64 = 0;
+        for t in 0..times {
+            sum = (sum + self.once(t)) % 1000003;
+        }
+        sum
+    }
+
+    // The probe after one reduction.
+    fn once(&self, t: u64) -> u64
+        ensures { (result ≡ bench_once self.now.size t) × (result < 2000006) }
+    {
+        let unreduced = Unreduced {
+            work: self.varied(t),
+            size: self.size,
+        };
+        self.probe(&unreduced.reduce().work)
+    }
+
+    // The zone to be reduced: entry (1, 0) goes with t.
+    fn varied(&self, t: u64) -> Work
+        ensures { result ≡ bench_work t }
+    {
+        let mut zone = self.square;
+        zone[9] = Pair {
+            // i64 has no From of u64.
+            m: (t % 64) as i64,
+            p: t % 16,
+        };
+        Work {
+            zone,
+            fraction: Fraction::NO_LIMIT,
+        }
+    }
+
+    // What the checksum takes of a reduction: the error count of entry (0, size − 1), and the fraction's n.
+    fn probe(&self, w: &Work) -> u64
+        ensures { (result ≡ probe_of self.now.size w.now) × (result < 2000006) }
+    {
+        w.zone[self.size - 1].p % 1000003 + w.fraction.n % 1000003
     }
 }
 
-// What the checksum takes of a reduction: the error count of entry (0, size − 1), and the fraction's n.
-fn probe(w: Work, size: usize) -> u64
-    requires { (0 < size) × (size ≤ 9) }
-    ensures { (result ≡ probe_of size w) × (result < 2000006) }
-{
-    let q = w.zone[size - 1];
-    let p = q.p;
-    let n = w.fraction.n;
-    p % 1000003 + n % 1000003
-}
-
-// The zone that every reduction begins with, but for the entry that is varied.
+// The square, entry by entry.
 fn square() -> [Pair; 81]
     ensures { result ≡ bench_square }
 {
-    let first = Work::first();
-    let mut z = first.zone;
+    let mut z = Work::first().zone;
     for at in 0..81 {
         z[at] = pair_of(at);
     }
@@ -98,6 +102,7 @@ fn pair_of(at: usize) -> Pair
     if i == j {
         return Pair::ZERO;
     }
+    // Neither i64 nor u64 has a From of usize.
     Pair {
         m: ((17 * i + 13 * j) % 31 + 1) as i64,
         p: ((13 * i + 3 * j) % 29) as u64,

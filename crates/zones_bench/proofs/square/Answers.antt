@@ -6,7 +6,7 @@ use Rattle.zones_bench.proofs.square.Goals as goal
 
 pub loop-at-init : goal.loop-at-init
 unfolding bench_places
-loop-at-init c = ap (λ w. w.zone) c.first-first.ensures
+loop-at-init c = ap (λ w. w.zone) c.first.ensures
 
 pub loop-at-preserved : goal.loop-at-preserved
 loop-at-preserved c = filled_next _ c.loop-at.invariant c.pair_of.ensures
