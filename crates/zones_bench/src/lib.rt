@@ -54,7 +54,7 @@ impl Bench {
             work: self.varied(t),
             size: self.size,
         };
-        self.probe(&unreduced.reduce().work)
+        self.probe(unreduced.reduce().work)
     }
 
     // The zone to be reduced: entry (1, 0) goes with t.
@@ -74,8 +74,8 @@ impl Bench {
     }
 
     // What the checksum takes of a reduction: the error count of entry (0, size − 1), and the fraction's n.
-    fn probe(&self, w: &Work) -> u64
-        ensures { (result ≡ probe_of self.now.size w.now) × (result < 2000006) }
+    fn probe(&self, w: Work) -> u64
+        ensures { (result ≡ probe_of self.now.size w) × (result < 2000006) }
     {
         w.zone[self.size - 1].p % 1000003 + w.fraction.n % 1000003
     }
