@@ -95,10 +95,9 @@ pub(crate) fn enter(automaton: &Automaton, l: usize, w: Work, resets: [bool; 9])
     if met.emptied.is_some() {
         return met;
     }
-    let raised = raise(automaton, at, c, met.work);
-    let unreduced = Unreduced {
-        work: raised,
+    let raised = Unreduced {
+        work: raise(automaton, at, c, met.work),
         size: c + 1,
     };
-    unreduced.reduce_raised()
+    raised.reduce_raised()
 }
