@@ -4,6 +4,7 @@ ghost use Rattle.zones.specs.Fractions.{lowered_by, gcd_of, lowest_terms};
 ghost use Rattle.zones.specs.Ranges.{Fits32};
 
 // n/d: the error e/s must stay below it.
+// A slot has any two numbers, and lowest terms are of any: so it is what multiplies that asks Fits32, and not the type.
 #[derive(Clone, Copy)]
 pub struct Fraction {
     pub n: u64,

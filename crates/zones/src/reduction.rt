@@ -16,7 +16,7 @@ pub struct Reduced {
     pub emptied: Option<Fraction>,
 }
 
-// A zone at work, how many indices it has, and that it can be reduced.
+// A zone to be reduced, and how many indices it has: at most nine, with entries in the range in which no sum overflows.
 #[derive(Clone, Copy)]
 pub struct Unreduced {
     pub work: Work,
