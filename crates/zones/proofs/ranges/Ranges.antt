@@ -24,14 +24,14 @@ use Rattle.zones.specs.Fractions.{lowered_by}
 use Rattle.zones.specs.Pairs.{zero_pair, at_most, at_least, sum_of, smaller_of, threshold_of}
 use Rattle.zones.specs.Zones.{entry, lower_at, upper_met, upper_met_if}
 use Rattle.std.specs.Prelude.{Option, None, Some}
-use Rattle.zones.specs.Reductions.{relaxed, row_steps, round_steps, empty_below, after_middle, reduce_steps}
+use Rattle.zones.specs.Reductions.{relaxed, row_steps, round_steps, empty_below, reduce_steps}
 use Rattle.zones.specs.Ranges.{Bounded, Narrow, Small, Fits32, Spread, Suffices, step_counts, last_counts, widest}
 use Rattle.zones.specs.Ranges.{Ready, RoundReady, DiagonalReady, LimitsReady}
 use Rattle.runs.specs.Limits.{scale}
 use Rattle.zones.proofs.pairs.Choices.{less_shows, not_less_shows, threshold_cases, smaller_cases, lowered_cases}
 use Rattle.zones.proofs.reductions.Rounds.{chosen, RowDone, row_done, reads_at, reads_to, reads_from, RoundDone, round_done}
 use Rattle.zones.proofs.reductions.Rounds.{middle, still, row_skip}
-use Rattle.zones.proofs.reductions.Progress.{Alive, along, seen_in, after_live, after_empty}
+use Rattle.zones.proofs.reductions.Progress.{Alive, along, seen_in, after_cases}
 use Rattle.zones.proofs.pairs.Order.{sum_p}
 use Rattle.zones.proofs.ranges.Size.{sum-up, sum-down, reduce_spread}
 
@@ -121,31 +121,22 @@ module _ (N D C P : ℕ) (enough : Suffices N D C P) where
       row : RowDone k i j (round_steps n k i w) (row_steps k i j (round_steps n k i w))
       row = row_done (round_steps n k i w) k i (omega arith) (omega arith) dv done.size j (omega arith)
 
-      pub at_small : Spread C P 9 (entry (row_steps k i j (round_steps n k i w)) i j)
-      at_small =
-          rw (
-            reads_at (round_steps n k i w) k i (omega arith) (omega arith) dv j (omega arith) s row,
-            done.rest i j (omega arith) (λ h g. omega arith),
-          ) (spread i j i< j<)
-
-      pub to-small : Spread C P 9 (entry (row_steps k i j (round_steps n k i w)) i k)
-      to-small =
-          rw (
-            reads_to (round_steps n k i w) k i (omega arith) (omega arith) dv j (omega arith) s row,
-            done.rest i k (omega arith) (λ h g. omega arith),
-          ) (spread i k i< k<)
-
-      pub from-small : Spread C P 9 (entry (row_steps k i j (round_steps n k i w)) k j)
-      from-small =
-          rw (
-            reads_from (round_steps n k i w) k i (omega arith) (omega arith) dv j (omega arith) s row,
-            middle w n k n≤ k< diagonal i (omega arith) (round_steps n k i w) done j j<,
-          ) (spread k j k< j<)
+      -- the pair there, and the two of the way round
+      pub reads : Spread C P 9 (entry (row_steps k i j (round_steps n k i w)) i j)
+          × Spread C P 9 (entry (row_steps k i j (round_steps n k i w)) i k) × Spread C P 9 (entry (row_steps k i j (round_steps n k i w)) k j)
+      reads =
+          let v = round_steps n k i w in
+          let rest : (b : ℕ) → b < 9 → entry v i b ≡ entry w i b = λ b hb. done.rest i b hb (λ h g. omega arith) in (
+            rw (reads_at v k i (omega arith) (omega arith) dv j (omega arith) s row, rest j (omega arith)) (spread i j i< j<),
+            rw (reads_to v k i (omega arith) (omega arith) dv j (omega arith) s row, rest k (omega arith)) (spread i k i< k<),
+            rw (reads_from v k i (omega arith) (omega arith) dv j (omega arith) s row, middle w n k n≤ k< diagonal i (omega arith) v done j j<)
+                (spread k j k< j<),
+          )
 
       step_narrow : Narrow N D (row_steps k i j (round_steps n k i w)).fraction →
           Narrow N D (relaxed k i j (row_steps k i j (round_steps n k i w))).fraction
       unfolding relaxed lower_at
-      step_narrow h = lowered_narrow N D _ _ h (choice_narrow _ _ _ at_small to-small from-small)
+      step_narrow h = lowered_narrow N D _ _ h (choice_narrow _ _ _ reads.0 reads.1 reads.2)
 
     row_narrow : (i : ℕ) → i < n → Narrow N D (round_steps n k i w).fraction → (j : ℕ) → j ≤ n →
         Narrow N D (row_steps k i j (round_steps n k i w)).fraction
@@ -187,34 +178,22 @@ module _ (N D C P : ℕ) (enough : Suffices N D C P) where
     pub reduce_narrow : Narrow N D w.fraction → (k : ℕ) → k ≤ n → Narrow N D (reduce_steps n k w).work.fraction
     unfolding reduce_steps
     reduce_narrow f zero h = f
-    reduce_narrow f (suc k) h = go (is_empty (reduce_steps n k w)) refl (reduce_narrow f k (omega arith))
-      where
-        r : Reduced
-        r = reduce_steps n k w
-
-        go : (t : Bool) → is_empty (reduce_steps n k w) ≡ t → Narrow N D (reduce_steps n k w).work.fraction →
-            Narrow N D (after_middle n k (reduce_steps n k w)).work.fraction
-        go true e q = rw (after_empty n k r e) q
-        go false e q =
-            let a = alive_at k (omega arith) e in
-            rw (after_live n k r e) (whole_narrow n k r.work a.size n≤ h (a.diagonal k h) (spread_at k h e) q)
+    reduce_narrow f (suc k) h =
+        let q = reduce_narrow f k (omega arith) in
+        after_cases n k (reduce_steps n k w) (λ r. Narrow N D r.work.fraction) (λ e. q)
+        (λ e. let a = alive_at k (omega arith) e in whole_narrow n k _ a.size n≤ h (a.diagonal k h) (spread_at k h e) q)
 
     -- and what the safe fraction is lowered by
     pub reduce_safe : (k : ℕ) → k ≤ n → Narrow N D (safe_of (reduce_steps n k w))
     unfolding reduce_steps
     reduce_safe zero h = record { n = omega (arith, enough.n, enough.one); d = omega arith }
-    reduce_safe (suc k) h = go (is_empty (reduce_steps n k w)) refl (reduce_safe k (omega arith))
-      where
-        r : Reduced
-        r = reduce_steps n k w
-
-        go : (t : Bool) → is_empty (reduce_steps n k w) ≡ t → Narrow N D (safe_of (reduce_steps n k w)) →
-            Narrow N D (safe_of (after_middle n k (reduce_steps n k w)))
-        go true e q = rw (after_empty n k r e) q
-        go false e q =
-            let a = alive_at k (omega arith) e in
-            rw (after_live n k r e, seen_safe n (round_steps n k n r.work)) (safe_narrow n (round_steps n k n r.work)
-            (λ b hb. after_spread n k r.work a.size n≤ h (a.diagonal k h) (spread_at k h e) b b hb hb))
+    reduce_safe (suc k) h =
+        let q = reduce_safe k (omega arith) in
+        let v = round_steps n k n (reduce_steps n k w).work in
+        after_cases n k (reduce_steps n k w) (λ r. Narrow N D (safe_of r)) (λ e. q)
+        (λ e.
+        let a = alive_at k (omega arith) e in
+        rw (seen_safe n v) (safe_narrow n v (λ b hb. after_spread n k _ a.size n≤ h (a.diagonal k h) (spread_at k h e) b b hb hb)))
 
 -- ---- what the code asks
 pub diagonal_small : {a : Pair} → Spread scale step_counts 18 a → Small a
@@ -280,12 +259,12 @@ pub record TurnReady (f : Fraction) (there to from : Pair) : Type 0 where
   pub compares : Small there × Small (sum_of to from)
   pub lowers : Fits32 f × Fits32 (smaller_of there (sum_of to from)).threshold
 
-turn_small : {f : Fraction} {a x y : Pair} → Fits32 f → Spread scale step_counts 9 a → Spread scale step_counts 9 x → Spread scale step_counts 9 y →
+turn_small : {f : Fraction} {a x y : Pair} → Fits32 f → Spread scale step_counts 9 a × Spread scale step_counts 9 x × Spread scale step_counts 9 y →
     TurnReady f a x y
-turn_small t h k l = record {
-  adds = (spread_small k, spread_small l);
-  compares = (spread_small h, sum-small _ _ k l);
-  lowers = (t, choice_narrow widest widest scale step_counts here _ _ _ h k l);
+turn_small t h = record {
+  adds = (spread_small h.1, spread_small h.2);
+  compares = (spread_small h.0, sum-small _ _ h.1 h.2);
+  lowers = (t, choice_narrow widest widest scale step_counts here _ _ _ h.0 h.1 h.2);
 }
 
 pub turn_ready : (n k : ℕ) (w : Work) → length w.zone ≡ 81 → RoundReady w n k → (i j : ℕ) →
@@ -294,9 +273,7 @@ pub turn_ready : (n k : ℕ) (w : Work) → length w.zone ≡ 81 → RoundReady 
 turn_ready n k w size r i j hi hj v s e g =
     subst (λ (x : Work). TurnReady x.fraction (entry x i j) (entry x i k) (entry x k j)) (sym (g ∙ ap (row_steps k i j) e)) (turn_small
     (inside_narrow widest widest scale step_counts here n k w size r.n≤ r.k< r.diagonal r.spread r.fraction i j hi (omega arith))
-    (at_small widest widest scale step_counts here n k w size r.n≤ r.k< r.diagonal r.spread i j hi hj)
-    (to-small widest widest scale step_counts here n k w size r.n≤ r.k< r.diagonal r.spread i j hi hj)
-    (from-small widest widest scale step_counts here n k w size r.n≤ r.k< r.diagonal r.spread i j hi hj))
+    (reads widest widest scale step_counts here n k w size r.n≤ r.k< r.diagonal r.spread i j hi hj))
 
 -- ---- in the reduction of w: what its loops ask, v being the zone after k middle indices
 module _ (n : ℕ) (w : Work) (size : length w.zone ≡ 81) (r : Ready w n) (k : ℕ) (v : Work) (k< : k < n)

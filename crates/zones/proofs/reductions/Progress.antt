@@ -111,12 +111,17 @@ pub after_empty : (n k : ℕ) (r : Reduced) → is_empty r ≡ true → after_mi
 unfolding after_middle
 after_empty n k r e = rw e
 
-pub live_before : (n k : ℕ) (r : Reduced) → is_empty (after_middle n k r) ≡ false → is_empty r ≡ false
-live_before n k r e = go (is_empty r) refl
+-- what holds of an empty zone, and of one that is not empty after its round, holds after the middle index
+pub after_cases : (n k : ℕ) (r : Reduced) (P : Reduced → Type 0) → (is_empty r ≡ true → P r) →
+    (is_empty r ≡ false → P (leaves (round_steps n k n r.work) (seen_in n (round_steps n k n r.work)))) → P (after_middle n k r)
+after_cases n k r P f g = go (is_empty r) refl
   where
-    go : (t : Bool) → is_empty r ≡ t → is_empty r ≡ false
-    go true f = true_false (sym f ∙ sym (ap is_empty (after_empty n k r f)) ∙ e)
-    go false f = f
+    go : (t : Bool) → is_empty r ≡ t → P (after_middle n k r)
+    go true e = subst P (sym (after_empty n k r e)) (f e)
+    go false e = subst P (sym (after_live n k r e)) (g e)
+
+pub live_before : (n k : ℕ) (r : Reduced) → is_empty (after_middle n k r) ≡ false → is_empty r ≡ false
+live_before n k r = after_cases n k r (λ x. is_empty x ≡ false → is_empty r ≡ false) (λ f e. e) (λ f e. f)
 
 pub stays : (n k : ℕ) (w : Work) → is_empty (reduce_steps n k w) ≡ true → (j : ℕ) → k ≤ j → reduce_steps n j w ≡ reduce_steps n k w
 unfolding reduce_steps
