@@ -3,7 +3,7 @@
 -- Assumes nothing.
 use Rattle.zones.specs.Reductions.{safe_of}
 use Rattle.zones.specs.Reductions.{is_empty}
-use Prim.Native.Nat.{ℕ, suc, ◌+◌, ◌*◌, ◌<◌, ◌≤◌}
+use Prim.Native.Nat.{ℕ, suc, ◌*◌, ◌<◌, ◌≤◌}
 use mathlib.Core.Path.{◌≡◌, refl, ap, ◌∙◌}
 use mathlib.Core.Bool.{Bool, false}
 use mathlib.Core.Logic.{inl}
@@ -12,7 +12,6 @@ use lib.IntN.{pos, neg_ℤ, nat_abs}
 use lib.Signed.{◌≤ℤ◌}
 use native.Mathlib.Omega.{arith}
 use native.Mathlib.Decide.{dec_lt}
-use native.Mathlib.Nat.{mul-le-mul_right}
 use Rattle.zones.specs.declared.pair.Pair.{Pair}
 use Rattle.zones.specs.declared.zone.Work.{Work}
 use Rattle.zones.proofs.pairs.Integers.{int, abs_law, neg_law}
@@ -30,7 +29,7 @@ use Rattle.zones.proofs.pairs.Order.{◌≼◌, ≼_refl, ≼_trans, smaller_lef
 use Rattle.zones.proofs.places.Places.{first_at, first_size, lower_size, lower_place, RaisedBy, raised_by, reset_by_lem, home-zero, home_below}
 use Rattle.zones.proofs.reductions.Progress.{Alive, along}
 use Rattle.zones.proofs.ranges.Ranges.{lowered_narrow, smaller_bounded, both_narrow, bounded_spread, reduce_narrow, reduce_safe}
-use Rattle.zones.proofs.ranges.Size.{reduce_spread}
+use Rattle.zones.proofs.ranges.Size.{spread_more, reduce_spread}
 use Rattle.zones.proofs.sets.Steps.{reduce_ind, reduce_size, reduce_signs}
 
 -- what is no larger has no larger m
@@ -179,8 +178,7 @@ module _ (N D C P n : ℕ) (enough : Suffices N D C P) (n≤ : n ≤ 9) (n> : 0 
       few : (a b : ℕ) → a < n → b < n → (entry (reduce_of n w).work a b).p ≤ 10 * P
       few a b ha hb =
           let s = reduce_spread C P n w n≤ alive (λ i j hi hj. bounded_spread C P (r.ranged.bounded i j hi hj)) n (omega arith) live a b ha hb in
-          let k : n + 1 ≤ 10 = omega arith in
-          omega (arith, s.p, mul-le-mul_right P k)
+          (spread_more C P s (omega arith)).p
 
 -- ---- document 01's numbers: error counts of up to 100 times a kept zone's before a reduction
 fewer_suffice : (P : ℕ) → 0 < P → P ≤ step_counts → Suffices widest widest scale P

@@ -12,7 +12,6 @@ use lib.ListN.{length}
 use lib.IntN.{pos, neg_ℤ}
 use lib.Signed.{◌≤ℤ◌, lt_z}
 use native.Mathlib.Omega.{arith}
-use native.Mathlib.Nat.{mul-le-mul_right}
 use Rattle.zones.specs.declared.fraction.Fraction.{Fraction}
 use Rattle.zones.specs.declared.pair.Pair.{Pair}
 use Rattle.zones.specs.declared.reduction.Reduced.{Reduced}
@@ -33,7 +32,7 @@ use Rattle.zones.proofs.reductions.Rounds.{chosen, RowDone, row_done, reads_at, 
 use Rattle.zones.proofs.reductions.Rounds.{middle, still, row_skip}
 use Rattle.zones.proofs.reductions.Progress.{Alive, along, seen_in, after_cases}
 use Rattle.zones.proofs.pairs.Order.{sum_p}
-use Rattle.zones.proofs.ranges.Size.{sum-up, sum-down, reduce_spread}
+use Rattle.zones.proofs.ranges.Size.{sum-up, sum-down, spread_more, reduce_spread}
 
 -- ---- one comparison
 pub lowered_narrow : (N D : ℕ) (f g : Fraction) → Narrow N D f → Narrow N D g → Narrow N D (lowered_by f g)
@@ -80,7 +79,7 @@ module _ (N D C P : ℕ) (enough : Suffices N D C P) where
         deep = omega (arith, k.deep, l.deep);
         p = omega (arith, k.p, l.p);
       })
-      (λ e. record { high = h.high; deep = omega (arith, h.deep); p = omega (arith, h.p) })
+      (λ e. spread_more C P h (omega arith))
 
   -- two pairs of a square, or a limit
   pub both_narrow : (a b : Pair) → Bounded C P a → Bounded C P b → Narrow N D (smaller_of a b).threshold
@@ -172,8 +171,7 @@ module _ (N D C P : ℕ) (enough : Suffices N D C P) where
         Spread C P 9 (entry (reduce_steps n k w).work a b)
     spread_at k h e a b ha hb =
         let s = reduce_spread C P n w n≤ start (λ i j hi hj. bounded_spread C P (bounded i j hi hj)) k (omega arith) e a b ha hb in
-        let k9 : k + 1 ≤ 9 = omega arith in
-        record { high = s.high; deep = omega (arith, s.deep, mul-le-mul_right C k9); p = omega (arith, s.p, mul-le-mul_right P k9) }
+        spread_more C P s (omega arith)
 
     pub reduce_narrow : Narrow N D w.fraction → (k : ℕ) → k ≤ n → Narrow N D (reduce_steps n k w).work.fraction
     unfolding reduce_steps
