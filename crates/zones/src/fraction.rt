@@ -16,6 +16,7 @@ impl Fraction {
     pub const NO_LIMIT: Fraction = Fraction { n: 1, d: 0 };
 
     // The lower of the two; on equality the one that is there.
+    #[tactic(auto, unfolding(crate::specs::Fractions::lowered_by))]
     pub fn lowered(self, o: Fraction) -> Fraction
         requires { Fits32 self × Fits32 o }
         ensures { result ≡ lowered_by self o }
@@ -27,6 +28,7 @@ impl Fraction {
     }
 
     // The same fraction in lowest terms; 1/0 stays 1/0.
+    #[tactic(auto, using(crate::proofs::fractions::Lowest::lowest_of_small), unfolding(crate::specs::Fractions::lowest_terms))]
     pub fn lowest_terms(self) -> Fraction
         ensures { result ≡ lowest_terms self }
     {

@@ -116,6 +116,7 @@ impl Pair {
     }
 
     // The smaller of this pair, which is there, and o.
+    #[tactic(auto, unfolding(crate::specs::Pairs::is_less, crate::specs::Pairs::smaller_of))]
     pub(crate) fn smaller(self, o: Pair) -> Choice
         requires { Small self × Small o }
         ensures { result ≡ smaller_of self o }
@@ -136,6 +137,7 @@ impl Pair {
 
 impl Fraction {
     // The running fraction after a comparison in which `chosen` was chosen and `other` was not.
+    #[tactic(auto, using(crate::proofs::ranges::Ranges::bounded_small, crate::proofs::ranges::Ranges::last_narrow))]
     pub fn after_choice(self, chosen: Pair, other: Pair) -> Fraction
         requires { Fits32 self × ChoiceReady chosen other }
         ensures { result ≡ lowered_by self (threshold_of chosen other) }

@@ -38,6 +38,7 @@ fn seen_with(seen: Option<Fraction>, q: Pair) -> Option<Fraction>
 
 impl Unreduced {
     // The middle indices in order, up to the first that leaves the zone empty.
+    #[tactic(auto, unfolding(crate::specs::Reductions::reduce_steps))]
     pub fn reduce(self) -> Reduced
         ensures { result ≡ reduce_of self.size self.work }
     {

@@ -15,6 +15,7 @@ pub struct Work {
 
 impl Work {
     // Document 01's first zone.
+    #[tactic(auto, unfolding(crate::specs::Zones::first_work))]
     pub fn first() -> Work
         ensures { result ≡ first_work }
     {
@@ -71,6 +72,7 @@ impl Bounds {
     }
 
     // Whether one of the two entries is below the other's.
+    #[tactic(auto, unfolding(crate::specs::Pairs::is_less, crate::specs::Zones::bounds_below))]
     pub fn is_below(self, o: Bounds) -> bool
         ensures { result ≡ bounds_below self o }
     {

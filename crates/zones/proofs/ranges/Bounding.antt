@@ -4,7 +4,7 @@
 use Rattle.zones.specs.Reductions.{safe_of}
 use Rattle.zones.specs.Reductions.{is_empty}
 use Prim.Native.Nat.{ℕ, suc, ◌*◌, ◌<◌, ◌≤◌}
-use mathlib.Core.Path.{◌≡◌, refl, ap, ◌∙◌}
+use mathlib.Core.Path.{◌≡◌, refl, ◌∙◌}
 use mathlib.Core.Bool.{Bool, false}
 use mathlib.Core.Logic.{inl}
 use lib.ListN.{length}
@@ -27,7 +27,7 @@ use Rattle.zones.proofs.sets.Diagonals.{sign_zero}
 use Rattle.zones.proofs.sets.Meeting.{met_ind}
 use Rattle.zones.proofs.pairs.Order.{◌≼◌, ≼_refl, ≼_trans, smaller_left}
 use Rattle.zones.proofs.places.Places.{first_at, first_size, lower_size, lower_place, RaisedBy, raised_by, reset_by_lem, home-zero, home_below}
-use Rattle.zones.proofs.reductions.Progress.{Alive, along}
+use Rattle.zones.proofs.reductions.Progress.{Alive, zero_alive, along}
 use Rattle.zones.proofs.ranges.Ranges.{lowered_narrow, smaller_bounded, both_narrow, bounded_spread, reduce_narrow, reduce_safe}
 use Rattle.zones.proofs.ranges.Size.{spread_more, reduce_spread}
 use Rattle.zones.proofs.sets.Steps.{reduce_ind, reduce_size, reduce_signs}
@@ -138,7 +138,7 @@ module _ (n : ℕ) (n≤ : n ≤ 9) (w : Work) (size : length w.zone ≡ 81) whe
 
 module _ (N D C P n : ℕ) (enough : Suffices N D C P) (n≤ : n ≤ 9) (n> : 0 < n) (w : Work) (r : InRange N D C P n w) where
   alive : Alive n w
-  alive = record { size = r.ranged.size; diagonal = λ a ha. omega (arith, int, ap (λ (q : Pair). q.m) (r.ranged.diagonal a ha)) }
+  alive = zero_alive n w r.ranged.size r.ranged.diagonal
 
   -- the fraction stays in range, where the zone became empty too
   pub reduced_narrow : Narrow N D (reduce_of n w).work.fraction
@@ -206,7 +206,7 @@ module _ (P n : ℕ) (P> : 0 < P) (P≤ : P ≤ step_counts) (n≤ : n ≤ 9) (w
     n≤ = n≤;
     bounded = λ a b ha hb. record { m = (r.ranged.bounded a b ha hb).m; p = omega (arith, (r.ranged.bounded a b ha hb).p) };
     fraction = r.narrow;
-    diagonal = λ a ha. omega (arith, int, ap (λ (q : Pair). q.m) (r.ranged.diagonal a ha));
+    diagonal = (zero_alive n w r.ranged.size r.ranged.diagonal).diagonal;
   }
 
   pub sized_limits : (c : ℕ) → c < n → (L : Limits) → OnScale scale c L → (x : ℕ) → 0 < x → x < suc c →

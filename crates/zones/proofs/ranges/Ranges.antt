@@ -25,7 +25,7 @@ use Rattle.zones.specs.Zones.{entry, lower_at, upper_met, upper_met_if}
 use Rattle.std.specs.Prelude.{Option, None, Some}
 use Rattle.zones.specs.Reductions.{relaxed, row_steps, round_steps, empty_below, reduce_steps}
 use Rattle.zones.specs.Ranges.{Bounded, Narrow, Small, Fits32, Spread, Suffices, step_counts, last_counts, widest}
-use Rattle.zones.specs.Ranges.{Ready, RoundReady, DiagonalReady, LimitsReady}
+use Rattle.zones.specs.Ranges.{Ready, RoundReady, DiagonalReady, LimitsReady, ChoiceReady}
 use Rattle.runs.specs.Limits.{scale}
 use Rattle.zones.proofs.pairs.Choices.{less_shows, not_less_shows, threshold_cases, smaller_cases, lowered_cases}
 use Rattle.zones.proofs.reductions.Rounds.{chosen, RowDone, row_done, reads_at, reads_to, reads_from, RoundDone, round_done}
@@ -214,6 +214,10 @@ here = record { n = omega arith; d = omega arith; one = omega arith; count = ome
 
 pub last_here : Suffices widest widest scale last_counts
 last_here = record { n = omega arith; d = omega arith; one = omega arith; count = omega arith }
+
+-- a pair that was chosen after a step, beside that of a kept zone
+pub last_narrow : {a b : Pair} → ChoiceReady a b → Fits32 (threshold_of a b)
+last_narrow h = chosen_narrow widest widest scale last_counts last_here _ _ h.chosen h.other h.order
 
 -- a limit on the scale is met
 pub most_bounded : (hi : ℕ) → hi ≤ scale → Bounded scale step_counts (at_most hi)

@@ -14,7 +14,6 @@ use lib.Signed.{◌≤ℤ◌, ◌<ℤ◌, lt_z}
 use native.Mathlib.Omega.{arith}
 use native.Mathlib.Nat.{not-suc-le-zero}
 use Rattle.zones.specs.declared.fraction.Fraction.{Fraction}
-use Rattle.zones.specs.declared.pair.Pair.{Pair}
 use Rattle.zones.specs.declared.pair.Choice.{Choice}
 use Rattle.zones.specs.declared.zone.Work.{Work}
 use Rattle.zones.proofs.pairs.Integers.{int, lt_z_true}
@@ -29,7 +28,7 @@ use Rattle.runs.proofs.Contradictions.{true_false}
 use Rattle.zones.proofs.sets.Diagonals.{Signs, safe_n, negative_none, signs_below, sign_zero}
 use Rattle.zones.proofs.sets.Lowering.{lower_limits, falls_in}
 use Rattle.zones.proofs.pairs.Order.{smaller_or}
-use Rattle.zones.proofs.reductions.Progress.{after_cases, live_safe, Alive, along}
+use Rattle.zones.proofs.reductions.Progress.{after_cases, live_safe, Alive, zero_alive, along}
 use Rattle.zones.proofs.reductions.Rounds.{chosen, row_done, row_same, RoundDone, round_done, round_same, still}
 use Rattle.zones.proofs.sets.Squares.{up_to, Round, Through, round_through}
 use Rattle.zones.proofs.sets.Steps.{row_falls, reduce_size, reduce_falls, reduce_signs, reduce_keeps}
@@ -161,7 +160,7 @@ module _ (s e : ℕ) (s> : 0 < s) (c : ℕ) (n≤ : suc c ≤ 9) (w : Work) (g :
   signs a ha = inl (g.diagonal a ha)
 
   alive : Alive (suc c) w
-  alive = record { size = g.size; diagonal = λ a ha. omega (arith, int, ap (λ (q : Pair). q.m) (g.diagonal a ha)) }
+  alive = zero_alive (suc c) w g.size g.diagonal
 
   pub reduce_into : (v : ℕ → ℕ) → In (suc c) (square_of s e w) v → In (suc c) (square_of s e (reduce_steps (suc c) (suc c) w).work) v
   reduce_into = reduce_keeps s e s> (suc c) n≤ w g.size
