@@ -54,6 +54,7 @@ pub(crate) fn lower(f: &mut Fraction, o: Fraction)
 }
 
 // The greatest common divisor, by Euclid's algorithm; that of x and 0 is x.
+#[tactic(auto, using(crate::proofs::fractions::Lowest::gcd_step))]
 pub fn gcd(x: u64, y: u64) -> u64
     ensures { result ≡ gcd_of x y }
 {

@@ -47,6 +47,7 @@ impl Unreduced {
 
     // The same where the middle indices before `first` leave the zone as it is. The row of a middle index stays, so it is
     // left out. All loops stand in one function, so that the square is changed where it stands.
+    #[tactic(auto, unfolding(crate::specs::Reductions::row_steps, crate::specs::Reductions::round_steps))]
     pub fn reduce_from(self, first: usize) -> Reduced
         requires { Begun self.size first self.work }
         ensures { result ≡ reduce_of self.size self.work }

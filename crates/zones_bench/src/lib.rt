@@ -12,6 +12,7 @@ use zones::zone::Work;
 
 // A checksum over `times` reductions of a zone of `size` indices; 0 where there is no such zone.
 #[unsafe(no_mangle)]
+#[tactic(auto, unfolding(crate::specs::Bench::bench_of))]
 pub extern "C" fn zones_bench_reduce(size: usize, times: u64) -> u64
     ensures { result ≡ bench_of size times }
 {
@@ -36,6 +37,7 @@ struct Bench {
 
 impl Bench {
     // Each time a copy of the square is varied and reduced.
+    #[tactic(auto, unfolding(crate::specs::Bench::bench_total))]
     fn total(&self, times: u64) -> u64
         ensures { result ≡ bench_total self.now.size times }
     {
@@ -47,6 +49,7 @@ impl Bench {
     }
 
     // The probe after one reduction.
+    #[tactic(auto, using(crate::proofs::Filling::work_ready), unfolding(crate::specs::Bench::bench_once))]
     fn once(&self, t: u64) -> u64
         ensures { (result ≡ bench_once self.now.size t) × (result < 2000006) }
     {
@@ -58,6 +61,7 @@ impl Bench {
     }
 
     // The zone to be reduced: entry (1, 0) goes with t.
+    #[tactic(auto, unfolding(crate::specs::Bench::bench_work))]
     fn varied(&self, t: u64) -> Work
         ensures { result ≡ bench_work t }
     {
@@ -74,6 +78,7 @@ impl Bench {
     }
 
     // What the checksum takes of a reduction: the error count of entry (0, size − 1), and the fraction's n.
+    #[tactic(auto, using(crate::proofs::Filling::first_row), unfolding(crate::specs::Bench::probe_of))]
     fn probe(&self, w: Work) -> u64
         ensures { (result ≡ probe_of self.now.size w) × (result < 2000006) }
     {
@@ -82,6 +87,7 @@ impl Bench {
 }
 
 // The square, entry by entry.
+#[tactic(auto, unfolding(crate::specs::Bench::bench_places))]
 fn square() -> [Pair; 81]
     ensures { result ≡ bench_square }
 {
@@ -93,6 +99,7 @@ fn square() -> [Pair; 81]
 }
 
 // The entry at a place.
+#[tactic(auto, unfolding(crate::specs::Bench::bench_pair))]
 fn pair_of(at: usize) -> Pair
     requires { at < 81 }
     ensures { result ≡ bench_pair at }

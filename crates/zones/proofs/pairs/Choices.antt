@@ -87,10 +87,6 @@ threshold_cases a b P f g = go (ltb b.p a.p) refl
     go false e = g (ltb-false b.p a.p e)
 
 -- ---- the smaller of two
-pub smaller_new : (a b : Pair) (f : Fraction) → is_less b a ≡ true → f ≡ threshold_of b a → record { pair = b; threshold = f } ≡ smaller_of a b
-unfolding smaller_of
-smaller_new a b f e g = rw e (λ i. record { pair = b; threshold = g i })
-
 pub smaller_old : (a b : Pair) (f : Fraction) → is_less b a ≡ false → f ≡ threshold_of a b → record { pair = a; threshold = f } ≡ smaller_of a b
 unfolding smaller_of
 smaller_old a b f e g = rw e (λ i. record { pair = a; threshold = g i })

@@ -1,26 +1,18 @@
 -- `Unreduced::reduce_from` meets its contract: what is done is the definition's middle indices, of this one its rows, and of this row its columns.
 use Prim.Native.Nat.{ℕ, ◌+◌}
-use mathlib.Core.Path.{◌≡◌, refl, sym, ap, ◌∙◌}
+use mathlib.Core.Path.{◌≡◌, sym, ap, ◌∙◌}
 use native.Mathlib.Numerals.{add-one}
 use native.Mathlib.Omega.{arith}
 use Rattle.zones.specs.declared.zone.Work.{Work}
 use Rattle.zones.specs.Pairs.{is_less}
 use Rattle.zones.specs.Zones.{pair_at}
-use Rattle.zones.specs.Reductions.{relaxed, row_steps, round_steps, seen_with}
+use Rattle.zones.specs.Reductions.{relaxed, round_steps, seen_with}
 use Rattle.zones.proofs.ranges.Ranges.{TurnReady, turn_of, skip_of, diagonal_of}
 use Rattle.zones.proofs.reductions.Rounds.{relaxed_is, relaxed_stays, row_next, row_all, round_all}
 use Rattle.zones.proofs.reductions.Progress.{seen_in, seen_none, seen_next, reduced_next, stopped_next, is_none, leaves}
 use Rattle.zones.proofs.reduction.Unreduced.reduce_from.Goals as goal
 use Rattle.zones.proofs.reduction.Unreduced.reduce_from.Goals.{In-loop-j, After-loop-d}
 use Rattle.zones.proofs.reduction.Unreduced.reduce_from.Goals.{then-lt, else-lt, then-i-k+else-loop-j-test, else-i-k}
-
-pub loop-i-init : goal.loop-i-init
-unfolding round_steps
-loop-i-init c = (omega arith, omega arith, refl)
-
-pub loop-j-init : goal.loop-j-init
-unfolding row_steps
-loop-j-init c = (omega arith, omega arith, omega arith, refl)
 
 -- past the three reads: what the comparison asks of the pairs and the fraction
 turn : (c : In-loop-j) → let s : Work = c.loop-j.work in let k : ℕ = c.loop-k.k in let i : ℕ = c.loop-i.i in let j : ℕ = c.loop-j.j in
