@@ -18,7 +18,7 @@ use Rattle.zones.proofs.reduction.Unreduced.reduce_from.Goals.{then-lt, else-lt,
 turn : (c : In-loop-j) → let s : Work = c.loop-j.work in let k : ℕ = c.loop-k.k in let i : ℕ = c.loop-i.i in let j : ℕ = c.loop-j.j in
     TurnReady s.fraction (pair_at s.zone i j) (pair_at s.zone i k) (pair_at s.zone k j)
 turn c =
-    turn_of _ c.args.self.work c.well_formed.0.1.1.0.1.1.0.1.0.1 c.args.self.ready _ _ (omega arith) c.loop-k.invariant.1 _ _ (omega arith) (omega arith) _ _
+    turn_of _ _ c.well_formed.0.1.1.0.1.1.0.1.0.1 c.args.self.ready _ _ (omega arith) c.loop-k.invariant.1 _ _ (omega arith) (omega arith) _ _
     c.loop-i.invariant.2 c.loop-j.invariant.3
 
 pub sum-requires : goal.sum-requires
@@ -53,7 +53,7 @@ pub loop-i-preserved : goal.loop-i-preserved
 loop-i-preserved c =
     let step : c.if-i-k.work ≡ round_steps c.args.self.size c.loop-k.k (c.loop-i.i + 1) c.loop-k.work = elim c.if-i-k.branch [
       | then-i-k+else-loop-j-test w ↦ w.work-is ∙ row_all _ _ _ _ (omega arith) w.loop-j.invariant.3 c.loop-i.invariant.2
-      | else-i-k w ↦ w.work-is ∙ skip_of _ c.args.self.work c.well_formed.0.1.1.0.1.1.0.1.0.1 c.args.self.ready _ _ (omega arith) c.loop-k.invariant.1 _
+      | else-i-k w ↦ w.work-is ∙ skip_of _ _ c.well_formed.0.1.1.0.1.1.0.1.0.1 c.args.self.ready _ _ (omega arith) c.loop-k.invariant.1 _
           w.if-i-k.false c.loop-i.invariant.2
     ] in
     (omega arith, omega arith, step)
@@ -64,7 +64,7 @@ loop-d-init c = (omega arith, c.loop-k.invariant.2 ∙ seen_none _)
 pub seen_with-emptied-requires : goal.seen_with-emptied-requires
 unfolding pair_at
 seen_with-emptied-requires c =
-    diagonal_of _ c.args.self.work c.well_formed.0.1.1.0.1.1.0.1.0.1 c.args.self.ready _ _ (omega arith) c.loop-k.invariant.1 _
+    diagonal_of _ _ c.well_formed.0.1.1.0.1.1.0.1.0.1 c.args.self.ready _ _ (omega arith) c.loop-k.invariant.1 _
     (round_all _ _ _ (omega arith) c.loop-i.invariant.2) _ (omega arith) c.loop-d.invariant.1
 
 pub loop-d-preserved : goal.loop-d-preserved

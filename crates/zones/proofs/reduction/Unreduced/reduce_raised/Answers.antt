@@ -39,7 +39,7 @@ turn : (c : In-loop-i) → let s : Work = c.loop-i.work in
     TurnReady s.fraction (first_of s.zone c.loop-i.i) (pair_at s.zone c.loop-i.i c.loop-k.k) (first_of s.zone c.loop-k.k)
 unfolding row_steps
 turn c = let size : length c.args.self.work.zone ≡ 81 = c.well_formed.0.1.1.0.1.1.0.1.0.1 in
-    rw (first_is _ _, first_is _ _) (turn_of _ c.args.self.work size c.args.self.ready _ _ (omega arith)
+    rw (first_is _ _, first_is _ _) (turn_of _ _ size c.args.self.ready _ _ (omega arith)
     c.loop-k.invariant.3 _ 0 (omega arith) c.requires.some _ _ c.loop-i.invariant.4 refl)
 
 pub sum-requires : goal.sum-requires
@@ -67,7 +67,8 @@ loop-i-preserved c =
       omega arith,
       omega arith,
       step ∙ column_next _ c.args.self.ready.n≤ d.base d.settled _ now o _ _ (omega arith) (omega arith) c.loop-i.invariant.4,
-      λ b h r. subst (Raised _ b) (sym step) (column_step _ c.args.self.ready.n≤ b h now (c.loop-i.invariant.5 b h r) _ _ (omega arith) (omega arith)),
+      λ b h r.
+          subst (Raised _ b) (sym step) (column_step _ c.args.self.ready.n≤ b h now (c.loop-i.invariant.5 b h r) _ _ (omega arith) (omega arith)),
     )
 
 pub loop-k-preserved : goal.loop-k-preserved
