@@ -11,7 +11,7 @@ ghost use Rattle.search.specs.Meeting.{MetBy};
 
 use automata::opened::Automaton;
 use zones::pair::Pair;
-use zones::reduction::Reduced;
+use zones::reduction::{Reduced, Unreduced};
 use zones::zone::{Bounds, Work};
 
 // A zone on which limits were met, and whether it is known to be settled: the zone counts either way, so no Option says it.
@@ -62,7 +62,11 @@ pub fn narrow(automaton: &Automaton, at: usize, c: usize, w: Work, settled: bool
 {
     let met = meet(automaton, at, c, w, settled);
     let first = if met.settled { c + 1 } else { 0 };
-    met.work.reduce_from(c + 1, first)
+    let unreduced = Unreduced {
+        work: met.work,
+        size: c + 1,
+    };
+    unreduced.reduce_from(first)
 }
 
 // Each entry (clock, 0) is put to (hi, 1), hi among the limits at `at`.
@@ -91,6 +95,9 @@ pub(crate) fn enter(automaton: &Automaton, l: usize, w: Work, resets: [bool; 9])
     if met.emptied.is_some() {
         return met;
     }
-    let raised = raise(automaton, at, c, met.work);
-    raised.reduce_raised(c + 1)
+    let raised = Unreduced {
+        work: raise(automaton, at, c, met.work),
+        size: c + 1,
+    };
+    raised.reduce_raised()
 }

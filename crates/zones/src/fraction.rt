@@ -4,6 +4,7 @@ ghost use Rattle.zones.specs.Fractions.{lowered_by, gcd_of, lowest_terms};
 ghost use Rattle.zones.specs.Ranges.{Fits32};
 
 // n/d: the error e/s must stay below it.
+// A slot has any two numbers, and lowest terms are of any: so it is what multiplies that asks Fits32, and not the type.
 #[derive(Clone, Copy)]
 pub struct Fraction {
     pub n: u64,
@@ -15,6 +16,7 @@ impl Fraction {
     pub const NO_LIMIT: Fraction = Fraction { n: 1, d: 0 };
 
     // The lower of the two; on equality the one that is there.
+    #[tactic(auto, unfolding(crate::specs::Fractions::lowered_by))]
     pub fn lowered(self, o: Fraction) -> Fraction
         requires { Fits32 self × Fits32 o }
         ensures { result ≡ lowered_by self o }
@@ -26,6 +28,7 @@ impl Fraction {
     }
 
     // The same fraction in lowest terms; 1/0 stays 1/0.
+    #[tactic(auto, using(crate::proofs::fractions::Lowest::lowest_of_small), unfolding(crate::specs::Fractions::lowest_terms))]
     pub fn lowest_terms(self) -> Fraction
         ensures { result ≡ lowest_terms self }
     {
@@ -51,6 +54,7 @@ pub(crate) fn lower(f: &mut Fraction, o: Fraction)
 }
 
 // The greatest common divisor, by Euclid's algorithm; that of x and 0 is x.
+#[tactic(auto, using(crate::proofs::fractions::Lowest::gcd_step))]
 pub fn gcd(x: u64, y: u64) -> u64
     ensures { result ≡ gcd_of x y }
 {

@@ -12,6 +12,7 @@ use crate::fraction::Fraction;
 use std::cmp::Ordering;
 
 // A pair stands for m + p × error. Of two pairs the smaller has the smaller m; at equal m, the smaller p.
+// A slot has any two numbers, and any two pairs are compared: so it is what adds and subtracts that asks Small, and not the type.
 #[derive(Clone, Copy, PartialEq, Eq)]
 pub struct Pair {
     pub m: i64,
@@ -105,6 +106,7 @@ impl Pair {
     {
         if o.p < self.p {
             Fraction {
+                // By abs_diff, which tests the sign, a reduction would cost a fifth more time.
                 n: (o.m - self.m) as u64,
                 d: self.p - o.p,
             }
@@ -114,6 +116,7 @@ impl Pair {
     }
 
     // The smaller of this pair, which is there, and o.
+    #[tactic(auto, unfolding(crate::specs::Pairs::is_less, crate::specs::Pairs::smaller_of))]
     pub(crate) fn smaller(self, o: Pair) -> Choice
         requires { Small self × Small o }
         ensures { result ≡ smaller_of self o }
@@ -134,6 +137,7 @@ impl Pair {
 
 impl Fraction {
     // The running fraction after a comparison in which `chosen` was chosen and `other` was not.
+    #[tactic(auto, using(crate::proofs::ranges::Ranges::bounded_small, crate::proofs::ranges::Ranges::last_narrow))]
     pub fn after_choice(self, chosen: Pair, other: Pair) -> Fraction
         requires { Fits32 self × ChoiceReady chosen other }
         ensures { result ≡ lowered_by self (threshold_of chosen other) }

@@ -16,6 +16,14 @@ pub struct Reduced {
     pub emptied: Option<Fraction>,
 }
 
+// A zone to be reduced, and how many indices it has: at most nine, with entries in the range in which no sum overflows.
+#[derive(Clone, Copy)]
+pub struct Unreduced {
+    pub work: Work,
+    pub size: usize,
+    pub ghost ready: { Ready work size },
+}
+
 // What the pairs of a diagonal show, with one more: the lowest of the thresholds of those with m below 0 against (0, 0), if there are any.
 fn seen_with(seen: Option<Fraction>, q: Pair) -> Option<Fraction>
     requires { DiagonalReady seen q }
@@ -28,27 +36,28 @@ fn seen_with(seen: Option<Fraction>, q: Pair) -> Option<Fraction>
     seen
 }
 
-impl Work {
+impl Unreduced {
     // The middle indices in order, up to the first that leaves the zone empty.
-    pub fn reduce(self, size: usize) -> Reduced
-        requires { Ready self size }
-        ensures { result ≡ reduce_of size self }
+    #[tactic(auto, unfolding(crate::specs::Reductions::reduce_steps))]
+    pub fn reduce(self) -> Reduced
+        ensures { result ≡ reduce_of self.size self.work }
     {
-        self.reduce_from(size, 0)
+        self.reduce_from(0)
     }
 
     // The same where the middle indices before `first` leave the zone as it is. The row of a middle index stays, so it is
     // left out. All loops stand in one function, so that the square is changed where it stands.
-    pub fn reduce_from(self, size: usize, first: usize) -> Reduced
-        requires { Ready self size × Begun size first self }
-        ensures { result ≡ reduce_of size self }
+    #[tactic(auto, unfolding(crate::specs::Reductions::row_steps, crate::specs::Reductions::round_steps))]
+    pub fn reduce_from(self, first: usize) -> Reduced
+        requires { Begun self.size first self.work }
+        ensures { result ≡ reduce_of self.size self.work }
     {
-        let mut work = self;
+        let mut work = self.work;
         let mut emptied = None;
-        for k in first..size {
-            for i in 0..size {
+        for k in first..self.size {
+            for i in 0..self.size {
                 if i != k {
-                    for j in 0..size {
+                    for j in 0..self.size {
                         let there = work.zone[i * 9 + j];
                         let choice = there.smaller(work.zone[i * 9 + k].sum(work.zone[k * 9 + j]));
                         let pair = choice.pair;
@@ -62,7 +71,7 @@ impl Work {
                     }
                 }
             }
-            for d in 0..size {
+            for d in 0..self.size {
                 emptied = seen_with(emptied, work.zone[d * 9 + d]);
             }
             if emptied.is_some() {
@@ -73,17 +82,16 @@ impl Work {
     }
 
     // The same where column 0 of a settled zone was raised: no comparison changes anything else, and the zone is not empty.
-    pub fn reduce_raised(self, size: usize) -> Reduced
-        requires { Ready self size × Lifted size self }
-        ensures { result ≡ reduce_of size self }
+    pub fn reduce_raised(self) -> Reduced
+        requires { Lifted self.size self.work }
+        ensures { result ≡ reduce_of self.size self.work }
     {
-        let mut work = self;
-        let j = 0;
-        for k in 1..size {
-            for i in 1..size {
-                let there = work.zone[i * 9 + j];
-                let choice = there.smaller(work.zone[i * 9 + k].sum(work.zone[k * 9 + j]));
-                work.zone[i * 9 + j] = choice.pair;
+        let mut work = self.work;
+        for k in 1..self.size {
+            for i in 1..self.size {
+                let there = work.zone[i * 9];
+                let choice = there.smaller(work.zone[i * 9 + k].sum(work.zone[k * 9]));
+                work.zone[i * 9] = choice.pair;
                 lower(&mut work.fraction, choice.threshold);
             }
         }

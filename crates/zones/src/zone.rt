@@ -15,6 +15,7 @@ pub struct Work {
 
 impl Work {
     // Document 01's first zone.
+    #[tactic(auto, unfolding(crate::specs::Zones::first_work))]
     pub fn first() -> Work
         ensures { result ≡ first_work }
     {
@@ -25,7 +26,7 @@ impl Work {
     }
 
     // The rows and columns of the clocks that are marked become those of 0, in place: an entry that is read is that of two
-    // indices which keep their rows and columns, so no turn changes it.
+    // indices which keep their rows and columns, so no turn changes it. Of what Unreduced carries this asks the size alone.
     pub fn reset(self, size: usize, marked: [bool; 9]) -> Work
         requires { size ≤ 9 }
         ensures { result ≡ reset_of size (set_of marked) self }
@@ -71,6 +72,7 @@ impl Bounds {
     }
 
     // Whether one of the two entries is below the other's.
+    #[tactic(auto, unfolding(crate::specs::Pairs::is_less, crate::specs::Zones::bounds_below))]
     pub fn is_below(self, o: Bounds) -> bool
         ensures { result ≡ bounds_below self o }
     {

@@ -3,31 +3,23 @@
 use Prim.Native.Nat.{ℕ, zero, suc, ◌+◌, ◌*◌, ◌/◌, ◌%◌, ◌<◌, ◌≤◌}
 use mathlib.Core.Path.{◌≡◌, ◌∙◌}
 use mathlib.Core.Bool.{Bool, true, false, cond}
-use mathlib.Core.List.{List}
 use lib.Dec.{eqb}
-use lib.IntN.{ℤ, pos}
+use lib.IntN.{pos}
 use lib.Signed.{◌≤ℤ◌}
 use lib.ListN.{length, get_or, set, length-set, length-replicate}
 use lib.Seq.{get_or-set_same, get_or-set_other}
-use borrow.Author.Tests.{eq-eqb, ne_eqb, lt-ltb, le-ltb}
-use native.Mathlib.Numerals.{add-one}
 use native.Mathlib.Omega.{arith}
 use native.Mathlib.Decide.{ℕ_discrete}
 use Rattle.zones.specs.declared.pair.Pair.{Pair}
 use Rattle.zones.specs.declared.zone.Work.{Work}
 use Rattle.zones.proofs.pairs.Integers.{le_make}
-use Rattle.zones.specs.Fractions.{no_limit}
 use Rattle.zones.specs.Pairs.{zero_pair}
 use Rattle.zones.specs.Zones.{pair_at, entry, first_work}
 use Rattle.zones.specs.Ranges.{Bounded, Fits32, Ready, step_counts}
 use Rattle.runs.specs.Limits.{scale}
-use Rattle.zones_bench.specs.Bench.{bench_pair, bench_places, bench_square, bench_work, bench_once, bench_total, bench_of}
+use Rattle.zones_bench.specs.Bench.{bench_pair, bench_places, bench_square, bench_work}
 
 -- ---- one entry
-pub pair_diagonal : (k : ℕ) → k / 9 ≡ k % 9 → zero_pair ≡ bench_pair k
-unfolding bench_pair
-pair_diagonal k e = rw (eq-eqb _ _ e)
-
 -- what every entry is: it can be reduced
 record Plain (q : Pair) : Type 0 where
   pub bounded : Bounded scale step_counts q
@@ -91,37 +83,8 @@ work_ready t n h =
     }
 
 -- ---- the code's steps
-pub pair_off : (k : ℕ) (z : ℤ) → (k / 9 ≡ k % 9 → ⊥) → z ≡ pos ((17 * (k / 9) + 13 * (k % 9)) % 31 + 1) →
-    record { m = z; p = (13 * (k / 9) + 3 * (k % 9)) % 29 } ≡ bench_pair k
-unfolding bench_pair
-pair_off k z f e = rw (ne_eqb _ _ f, e)
-
-pub filled_next : (k : ℕ) {z : List Pair} {q : Pair} → z ≡ bench_places k → q ≡ bench_pair k → set z k q ≡ bench_places (k + 1)
-unfolding bench_places
-filled_next k e h = rw (add-one, e, h)
-
-pub varied_is : (t : ℕ) (z : List Pair) (m : ℤ) → z ≡ bench_square → m ≡ pos (t % 64) →
-    record { zone = set z 9 (record { m = m; p = t % 16 }); fraction = no_limit } ≡ bench_work t
-unfolding bench_work
-varied_is t z m e h = rw (e, h)
-
 pub first_row : (w : Work) (b : ℕ) → get_or w.zone b zero_pair ≡ entry w 0 b
 unfolding pair_at
 first_row w b = let e : 0 * 9 + b ≡ b = omega arith in rw e
 
 -- ---- the sum, and the whole
-pub total_next : (n t s r : ℕ) → s ≡ bench_total n t → r ≡ bench_once n t → (s + r) % 1000003 ≡ bench_total n (t + 1)
-unfolding bench_total
-total_next n t s r e h = rw (add-one, e, h)
-
-pub bench_none : (n t : ℕ) → n ≡ 0 → 0 ≡ bench_of n t
-unfolding bench_of
-bench_none n t e = rw e
-
-pub bench_large : (n t : ℕ) → 9 < n → 0 ≡ bench_of n t
-unfolding bench_of
-bench_large n t h = let p : 0 < n = omega arith in rw (lt-ltb _ _ p, lt-ltb _ _ h)
-
-pub bench_some : (n t r : ℕ) → 0 < n → n ≤ 9 → r ≡ bench_total n t → r ≡ bench_of n t
-unfolding bench_of
-bench_some n t r h k e = rw (lt-ltb _ _ h, le-ltb _ _ k) e

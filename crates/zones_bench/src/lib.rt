@@ -2,81 +2,96 @@
 #![tactic(auto)]
 
 ghost use Rattle.std.specs.Prelude.{◌≡◌, ◌<◌, ◌≤◌};
+ghost use Rattle.std.proofs.Props.{props};
 ghost use Rattle.zones_bench.specs.Bench.{bench_pair, bench_square, bench_work, probe_of, bench_once, bench_total, bench_of};
 
 use zones::fraction::Fraction;
 use zones::pair::Pair;
+use zones::reduction::Unreduced;
 use zones::zone::Work;
 
 // A checksum over `times` reductions of a zone of `size` indices; 0 where there is no such zone.
 #[unsafe(no_mangle)]
+#[tactic(auto, unfolding(crate::specs::Bench::bench_of))]
 pub extern "C" fn zones_bench_reduce(size: usize, times: u64) -> u64
     ensures { result ≡ bench_of size times }
 {
-    if size == 0 {
+    if size == 0 || 9 < size {
         return 0;
     }
-    if 9 < size {
-        return 0;
-    }
-    total(size, times)
-}
-
-// Each time a copy of the square is varied and reduced.
-fn total(size: usize, times: u64) -> u64
-    requires { (0 < size) × (size ≤ 9) }
-    ensures { result ≡ bench_total size times }
-{
-    let z = square();
-    let mut sum: u64 = 0;
-    for t in 0..times {
-        sum = (sum + once(z, size, t)) % 1000003;
-    }
-    sum
-}
-
-// The probe after one reduction.
-fn once(z: [Pair; 81], size: usize, t: u64) -> u64
-    requires { (z ≡ bench_square) × (0 < size) × (size ≤ 9) }
-    ensures { (result ≡ bench_once size t) × (result < 2000006) }
-{
-    let r = varied(z, t).reduce(size);
-    probe(r.work, size)
-}
-
-// The zone to be reduced: entry (1, 0) goes with t.
-fn varied(z: [Pair; 81], t: u64) -> Work
-    requires { z ≡ bench_square }
-    ensures { result ≡ bench_work t }
-{
-    let mut y = z;
-    y[9] = Pair {
-        m: (t % 64) as i64,
-        p: t % 16,
+    let bench = Bench {
+        square: square(),
+        size,
     };
-    Work {
-        zone: y,
-        fraction: Fraction::NO_LIMIT,
+    bench.total(times)
+}
+
+// The square that every reduction begins with, but for the entry that is varied, and how many of its indices are reduced.
+#[derive(Drop)]
+struct Bench {
+    square: [Pair; 81],
+    size: usize,
+    ghost filled: { square ≡ bench_square } by { Prim.hlevel props },
+    ghost some: { (0 < size) × (size ≤ 9) },
+}
+
+impl Bench {
+    // Each time a copy of the square is varied and reduced.
+    #[tactic(auto, unfolding(crate::specs::Bench::bench_total))]
+    fn total(&self, times: u64) -> u64
+        ensures { result ≡ bench_total self.now.size times }
+    {
+        let mut sum: u64 = 0;
+        for t in 0..times {
+            sum = (sum + self.once(t)) % 1000003;
+        }
+        sum
+    }
+
+    // The probe after one reduction.
+    #[tactic(auto, using(crate::proofs::Filling::work_ready), unfolding(crate::specs::Bench::bench_once))]
+    fn once(&self, t: u64) -> u64
+        ensures { (result ≡ bench_once self.now.size t) × (result < 2000006) }
+    {
+        let unreduced = Unreduced {
+            work: self.varied(t),
+            size: self.size,
+        };
+        self.probe(unreduced.reduce().work)
+    }
+
+    // The zone to be reduced: entry (1, 0) goes with t.
+    #[tactic(auto, unfolding(crate::specs::Bench::bench_work))]
+    fn varied(&self, t: u64) -> Work
+        ensures { result ≡ bench_work t }
+    {
+        let mut zone = self.square;
+        zone[9] = Pair {
+            // i64 has no From of u64.
+            m: (t % 64) as i64,
+            p: t % 16,
+        };
+        Work {
+            zone,
+            fraction: Fraction::NO_LIMIT,
+        }
+    }
+
+    // What the checksum takes of a reduction: the error count of entry (0, size − 1), and the fraction's n.
+    #[tactic(auto, using(crate::proofs::Filling::first_row), unfolding(crate::specs::Bench::probe_of))]
+    fn probe(&self, w: Work) -> u64
+        ensures { (result ≡ probe_of self.now.size w) × (result < 2000006) }
+    {
+        w.zone[self.size - 1].p % 1000003 + w.fraction.n % 1000003
     }
 }
 
-// What the checksum takes of a reduction: the error count of entry (0, size − 1), and the fraction's n.
-fn probe(w: Work, size: usize) -> u64
-    requires { (0 < size) × (size ≤ 9) }
-    ensures { (result ≡ probe_of size w) × (result < 2000006) }
-{
-    let q = w.zone[size - 1];
-    let p = q.p;
-    let n = w.fraction.n;
-    p % 1000003 + n % 1000003
-}
-
-// The zone that every reduction begins with, but for the entry that is varied.
+// The square, entry by entry.
+#[tactic(auto, unfolding(crate::specs::Bench::bench_places))]
 fn square() -> [Pair; 81]
     ensures { result ≡ bench_square }
 {
-    let first = Work::first();
-    let mut z = first.zone;
+    let mut z = Work::first().zone;
     for at in 0..81 {
         z[at] = pair_of(at);
     }
@@ -84,6 +99,7 @@ fn square() -> [Pair; 81]
 }
 
 // The entry at a place.
+#[tactic(auto, unfolding(crate::specs::Bench::bench_pair))]
 fn pair_of(at: usize) -> Pair
     requires { at < 81 }
     ensures { result ≡ bench_pair at }
@@ -93,6 +109,7 @@ fn pair_of(at: usize) -> Pair
     if i == j {
         return Pair::ZERO;
     }
+    // Neither i64 nor u64 has a From of usize.
     Pair {
         m: ((17 * i + 13 * j) % 31 + 1) as i64,
         p: ((13 * i + 3 * j) % 29) as u64,

@@ -17,7 +17,7 @@ use Rattle.zones.specs.Successors.{and_then, meet_of, enter_of, follow_of}
 use Rattle.zones.specs.Values.{Below}
 use Rattle.zones.proofs.places.Limits.{raise_fraction}
 use Rattle.zones.proofs.sets.Moving.{then_empty, then_live}
-use Rattle.zones.proofs.reductions.Progress.{after_live, after_empty}
+use Rattle.zones.proofs.reductions.Progress.{after_cases}
 use Rattle.zones.proofs.fractions.Thresholds.{lowered_before, lowered_n, choice_n}
 
 -- R f g: g comes after f
@@ -40,11 +40,7 @@ module _ (R : Fraction → Fraction → Type 0) (same : (f : Fraction) → R f f
   round n k (suc i) w = trans w.fraction (round_steps n k i w).fraction _ (round n k i w) (row k i n (round_steps n k i w))
 
   middle : (n k : ℕ) (r : Reduced) → R r.work.fraction (after_middle n k r).work.fraction
-  middle n k r = go (is_empty r) refl
-    where
-      go : (t : Bool) → is_empty r ≡ t → R r.work.fraction (after_middle n k r).work.fraction
-      go true e = subst (λ (x : Reduced). R r.work.fraction x.work.fraction) (sym (after_empty n k r e)) (same r.work.fraction)
-      go false e = subst (λ (x : Reduced). R r.work.fraction x.work.fraction) (sym (after_live n k r e)) (round n k n r.work)
+  middle n k r = after_cases n k r (λ x. R r.work.fraction x.work.fraction) (λ e. same r.work.fraction) (λ e. round n k n r.work)
 
   steps : (n k : ℕ) (w : Work) → R w.fraction (reduce_steps n k w).work.fraction
   unfolding reduce_steps

@@ -1,11 +1,11 @@
 -- Comparisons by their branches: one principle for each definition that branches, and the branches as the code returns them.
 -- Assumes nothing.
-use Prim.Native.Nat.{ℕ, ◌+◌, ◌-◌, ◌*◌, ◌<◌, ◌≤◌}
+use Prim.Native.Nat.{◌-◌, ◌*◌, ◌<◌, ◌≤◌}
 use mathlib.Core.Path.{◌≡◌, refl, sym, ◌∙◌}
 use mathlib.Core.Bool.{Bool, true, false, cond}
 use borrow.Author.Tests.{lt-ltb, le-ltb, ltb-true, ltb-false}
 use lib.Dec.{ltb}
-use lib.IntN.{ℤ, ◌+ℤ◌, ◌-ℤ◌, nat_abs}
+use lib.IntN.{◌-ℤ◌, nat_abs}
 use lib.Signed.{◌≤ℤ◌, ◌<ℤ◌}
 use native.Mathlib.Omega.{arith}
 use Rattle.runs.proofs.Contradictions.{true_false}
@@ -18,14 +18,7 @@ use Rattle.std.specs.Ordering.{MatchOrdering, ordering_then, int_cmp, nat_cmp}
 use Rattle.std.proofs.lemmas.Cmp.{ranked, int_ranked}
 use Rattle.zones.proofs.pairs.Integers.{int}
 use Rattle.zones.specs.Fractions.{no_limit, lowered_by}
-use Rattle.zones.specs.Pairs.{sum_of, is_below, is_equal, is_at_most, compare_of, is_less, threshold_of, smaller_of}
-
-pub pair_is : {x y : ℤ} (k : ℕ) → x ≡ y → ◌≡◌ {A = Pair} (record { m = x; p = k }) (record { m = y; p = k })
-pair_is k e = λ i. record { m = e i; p = k }
-
-pub sum_is : (a b : Pair) (z : ℤ) → z ≡ a.m +ℤ b.m → record { m = z; p = a.p + b.p } ≡ sum_of a b
-unfolding sum_of
-sum_is a b z e = λ i. record { m = e i; p = a.p + b.p }
+use Rattle.zones.specs.Pairs.{is_below, is_equal, is_at_most, compare_of, is_less, threshold_of, smaller_of}
 
 -- ---- how two pairs stand to each other, by its cases: m decides, or p where the m are the same
 pub compare_cases : (a b : Pair) (P : Ordering → Type 0) → (a.m <ℤ b.m → P Less) → (b.m <ℤ a.m → P Greater) →
@@ -80,10 +73,6 @@ not_less_shows a b =
     (λ m h e. true_false e) (λ m h e. (omega (arith, int), λ k. absurd (omega arith)))
 
 -- ---- the threshold
-pub threshold_is : (a b : Pair) (k : ℕ) → k ≡ nat_abs (b.m -ℤ a.m) → b.p < a.p → record { n = k; d = a.p - b.p } ≡ threshold_of a b
-unfolding threshold_of
-threshold_is a b k e h = rw (lt-ltb b.p a.p h) (λ i. record { n = e i; d = a.p - b.p })
-
 pub threshold_none : (a b : Pair) → a.p ≤ b.p → no_limit ≡ threshold_of a b
 unfolding threshold_of
 threshold_none a b h = rw (le-ltb b.p a.p h)
@@ -98,10 +87,6 @@ threshold_cases a b P f g = go (ltb b.p a.p) refl
     go false e = g (ltb-false b.p a.p e)
 
 -- ---- the smaller of two
-pub smaller_new : (a b : Pair) (f : Fraction) → is_less b a ≡ true → f ≡ threshold_of b a → record { pair = b; threshold = f } ≡ smaller_of a b
-unfolding smaller_of
-smaller_new a b f e g = rw e (λ i. record { pair = b; threshold = g i })
-
 pub smaller_old : (a b : Pair) (f : Fraction) → is_less b a ≡ false → f ≡ threshold_of a b → record { pair = a; threshold = f } ≡ smaller_of a b
 unfolding smaller_of
 smaller_old a b f e g = rw e (λ i. record { pair = a; threshold = g i })

@@ -3,15 +3,13 @@
 -- goal, into one of naturals. The list names each sum, negation and multiple that occurs.
 -- Assumes nothing.
 use Prim.Native.Nat.{ℕ, zero, suc, ◌+◌, ◌*◌, ◌^◌, ◌≤◌, ◌<◌}
-use mathlib.Core.Path.{◌≡◌, refl, sym, ap, subst, subst⁻¹}
+use mathlib.Core.Path.{◌≡◌, refl, sym, ap, subst}
 use mathlib.Core.Bool.{Bool, true, false, not, cond}
 use mathlib.Core.Logic.{◌⊎◌, inl, inr, ⊎_elim}
 use native.Mathlib.Omega.{arith}
-use native.Mathlib.Nat.{lt_of_le_of_lt, mul-le-mul_left, mul-lt-mul_of_pos_right, le_of_lt}
-use lib.Pow.{pow-add, pow_pos}
 use lib.Dec.{T, ltb, leb→le, le→leb, ltb→lt, lt→ltb, nltb→le}
 use lib.IntN.{ℤ, pos, negsuc, neg_ℤ, nat_abs, sub_ℕ, ◌+ℤ◌, ◌-ℤ◌, ◌*ℤ◌}
-use lib.Signed.{◌≤ℤ◌, ◌<ℤ◌, mag, le_z, lt_z, lt_z_no, non_neg, yes_non_neg}
+use lib.Signed.{◌≤ℤ◌, ◌<ℤ◌, mag, le_z, lt_z, lt_z_no}
 use mir.Syntax.{Width}
 use mir.Val.{SFits, hbits}
 use Rattle.zones.specs.Integers.{up, down}
@@ -134,12 +132,6 @@ pub mag_law : (z : ℤ) → mag z ≤ up z + down z
 mag_law (pos n) = omega arith
 mag_law (negsuc n) = omega arith
 
-pub abs-sum : (x y : ℤ) → nat_abs (x +ℤ y) ≤ nat_abs x + nat_abs y
-abs-sum x y = omega (arith, abs_law x, abs_law y, abs_law (x +ℤ y), sum_law x y)
-
-pub abs_minus : (x y : ℤ) → nat_abs (x -ℤ y) ≤ nat_abs x + nat_abs y
-abs_minus x y = omega (arith, abs_law x, abs_law y, abs_law (x -ℤ y), minus_law x y)
-
 -- that an integer fits, from a bound of its absolute value
 pub abs_fits : (w : Width) (z : ℤ) → nat_abs z < 2 ^ hbits w → SFits w z
 abs_fits w z h = record { sfits = omega (arith, mag_law z, abs_law z) }
@@ -165,10 +157,6 @@ lt_or_le x y = go (lt_z x y) refl
     go true e = inl (lt_z_true x y e)
     go false e = inr (lt_z_false x y e)
 
--- an integer that is at least 0 is the natural that it is
-pub abs_of_le : (x y : ℤ) → x ≤ℤ y → T (non_neg (y -ℤ x))
-abs_of_le x y h = yes_non_neg (le_make (pos 0) (y -ℤ x) (omega (arith, le_read h, minus_law y x)))
-
 -- the gap between two integers
 pub abs_gap : (x y : ℤ) → x ≤ℤ y → nat_abs (y -ℤ x) + (up x + down y) ≡ up y + down x
 abs_gap x y h =
@@ -177,9 +165,3 @@ abs_gap x y h =
 -- an absolute value, from a bound of the integer and of its negation's
 pub abs-within : (z : ℤ) (M : ℕ) → z ≤ℤ pos M → neg_ℤ (pos M) ≤ℤ z → nat_abs z ≤ M
 abs-within z M h g = ⊎_elim (λ e. omega (arith, le_read g, neg_law (pos M), abs_law z)) (λ e. omega (arith, le_read h, abs_law z)) (one_side z)
-
--- a product of two numbers of k bits has 2 × k
-pub product_below : (k : ℕ) {a b : ℕ} → a < 2 ^ k → b < 2 ^ k → a * b < 2 ^ (k + k)
-product_below k {a} {b} ha hb =
-    subst⁻¹ (λ (n : ℕ). a * b < n) (pow-add 2 k k)
-    (lt_of_le_of_lt (mul-le-mul_left a (le_of_lt hb)) (mul-lt-mul_of_pos_right ha (pow_pos k)))

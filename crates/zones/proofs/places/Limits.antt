@@ -44,10 +44,6 @@ lower_met_lem lo b e g h =
     λ i. record { upper = b.upper; lower = (e' i).pair; fraction = h' i }
 
 -- ---- limits that lower neither entry leave both as they are
-pub below_yes : (a b : Bounds) → is_less a.upper b.upper ≡ true → true ≡ bounds_below a b
-unfolding bounds_below
-below_yes a b e = rw e
-
 pub below_lower : (a b : Bounds) → is_less a.upper b.upper ≡ false → is_less a.lower b.lower ≡ bounds_below a b
 unfolding bounds_below
 below_lower a b e = rw e

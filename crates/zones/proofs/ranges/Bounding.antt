@@ -3,8 +3,8 @@
 -- Assumes nothing.
 use Rattle.zones.specs.Reductions.{safe_of}
 use Rattle.zones.specs.Reductions.{is_empty}
-use Prim.Native.Nat.{ℕ, suc, ◌+◌, ◌*◌, ◌<◌, ◌≤◌}
-use mathlib.Core.Path.{◌≡◌, refl, ap, ◌∙◌}
+use Prim.Native.Nat.{ℕ, suc, ◌*◌, ◌<◌, ◌≤◌}
+use mathlib.Core.Path.{◌≡◌, refl, ◌∙◌}
 use mathlib.Core.Bool.{Bool, false}
 use mathlib.Core.Logic.{inl}
 use lib.ListN.{length}
@@ -12,7 +12,6 @@ use lib.IntN.{pos, neg_ℤ, nat_abs}
 use lib.Signed.{◌≤ℤ◌}
 use native.Mathlib.Omega.{arith}
 use native.Mathlib.Decide.{dec_lt}
-use native.Mathlib.Nat.{mul-le-mul_right}
 use Rattle.zones.specs.declared.pair.Pair.{Pair}
 use Rattle.zones.specs.declared.zone.Work.{Work}
 use Rattle.zones.proofs.pairs.Integers.{int, abs_law, neg_law}
@@ -28,9 +27,9 @@ use Rattle.zones.proofs.sets.Diagonals.{sign_zero}
 use Rattle.zones.proofs.sets.Meeting.{met_ind}
 use Rattle.zones.proofs.pairs.Order.{◌≼◌, ≼_refl, ≼_trans, smaller_left}
 use Rattle.zones.proofs.places.Places.{first_at, first_size, lower_size, lower_place, RaisedBy, raised_by, reset_by_lem, home-zero, home_below}
-use Rattle.zones.proofs.reductions.Progress.{Alive, along}
+use Rattle.zones.proofs.reductions.Progress.{Alive, zero_alive, along}
 use Rattle.zones.proofs.ranges.Ranges.{lowered_narrow, smaller_bounded, both_narrow, bounded_spread, reduce_narrow, reduce_safe}
-use Rattle.zones.proofs.ranges.Size.{reduce_spread}
+use Rattle.zones.proofs.ranges.Size.{spread_more, reduce_spread}
 use Rattle.zones.proofs.sets.Steps.{reduce_ind, reduce_size, reduce_signs}
 
 -- what is no larger has no larger m
@@ -139,7 +138,7 @@ module _ (n : ℕ) (n≤ : n ≤ 9) (w : Work) (size : length w.zone ≡ 81) whe
 
 module _ (N D C P n : ℕ) (enough : Suffices N D C P) (n≤ : n ≤ 9) (n> : 0 < n) (w : Work) (r : InRange N D C P n w) where
   alive : Alive n w
-  alive = record { size = r.ranged.size; diagonal = λ a ha. omega (arith, int, ap (λ (q : Pair). q.m) (r.ranged.diagonal a ha)) }
+  alive = zero_alive n w r.ranged.size r.ranged.diagonal
 
   -- the fraction stays in range, where the zone became empty too
   pub reduced_narrow : Narrow N D (reduce_of n w).work.fraction
@@ -179,8 +178,7 @@ module _ (N D C P n : ℕ) (enough : Suffices N D C P) (n≤ : n ≤ 9) (n> : 0 
       few : (a b : ℕ) → a < n → b < n → (entry (reduce_of n w).work a b).p ≤ 10 * P
       few a b ha hb =
           let s = reduce_spread C P n w n≤ alive (λ i j hi hj. bounded_spread C P (r.ranged.bounded i j hi hj)) n (omega arith) live a b ha hb in
-          let k : n + 1 ≤ 10 = omega arith in
-          omega (arith, s.p, mul-le-mul_right P k)
+          (spread_more C P s (omega arith)).p
 
 -- ---- document 01's numbers: error counts of up to 100 times a kept zone's before a reduction
 fewer_suffice : (P : ℕ) → 0 < P → P ≤ step_counts → Suffices widest widest scale P
@@ -208,7 +206,7 @@ module _ (P n : ℕ) (P> : 0 < P) (P≤ : P ≤ step_counts) (n≤ : n ≤ 9) (w
     n≤ = n≤;
     bounded = λ a b ha hb. record { m = (r.ranged.bounded a b ha hb).m; p = omega (arith, (r.ranged.bounded a b ha hb).p) };
     fraction = r.narrow;
-    diagonal = λ a ha. omega (arith, int, ap (λ (q : Pair). q.m) (r.ranged.diagonal a ha));
+    diagonal = (zero_alive n w r.ranged.size r.ranged.diagonal).diagonal;
   }
 
   pub sized_limits : (c : ℕ) → c < n → (L : Limits) → OnScale scale c L → (x : ℕ) → 0 < x → x < suc c →

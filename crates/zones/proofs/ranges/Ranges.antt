@@ -12,7 +12,6 @@ use lib.ListN.{length}
 use lib.IntN.{pos, neg_ℤ}
 use lib.Signed.{◌≤ℤ◌, lt_z}
 use native.Mathlib.Omega.{arith}
-use native.Mathlib.Nat.{mul-le-mul_right}
 use Rattle.zones.specs.declared.fraction.Fraction.{Fraction}
 use Rattle.zones.specs.declared.pair.Pair.{Pair}
 use Rattle.zones.specs.declared.reduction.Reduced.{Reduced}
@@ -24,16 +23,16 @@ use Rattle.zones.specs.Fractions.{lowered_by}
 use Rattle.zones.specs.Pairs.{zero_pair, at_most, at_least, sum_of, smaller_of, threshold_of}
 use Rattle.zones.specs.Zones.{entry, lower_at, upper_met, upper_met_if}
 use Rattle.std.specs.Prelude.{Option, None, Some}
-use Rattle.zones.specs.Reductions.{relaxed, row_steps, round_steps, empty_below, after_middle, reduce_steps}
+use Rattle.zones.specs.Reductions.{relaxed, row_steps, round_steps, empty_below, reduce_steps}
 use Rattle.zones.specs.Ranges.{Bounded, Narrow, Small, Fits32, Spread, Suffices, step_counts, last_counts, widest}
-use Rattle.zones.specs.Ranges.{Ready, RoundReady, DiagonalReady, LimitsReady}
+use Rattle.zones.specs.Ranges.{Ready, RoundReady, DiagonalReady, LimitsReady, ChoiceReady}
 use Rattle.runs.specs.Limits.{scale}
 use Rattle.zones.proofs.pairs.Choices.{less_shows, not_less_shows, threshold_cases, smaller_cases, lowered_cases}
 use Rattle.zones.proofs.reductions.Rounds.{chosen, RowDone, row_done, reads_at, reads_to, reads_from, RoundDone, round_done}
 use Rattle.zones.proofs.reductions.Rounds.{middle, still, row_skip}
-use Rattle.zones.proofs.reductions.Progress.{Alive, along, seen_in, after_live, after_empty}
+use Rattle.zones.proofs.reductions.Progress.{Alive, along, seen_in, after_cases}
 use Rattle.zones.proofs.pairs.Order.{sum_p}
-use Rattle.zones.proofs.ranges.Size.{sum-up, sum-down, reduce_spread}
+use Rattle.zones.proofs.ranges.Size.{sum-up, sum-down, spread_more, reduce_spread}
 
 -- ---- one comparison
 pub lowered_narrow : (N D : ℕ) (f g : Fraction) → Narrow N D f → Narrow N D g → Narrow N D (lowered_by f g)
@@ -80,7 +79,7 @@ module _ (N D C P : ℕ) (enough : Suffices N D C P) where
         deep = omega (arith, k.deep, l.deep);
         p = omega (arith, k.p, l.p);
       })
-      (λ e. record { high = h.high; deep = omega (arith, h.deep); p = omega (arith, h.p) })
+      (λ e. spread_more C P h (omega arith))
 
   -- two pairs of a square, or a limit
   pub both_narrow : (a b : Pair) → Bounded C P a → Bounded C P b → Narrow N D (smaller_of a b).threshold
@@ -121,31 +120,22 @@ module _ (N D C P : ℕ) (enough : Suffices N D C P) where
       row : RowDone k i j (round_steps n k i w) (row_steps k i j (round_steps n k i w))
       row = row_done (round_steps n k i w) k i (omega arith) (omega arith) dv done.size j (omega arith)
 
-      pub at_small : Spread C P 9 (entry (row_steps k i j (round_steps n k i w)) i j)
-      at_small =
-          rw (
-            reads_at (round_steps n k i w) k i (omega arith) (omega arith) dv j (omega arith) s row,
-            done.rest i j (omega arith) (λ h g. omega arith),
-          ) (spread i j i< j<)
-
-      pub to-small : Spread C P 9 (entry (row_steps k i j (round_steps n k i w)) i k)
-      to-small =
-          rw (
-            reads_to (round_steps n k i w) k i (omega arith) (omega arith) dv j (omega arith) s row,
-            done.rest i k (omega arith) (λ h g. omega arith),
-          ) (spread i k i< k<)
-
-      pub from-small : Spread C P 9 (entry (row_steps k i j (round_steps n k i w)) k j)
-      from-small =
-          rw (
-            reads_from (round_steps n k i w) k i (omega arith) (omega arith) dv j (omega arith) s row,
-            middle w n k n≤ k< diagonal i (omega arith) (round_steps n k i w) done j j<,
-          ) (spread k j k< j<)
+      -- the pair there, and the two of the way round
+      pub reads : Spread C P 9 (entry (row_steps k i j (round_steps n k i w)) i j)
+          × Spread C P 9 (entry (row_steps k i j (round_steps n k i w)) i k) × Spread C P 9 (entry (row_steps k i j (round_steps n k i w)) k j)
+      reads =
+          let v = round_steps n k i w in
+          let rest : (b : ℕ) → b < 9 → entry v i b ≡ entry w i b = λ b hb. done.rest i b hb (λ h g. omega arith) in (
+            rw (reads_at v k i (omega arith) (omega arith) dv j (omega arith) s row, rest j (omega arith)) (spread i j i< j<),
+            rw (reads_to v k i (omega arith) (omega arith) dv j (omega arith) s row, rest k (omega arith)) (spread i k i< k<),
+            rw (reads_from v k i (omega arith) (omega arith) dv j (omega arith) s row, middle w n k n≤ k< diagonal i (omega arith) v done j j<)
+                (spread k j k< j<),
+          )
 
       step_narrow : Narrow N D (row_steps k i j (round_steps n k i w)).fraction →
           Narrow N D (relaxed k i j (row_steps k i j (round_steps n k i w))).fraction
       unfolding relaxed lower_at
-      step_narrow h = lowered_narrow N D _ _ h (choice_narrow _ _ _ at_small to-small from-small)
+      step_narrow h = lowered_narrow N D _ _ h (choice_narrow _ _ _ reads.0 reads.1 reads.2)
 
     row_narrow : (i : ℕ) → i < n → Narrow N D (round_steps n k i w).fraction → (j : ℕ) → j ≤ n →
         Narrow N D (row_steps k i j (round_steps n k i w)).fraction
@@ -181,40 +171,27 @@ module _ (N D C P : ℕ) (enough : Suffices N D C P) where
         Spread C P 9 (entry (reduce_steps n k w).work a b)
     spread_at k h e a b ha hb =
         let s = reduce_spread C P n w n≤ start (λ i j hi hj. bounded_spread C P (bounded i j hi hj)) k (omega arith) e a b ha hb in
-        let k9 : k + 1 ≤ 9 = omega arith in
-        record { high = s.high; deep = omega (arith, s.deep, mul-le-mul_right C k9); p = omega (arith, s.p, mul-le-mul_right P k9) }
+        spread_more C P s (omega arith)
 
     pub reduce_narrow : Narrow N D w.fraction → (k : ℕ) → k ≤ n → Narrow N D (reduce_steps n k w).work.fraction
     unfolding reduce_steps
     reduce_narrow f zero h = f
-    reduce_narrow f (suc k) h = go (is_empty (reduce_steps n k w)) refl (reduce_narrow f k (omega arith))
-      where
-        r : Reduced
-        r = reduce_steps n k w
-
-        go : (t : Bool) → is_empty (reduce_steps n k w) ≡ t → Narrow N D (reduce_steps n k w).work.fraction →
-            Narrow N D (after_middle n k (reduce_steps n k w)).work.fraction
-        go true e q = rw (after_empty n k r e) q
-        go false e q =
-            let a = alive_at k (omega arith) e in
-            rw (after_live n k r e) (whole_narrow n k r.work a.size n≤ h (a.diagonal k h) (spread_at k h e) q)
+    reduce_narrow f (suc k) h =
+        let q = reduce_narrow f k (omega arith) in
+        after_cases n k (reduce_steps n k w) (λ r. Narrow N D r.work.fraction) (λ e. q)
+        (λ e. let a = alive_at k (omega arith) e in whole_narrow n k _ a.size n≤ h (a.diagonal k h) (spread_at k h e) q)
 
     -- and what the safe fraction is lowered by
     pub reduce_safe : (k : ℕ) → k ≤ n → Narrow N D (safe_of (reduce_steps n k w))
     unfolding reduce_steps
     reduce_safe zero h = record { n = omega (arith, enough.n, enough.one); d = omega arith }
-    reduce_safe (suc k) h = go (is_empty (reduce_steps n k w)) refl (reduce_safe k (omega arith))
-      where
-        r : Reduced
-        r = reduce_steps n k w
-
-        go : (t : Bool) → is_empty (reduce_steps n k w) ≡ t → Narrow N D (safe_of (reduce_steps n k w)) →
-            Narrow N D (safe_of (after_middle n k (reduce_steps n k w)))
-        go true e q = rw (after_empty n k r e) q
-        go false e q =
-            let a = alive_at k (omega arith) e in
-            rw (after_live n k r e, seen_safe n (round_steps n k n r.work)) (safe_narrow n (round_steps n k n r.work)
-            (λ b hb. after_spread n k r.work a.size n≤ h (a.diagonal k h) (spread_at k h e) b b hb hb))
+    reduce_safe (suc k) h =
+        let q = reduce_safe k (omega arith) in
+        let v = round_steps n k n (reduce_steps n k w).work in
+        after_cases n k (reduce_steps n k w) (λ r. Narrow N D (safe_of r)) (λ e. q)
+        (λ e.
+        let a = alive_at k (omega arith) e in
+        rw (seen_safe n v) (safe_narrow n v (λ b hb. after_spread n k _ a.size n≤ h (a.diagonal k h) (spread_at k h e) b b hb hb)))
 
 -- ---- what the code asks
 pub diagonal_small : {a : Pair} → Spread scale step_counts 18 a → Small a
@@ -222,9 +199,6 @@ diagonal_small {a} h = record { m = omega (arith, h.high, h.deep, abs_law a.m); 
 
 pub bounded_small : {a : Pair} → Bounded scale last_counts a → Small a
 bounded_small h = record { m = omega (arith, h.m); p = omega (arith, h.p) }
-
-pub step_small : {a : Pair} → Bounded scale step_counts a → Small a
-step_small h = record { m = omega (arith, h.m); p = omega (arith, h.p) }
 
 pub spread_small : {a : Pair} → Spread scale step_counts 9 a → Small a
 spread_small {a} h = record { m = omega (arith, h.high, h.deep, abs_law a.m); p = omega (arith, h.p) }
@@ -240,6 +214,10 @@ here = record { n = omega arith; d = omega arith; one = omega arith; count = ome
 
 pub last_here : Suffices widest widest scale last_counts
 last_here = record { n = omega arith; d = omega arith; one = omega arith; count = omega arith }
+
+-- a pair that was chosen after a step, beside that of a kept zone
+pub last_narrow : {a b : Pair} → ChoiceReady a b → Fits32 (threshold_of a b)
+last_narrow h = chosen_narrow widest widest scale last_counts last_here _ _ h.chosen h.other h.order
 
 -- a limit on the scale is met
 pub most_bounded : (hi : ℕ) → hi ≤ scale → Bounded scale step_counts (at_most hi)
@@ -277,26 +255,27 @@ module _ (n : ℕ) (w : Work) (size : length w.zone ≡ 81) (r : Ready w n) wher
         diagonal = (alive_at widest widest scale step_counts here n w r.n≤ alive r.bounded k (omega arith) f).diagonal k h;
       })
 
--- one turn of a round's inner loop: s is the zone as it stands there
-pub record TurnReady (s : Work) (k i j : ℕ) : Type 0 where
-  pub at : Spread scale step_counts 9 (entry s i j)
-  pub to : Spread scale step_counts 9 (entry s i k)
-  pub from : Spread scale step_counts 9 (entry s k j)
-  pub fraction : Fits32 s.fraction
+-- one turn of a round's inner loop, of the pair there and the two of the way round: what it asks
+pub record TurnReady (f : Fraction) (there to from : Pair) : Type 0 where
+  pub adds : Small to × Small from
+  pub compares : Small there × Small (sum_of to from)
+  pub lowers : Fits32 f × Fits32 (smaller_of there (sum_of to from)).threshold
+
+turn_small : {f : Fraction} {a x y : Pair} → Fits32 f → Spread scale step_counts 9 a × Spread scale step_counts 9 x × Spread scale step_counts 9 y →
+    TurnReady f a x y
+turn_small t h = record {
+  adds = (spread_small h.1, spread_small h.2);
+  compares = (spread_small h.0, sum-small _ _ h.1 h.2);
+  lowers = (t, choice_narrow widest widest scale step_counts here _ _ _ h.0 h.1 h.2);
+}
 
 pub turn_ready : (n k : ℕ) (w : Work) → length w.zone ≡ 81 → RoundReady w n k → (i j : ℕ) →
-    i < n → j < n → (v s : Work) → v ≡ round_steps n k i w → s ≡ row_steps k i j v → TurnReady s k i j
+    i < n → j < n → (v s : Work) → v ≡ round_steps n k i w → s ≡ row_steps k i j v →
+    TurnReady s.fraction (entry s i j) (entry s i k) (entry s k j)
 turn_ready n k w size r i j hi hj v s e g =
-    subst (λ (x : Work). TurnReady x k i j) (sym (g ∙ ap (row_steps k i j) e)) (record {
-      at = at_small widest widest scale step_counts here n k w size r.n≤ r.k< r.diagonal r.spread i j hi hj;
-      to = to-small widest widest scale step_counts here n k w size r.n≤ r.k< r.diagonal r.spread i j hi hj;
-      from = from-small widest widest scale step_counts here n k w size r.n≤ r.k< r.diagonal r.spread i j hi hj;
-      fraction =
-          inside_narrow widest widest scale step_counts here n k w size r.n≤ r.k< r.diagonal r.spread r.fraction i j hi (omega arith);
-    })
-
-pub turn_narrow : (s : Work) (k i j : ℕ) → TurnReady s k i j → Fits32 (smaller_of (entry s i j) (sum_of (entry s i k) (entry s k j))).threshold
-turn_narrow s k i j t = choice_narrow widest widest scale step_counts here _ _ _ t.at t.to t.from
+    subst (λ (x : Work). TurnReady x.fraction (entry x i j) (entry x i k) (entry x k j)) (sym (g ∙ ap (row_steps k i j) e)) (turn_small
+    (inside_narrow widest widest scale step_counts here n k w size r.n≤ r.k< r.diagonal r.spread r.fraction i j hi (omega arith))
+    (reads widest widest scale step_counts here n k w size r.n≤ r.k< r.diagonal r.spread i j hi hj))
 
 -- ---- in the reduction of w: what its loops ask, v being the zone after k middle indices
 module _ (n : ℕ) (w : Work) (size : length w.zone ≡ 81) (r : Ready w n) (k : ℕ) (v : Work) (k< : k < n)
@@ -309,7 +288,8 @@ module _ (n : ℕ) (w : Work) (size : length w.zone ≡ 81) (r : Ready w n) (k :
       (alive_at widest widest scale step_counts here n w r.n≤
       (record { size = size; diagonal = r.diagonal }) r.bounded k (omega arith) (ap is_empty e)).size
 
-  pub turn_of : (i j : ℕ) → i < n → j < n → (u s : Work) → u ≡ round_steps n k i v → s ≡ row_steps k i j u → TurnReady s k i j
+  pub turn_of : (i j : ℕ) → i < n → j < n → (u s : Work) → u ≡ round_steps n k i v → s ≡ row_steps k i j u →
+      TurnReady s.fraction (entry s i j) (entry s i k) (entry s k j)
   turn_of = turn_ready n k v long ready
 
   pub skip_of : {u : Work} (i : ℕ) → i ≡ k → u ≡ round_steps n k i v → u ≡ round_steps n k (i + 1) v

@@ -4,7 +4,7 @@
 -- two parts have no index in common, or else the way round by that index would be a loop below 0.
 -- Assumes nothing.
 use Rattle.zones.specs.Reductions.{is_empty}
-use Prim.Native.Nat.{ℕ, zero, suc, ◌+◌, ◌*◌, ◌<◌, ◌≤◌}
+use Prim.Native.Nat.{ℕ, zero, suc, ◌+◌, ◌<◌, ◌≤◌}
 use mathlib.Core.Path.{◌≡◌, refl, sym, ◌∙◌}
 use mathlib.Core.Bool.{Bool, true, false, cond, ◌||◌}
 use mathlib.Core.Logic.{⊎_elim}
@@ -82,6 +82,10 @@ count_next : (k : ℕ) (t : Bool) (S : ℕ → Bool) → count (with k t S) (suc
 unfolding count
 count_next k t S = rw (with_at k t S, count_with k t S k (omega arith))
 
+count_kept : (k : ℕ) (S : ℕ → Bool) → count (with k false S) (suc k) ≡ count S k
+unfolding bit
+count_kept k S = omega (arith, count_next k false S)
+
 -- ---- orders of pairs
 by_first : (a x b y z t : Pair) → a ≼ x → b ≼ sum_of y z → sum_of x y ≼ t → sum_of a b ≼ sum_of t z
 by_first a x b y z t f g h =
@@ -147,11 +151,15 @@ pub sum-down : (a b : Pair) → down (sum_of a b).m ≤ down a.m + down b.m
 unfolding sum_of
 sum-down a b = (sum_law a.m b.m).low
 
+fallen : (C : ℕ) (a b : Pair) → a ≼ b → up b.m ≤ C → up a.m ≤ C
+fallen C a b h l =
+    let m = (not_less_shows a b h.kept).0 in
+    ⊎_elim (λ e. omega arith) (λ e. omega (arith, le_read m)) (one_side a.m)
+
 -- ---- what each entry goes through
 pub record Through (C P k : ℕ) (w : Work) (i j : ℕ) : Type 0 where
   pub by : ℕ → Bool
-  pub few : (entry w i j).p ≤ (count by k + 1) * P
-  pub deep : down (entry w i j).m ≤ (count by k + 1) * C
+  pub spread : Spread C P (count by k + 1) (entry w i j)
   pub parts : (v : ℕ) → v < k → by v ≡ true → sum_of (entry w i v) (entry w v j) ≼ entry w i j
 
 module _ (C P n k : ℕ) (w s : Work) (k< : k < n) (dk : pos 0 ≤ℤ (entry w k k).m) (ds : (a : ℕ) → a < n → pos 0 ≤ℤ (entry s a a).m)
@@ -181,7 +189,7 @@ module _ (C P n k : ℕ) (w s : Work) (k< : k < n) (dk : pos 0 ≤ℤ (entry w k
 
     lowered : is_less (sum_of (D i k) (D k j)) (D i j) ≡ true → entry s i j ≡ sum_of (D i k) (D k j) → Through C P (suc k) s i j
     unfolding bit
-    lowered e q = record { by = with k true or; few = few; deep = deep; parts = parts }
+    lowered e q = record { by = with k true or; spread = spread; parts = parts }
       where
         S : ℕ → Bool
         S = (thr i k hi k<).by
@@ -192,15 +200,16 @@ module _ (C P n k : ℕ) (w s : Work) (k< : k < n) (dk : pos 0 ≤ℤ (entry w k
         or : ℕ → Bool
         or v = S v || U v
 
-        few : (entry s i j).p ≤ (count (with k true (λ v. S v || U v)) (suc k) + 1) * P
-        few =
-            rw (q, count_next k true (λ v. S v || U v))
-            (omega (arith, sum_p (D i k) (D k j), (thr i k hi k<).few, (thr k j k< hj).few, mul-le-mul_right P (count_or S U k (apart e))))
-
-        deep : down (entry s i j).m ≤ (count (with k true (λ v. S v || U v)) (suc k) + 1) * C
-        deep =
-            rw (q, count_next k true (λ v. S v || U v))
-            (omega (arith, sum-down (D i k) (D k j), (thr i k hi k<).deep, (thr k j k< hj).deep, mul-le-mul_right C (count_or S U k (apart e))))
+        spread : Spread C P (count (with k true (λ v. S v || U v)) (suc k) + 1) (entry s i j)
+        spread =
+            let x = (thr i k hi k<).spread in
+            let y = (thr k j k< hj).spread in
+            let few = count_or S U k (apart e) in
+            rw (count_next k true (λ v. S v || U v)) (record {
+              high = fallen C _ (D i j) (left i j hi hj) (thr i j hi hj).spread.high;
+              deep = rw q (omega (arith, sum-down (D i k) (D k j), x.deep, y.deep, mul-le-mul_right C few));
+              p = rw q (omega (arith, sum_p (D i k) (D k j), x.p, y.p, mul-le-mul_right P few));
+            })
 
         inside : (v : ℕ) → v < k → (a b : Bool) → S v ≡ a → U v ≡ b → a || b ≡ true → sum_of (entry s i v) (entry s v j) ≼ sum_of (D i k) (D k j)
         inside v hv true b f g h =
@@ -219,17 +228,10 @@ module _ (C P n k : ℕ) (w s : Work) (k< : k < n) (dk : pos 0 ≤ℤ (entry w k
         parts v hv f = rw q (go v hv f (ℕ_discrete v k))
 
     kept : entry s i j ≡ D i j → Through C P (suc k) s i j
-    unfolding bit
-    kept q = record { by = with k false S; few = few; deep = deep; parts = parts }
+    kept q = record { by = with k false S; spread = rw (q, count_kept k S) (thr i j hi hj).spread; parts = parts }
       where
         S : ℕ → Bool
         S = (thr i j hi hj).by
-
-        few : (entry s i j).p ≤ (count (with k false S) (suc k) + 1) * P
-        few = rw (q, count_next k false S) (omega (arith, (thr i j hi hj).few))
-
-        deep : down (entry s i j).m ≤ (count (with k false S) (suc k) + 1) * C
-        deep = rw (q, count_next k false S) (omega (arith, (thr i j hi hj).deep))
 
         go : (v : ℕ) → v < suc k → with k false S v ≡ true → Dec (v ≡ k) → sum_of (entry s i v) (entry s v j) ≼ D i j
         go v hv f (yes z) = true_false (sym (rw z at f) ∙ with_at k false S)
@@ -246,16 +248,14 @@ module _ (C P n k : ℕ) (w s : Work) (k< : k < n) (dk : pos 0 ≤ℤ (entry w k
         smaller_cases (D i j) (sum_of (D i k) (D k j)) (λ c. entry s i j ≡ c.pair → Through C P (suc k) s i j) (λ e q. lowered e q) (λ e q. kept q)
         (r.done i j hi hj)
 
+-- of more entries
+pub spread_more : (C P : ℕ) {K L : ℕ} {a : Pair} → Spread C P K a → K ≤ L → Spread C P L a
+spread_more C P h l = record { high = h.high; deep = omega (arith, h.deep, mul-le-mul_right C l); p = omega (arith, h.p, mul-le-mul_right P l) }
+
 -- ---- the whole reduction
 pub record Grown (C P n k : ℕ) (w : Work) : Type 0 where
   pub triangle : Triangle n k w
   pub through : (i j : ℕ) → i < n → j < n → Through C P k w i j
-  pub high : (i j : ℕ) → i < n → j < n → up (entry w i j).m ≤ C
-
-fallen : (C : ℕ) (a b : Pair) → a ≼ b → up b.m ≤ C → up a.m ≤ C
-fallen C a b h l =
-    let m = (not_less_shows a b h.kept).0 in
-    ⊎_elim (λ e. omega arith) (λ e. omega (arith, le_read m)) (one_side a.m)
 
 start_grown : (C P n : ℕ) (w : Work) → ((i j : ℕ) → i < n → j < n → Spread C P 1 (entry w i j)) → Grown C P n 0 w
 unfolding Triangle count
@@ -264,11 +264,9 @@ start_grown C P n w b = record {
   through =
       λ i j hi hj. record {
         by = λ v. false;
-        few = omega (arith, (b i j hi hj).p);
-        deep = omega (arith, (b i j hi hj).deep);
+        spread = b i j hi hj;
         parts = λ v hv f. absurd (not-suc-le-zero hv);
       };
-  high = λ i j hi hj. (b i j hi hj).high;
 }
 
 grown_next : (C P n k : ℕ) (v : Work) → k < n → Alive n v → Alive n (round_steps n k n v) → RoundDone n k n v (round_steps n k n v)
@@ -277,7 +275,6 @@ grown_next : (C P n k : ℕ) (v : Work) → k < n → Alive n v → Alive n (rou
 grown_next C P n k v k< a b d t = record {
   triangle = round_triangle n k v (round_steps n k n v) k< (a.diagonal k k<) d t.triangle;
   through = round_through C P n k v (round_steps n k n v) k< (a.diagonal k k<) b.diagonal d t.triangle t.through;
-  high = λ i j hi hj. fallen C _ (entry v i j) (round_left n k v (round_steps n k n v) d i j hi hj) (t.high i j hi hj);
 }
 
 pub reduce_spread : (C P n : ℕ) (w : Work) → n ≤ 9 → Alive n w → ((i j : ℕ) → i < n → j < n → Spread C P 1 (entry w i j)) →
@@ -285,8 +282,4 @@ pub reduce_spread : (C P n : ℕ) (w : Work) → n ≤ 9 → Alive n w → ((i j
 reduce_spread C P n w h s b k g e i j hi hj =
     let t = (along n w h s (λ k v. Grown C P n k v) (start_grown C P n w b) (λ k v k< a b d q. grown_next C P n k v k< a b d q) k g e).1 in
     let u = t.through i j hi hj in
-    record {
-      high = t.high i j hi hj;
-      deep = omega (arith, u.deep, mul-le-mul_right C (count≤ u.by k));
-      p = omega (arith, u.few, mul-le-mul_right P (count≤ u.by k));
-    }
+    spread_more C P u.spread (omega (arith, count≤ u.by k))

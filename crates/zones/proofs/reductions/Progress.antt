@@ -16,7 +16,7 @@ use Rattle.std.specs.Prelude.{Option, None, Some, is_some}
 use Rattle.std.specs.Option.{unwrap_or}
 use Rattle.zones.specs.declared.reduction.Reduced.{Reduced}
 use Rattle.zones.specs.declared.zone.Work.{Work}
-use Rattle.zones.proofs.pairs.Integers.{lt_z_false, le_lt_z}
+use Rattle.zones.proofs.pairs.Integers.{int, lt_z_false, le_lt_z}
 use Rattle.zones.specs.Fractions.{no_limit, lowered_by}
 use Rattle.zones.specs.Pairs.{zero_pair, threshold_of}
 use Rattle.zones.specs.Zones.{entry}
@@ -107,16 +107,26 @@ pub after_live : (n k : ℕ) (r : Reduced) → is_empty r ≡ false →
 unfolding after_middle
 after_live n k r e = rw e
 
+-- the same from a zone that is not empty: u after the round, and s what its diagonal shows
+pub after_round : (n k : ℕ) (w : Work) {u : Work} {s : Option Fraction} → u ≡ round_steps n k n w → s ≡ seen_in n u →
+    after_middle n k (non_empty w) ≡ leaves u s
+after_round n k w g h = after_live n k (non_empty w) refl ∙ ap (λ (u : Work). leaves u (seen_in n u)) (sym g) ∙ ap (leaves _) (sym h)
+
 pub after_empty : (n k : ℕ) (r : Reduced) → is_empty r ≡ true → after_middle n k r ≡ r
 unfolding after_middle
 after_empty n k r e = rw e
 
-pub live_before : (n k : ℕ) (r : Reduced) → is_empty (after_middle n k r) ≡ false → is_empty r ≡ false
-live_before n k r e = go (is_empty r) refl
+-- what holds of an empty zone, and of one that is not empty after its round, holds after the middle index
+pub after_cases : (n k : ℕ) (r : Reduced) (P : Reduced → Type 0) → (is_empty r ≡ true → P r) →
+    (is_empty r ≡ false → P (leaves (round_steps n k n r.work) (seen_in n (round_steps n k n r.work)))) → P (after_middle n k r)
+after_cases n k r P f g = go (is_empty r) refl
   where
-    go : (t : Bool) → is_empty r ≡ t → is_empty r ≡ false
-    go true f = true_false (sym f ∙ sym (ap is_empty (after_empty n k r f)) ∙ e)
-    go false f = f
+    go : (t : Bool) → is_empty r ≡ t → P (after_middle n k r)
+    go true e = subst P (sym (after_empty n k r e)) (f e)
+    go false e = subst P (sym (after_live n k r e)) (g e)
+
+pub live_before : (n k : ℕ) (r : Reduced) → is_empty (after_middle n k r) ≡ false → is_empty r ≡ false
+live_before n k r = after_cases n k r (λ x. is_empty x ≡ false → is_empty r ≡ false) (λ f e. e) (λ f e. f)
 
 pub stays : (n k : ℕ) (w : Work) → is_empty (reduce_steps n k w) ≡ true → (j : ℕ) → k ≤ j → reduce_steps n j w ≡ reduce_steps n k w
 unfolding reduce_steps
@@ -137,6 +147,10 @@ live_safe n (suc k) w e =
 pub record Alive (n : ℕ) (w : Work) : Type 0 where
   pub size : length w.zone ≡ 81
   pub diagonal : (a : ℕ) → a < n → pos 0 ≤ℤ (entry w a a).m
+
+-- one whose diagonal is (0, 0)
+pub zero_alive : (n : ℕ) (w : Work) → length w.zone ≡ 81 → ((a : ℕ) → a < n → entry w a a ≡ zero_pair) → Alive n w
+zero_alive n w size d = record { size = size; diagonal = λ a ha. omega (arith, int, ap (λ (q : Pair). q.m) (d a ha)) }
 
 pub alive_round : (n k : ℕ) (w : Work) → n ≤ 9 → k < n → Alive n w → (i : ℕ) → i ≤ n → RoundDone n k i w (round_steps n k i w)
 alive_round n k w h g l i = round_done w n k h g (l.diagonal k g) l.size i
@@ -180,9 +194,7 @@ module _ (n k : ℕ) (w₀ w : Work) (e : reduce_steps n k w₀ ≡ non_empty w)
   module _ (v : Work) (g : v ≡ round_steps n k n w) {s : Option Fraction} (h : s ≡ seen_in n v) where
     pub reduced_next : reduce_steps n (k + 1) w₀ ≡ leaves v s
     unfolding reduce_steps
-    reduced_next =
-        rw add-one (ap (after_middle n k) e ∙ after_live n k (non_empty w) refl ∙ ap (λ (u : Work). leaves u (seen_in n u)) (sym g)
-        ∙ ap (leaves v) (sym h))
+    reduced_next = rw add-one (ap (after_middle n k) e ∙ after_round n k w g h)
 
     pub stopped_next : is_some s ≡ true → k < n → leaves v s ≡ reduce_steps n n w₀
     stopped_next f l = reduced_stop n (k + 1) w₀ v s reduced_next f (omega arith)

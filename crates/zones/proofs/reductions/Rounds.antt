@@ -5,7 +5,7 @@ use Prim.Native.Nat.{ℕ, zero, suc, ◌+◌, ◌*◌, ◌<◌, ◌≤◌}
 use mathlib.Core.Path.{◌≡◌, refl, sym, ap, ◌∙◌, subst}
 use mathlib.Core.Bool.{false}
 use mathlib.Core.List.{List}
-use lib.ListN.{length, set}
+use lib.ListN.{length, get_or, set}
 use lib.Seq.{set-get_or}
 use lib.IntN.{pos}
 use lib.Signed.{◌≤ℤ◌}
@@ -52,6 +52,22 @@ relaxed_is w k i j x ch f e g h =
     let e' : ch ≡ smaller_of (entry w i j) (sum_of (entry w i k) (entry w k j)) = g ∙ ap (smaller_of (entry w i j)) e in
     let h' = h ∙ ap (λ (c : Choice). lowered_by w.fraction c.threshold) e' in
     λ t. record { zone = set w.zone (i * 9 + j) (e' t).pair; fraction = h' t }
+
+-- the same in column 0, whose place in row a is a * 9
+abbrev pub first_of : List Pair → ℕ → Pair
+first_of z a = get_or z (a * 9) zero_pair
+
+pub first_is : (z : List Pair) (a : ℕ) → first_of z a ≡ pair_at z a 0
+unfolding pair_at
+first_is z a = let e : a * 9 ≡ a * 9 + 0 = omega arith in ap (λ (x : ℕ). get_or z x zero_pair) e
+
+pub column_is : (w : Work) (k i : ℕ) (x : Pair) (ch : Choice) (f : Fraction) →
+    x ≡ sum_of (entry w i k) (first_of w.zone k) → ch ≡ smaller_of (first_of w.zone i) x → f ≡ lowered_by w.fraction ch.threshold →
+    record { zone = set w.zone (i * 9) ch.pair; fraction = f } ≡ relaxed k i 0 w
+column_is w k i x ch f e g h =
+    let p : i * 9 ≡ i * 9 + 0 = omega arith in
+    ap (λ (a : ℕ). record { zone = set w.zone a ch.pair; fraction = f }) p
+    ∙ relaxed_is w k i 0 x ch f (rw (first_is _ _) at e) (rw (first_is _ _) at g) h
 
 -- where the way x through k is not the smaller, the square stays
 module _ (w : Work) (k i j : ℕ) (x : Pair) (f : Fraction) (e : x ≡ sum_of (entry w i k) (entry w k j)) where

@@ -14,15 +14,13 @@ use lib.Signed.{◌≤ℤ◌, ◌<ℤ◌, lt_z}
 use native.Mathlib.Omega.{arith}
 use native.Mathlib.Nat.{not-suc-le-zero}
 use Rattle.zones.specs.declared.fraction.Fraction.{Fraction}
-use Rattle.zones.specs.declared.pair.Pair.{Pair}
 use Rattle.zones.specs.declared.pair.Choice.{Choice}
-use Rattle.zones.specs.declared.reduction.Reduced.{Reduced}
 use Rattle.zones.specs.declared.zone.Work.{Work}
 use Rattle.zones.proofs.pairs.Integers.{int, lt_z_true}
 use Rattle.zones.specs.Fractions.{no_limit}
 use Rattle.zones.specs.Pairs.{sum_of}
 use Rattle.zones.specs.Zones.{entry}
-use Rattle.zones.specs.Reductions.{relaxed, row_steps, round_steps, empty_in, empty_below, after_middle, reduce_steps}
+use Rattle.zones.specs.Reductions.{relaxed, row_steps, round_steps, empty_in, empty_below, reduce_steps}
 use Rattle.zones.specs.Values.{value_of, Below}
 use Rattle.zones.specs.Sets.{In, square_of}
 use Rattle.zones.specs.Moves.{Closed, Shaped, Low}
@@ -30,7 +28,7 @@ use Rattle.runs.proofs.Contradictions.{true_false}
 use Rattle.zones.proofs.sets.Diagonals.{Signs, safe_n, negative_none, signs_below, sign_zero}
 use Rattle.zones.proofs.sets.Lowering.{lower_limits, falls_in}
 use Rattle.zones.proofs.pairs.Order.{smaller_or}
-use Rattle.zones.proofs.reductions.Progress.{after_live, after_empty, live_safe, Alive, along}
+use Rattle.zones.proofs.reductions.Progress.{after_cases, live_safe, Alive, zero_alive, along}
 use Rattle.zones.proofs.reductions.Rounds.{chosen, row_done, row_same, RoundDone, round_done, round_same, still}
 use Rattle.zones.proofs.sets.Squares.{up_to, Round, Through, round_through}
 use Rattle.zones.proofs.sets.Steps.{row_falls, reduce_size, reduce_falls, reduce_signs, reduce_keeps}
@@ -50,31 +48,18 @@ empty_at (suc i) w e = go (empty_at i w) (lt_z (entry w i i).m (pos 0)) refl e
 empty_shows : (n : ℕ) (w : Work) (k : ℕ) → is_empty (reduce_steps n k w) ≡ true → empty_in n (reduce_steps n k w).work ≡ true
 unfolding reduce_steps
 empty_shows n w zero e = true_false (sym e)
-empty_shows n w (suc k) e = go (empty_shows n w k) (is_empty (reduce_steps n k w)) refl e
-  where
-    r : Reduced
-    r = reduce_steps n k w
-
-    go : (is_empty r ≡ true → empty_in n r.work ≡ true) → (t : Bool) → is_empty r ≡ t → is_empty (after_middle n k r) ≡ true →
-        empty_in n (after_middle n k r).work ≡ true
-    go ih true f g = subst (λ (x : Reduced). empty_in n x.work ≡ true) (sym (after_empty n k r f)) (ih f)
-    go ih false f g = subst (λ (x : Reduced). is_empty x ≡ true → empty_in n x.work ≡ true) (sym (after_live n k r f))
-        (λ q. sym (seen_empty n _) ∙ q) g
+empty_shows n w (suc k) e =
+    let ih = empty_shows n w k in
+    after_cases n k (reduce_steps n k w) (λ r. is_empty r ≡ true → empty_in n r.work ≡ true) (λ f g. ih f) (λ f g. sym (seen_empty n _) ∙ g) e
 
 -- what the safe fraction is lowered by, of a zone that is empty
 safe_shows : (n : ℕ) (w : Work) (k : ℕ) → is_empty (reduce_steps n k w) ≡ true →
     safe_of (reduce_steps n k w) ≡ empty_below n (reduce_steps n k w).work
 unfolding reduce_steps
 safe_shows n w zero e = true_false (sym e)
-safe_shows n w (suc k) e = go (safe_shows n w k) (is_empty (reduce_steps n k w)) refl
-  where
-    r : Reduced
-    r = reduce_steps n k w
-
-    go : (is_empty r ≡ true → safe_of r ≡ empty_below n r.work) → (t : Bool) → is_empty r ≡ t →
-        safe_of (after_middle n k r) ≡ empty_below n (after_middle n k r).work
-    go ih true f = subst (λ (x : Reduced). safe_of x ≡ empty_below n x.work) (sym (after_empty n k r f)) (ih f)
-    go ih false f = subst (λ (x : Reduced). safe_of x ≡ empty_below n x.work) (sym (after_live n k r f)) (seen_safe n _)
+safe_shows n w (suc k) e =
+    let ih = safe_shows n w k in
+    after_cases n k (reduce_steps n k w) (λ r. safe_of r ≡ empty_below n r.work) (λ f. ih f) (λ f. seen_safe n _)
 
 -- by cases: it is not empty, or it is
 safe_cases : (n : ℕ) (w : Work) (P : Fraction → Type 0) → (is_empty (reduce_steps n n w) ≡ false → P no_limit) →
@@ -175,7 +160,7 @@ module _ (s e : ℕ) (s> : 0 < s) (c : ℕ) (n≤ : suc c ≤ 9) (w : Work) (g :
   signs a ha = inl (g.diagonal a ha)
 
   alive : Alive (suc c) w
-  alive = record { size = g.size; diagonal = λ a ha. omega (arith, int, ap (λ (q : Pair). q.m) (g.diagonal a ha)) }
+  alive = zero_alive (suc c) w g.size g.diagonal
 
   pub reduce_into : (v : ℕ → ℕ) → In (suc c) (square_of s e w) v → In (suc c) (square_of s e (reduce_steps (suc c) (suc c) w).work) v
   reduce_into = reduce_keeps s e s> (suc c) n≤ w g.size

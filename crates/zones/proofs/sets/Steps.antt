@@ -1,23 +1,20 @@
 -- What each comparison of a reduction keeps, the reduction keeps: one induction, and what follows by it.
 -- Assumes nothing.
-use Rattle.zones.specs.Reductions.{is_empty}
 use Prim.Native.Nat.{ℕ, zero, suc, ◌<◌, ◌≤◌}
-use mathlib.Core.Path.{◌≡◌, refl, sym, subst}
-use mathlib.Core.Bool.{Bool, true, false}
+use mathlib.Core.Path.{◌≡◌}
 use lib.ListN.{length}
 use native.Mathlib.Omega.{arith}
-use Rattle.zones.specs.declared.reduction.Reduced.{Reduced}
 use Rattle.zones.specs.declared.zone.Work.{Work}
 use Rattle.zones.proofs.pairs.Integers.{eq_read, sum_law}
 use Rattle.zones.specs.Pairs.{sum_of}
 use Rattle.zones.specs.Zones.{entry, lower_at}
-use Rattle.zones.specs.Reductions.{relaxed, row_steps, round_steps, after_middle, reduce_steps}
+use Rattle.zones.specs.Reductions.{relaxed, row_steps, round_steps, reduce_steps}
 use Rattle.zones.specs.Values.{value_of}
 use Rattle.zones.specs.Sets.{Gap, In, square_of}
 use Rattle.zones.proofs.sets.Diagonals.{Signs, lower_signs}
 use Rattle.zones.proofs.sets.Lowering.{lower_proper, Falls, falls_refl, falls_trans, lower_falls, lower_keeps}
 use Rattle.zones.proofs.places.Places.{lower_size}
-use Rattle.zones.proofs.reductions.Progress.{after_live, after_empty}
+use Rattle.zones.proofs.reductions.Progress.{after_cases}
 use Rattle.zones.proofs.fractions.Thresholds.{value_sum}
 
 -- what each step keeps, the reduction keeps
@@ -40,14 +37,12 @@ module _ (n : ℕ) (Q : Work → Type 0)
   round k hk w p zero h = p
   round k hk w p (suc i) h = row k i hk h (round_steps n k i w) (round k hk w p i (omega arith)) n (omega arith)
 
-  middle : (k : ℕ) → k < n → (r : Reduced) → P r.work → (t : Bool) → is_empty r ≡ t → P (after_middle n k r).work
-  middle k hk r p true e = subst (λ (x : Reduced). P x.work) (sym (after_empty n k r e)) p
-  middle k hk r p false e = subst (λ (x : Reduced). P x.work) (sym (after_live n k r e)) (round k hk r.work p n (omega arith))
-
   steps : (w : Work) → P w → (k : ℕ) → k ≤ n → P (reduce_steps n k w).work
   unfolding reduce_steps
   steps w p zero h = p
-  steps w p (suc k) h = middle k h (reduce_steps n k w) (steps w p k (omega arith)) (is_empty (reduce_steps n k w)) refl
+  steps w p (suc k) h =
+      let q = steps w p k (omega arith) in
+      after_cases n k (reduce_steps n k w) (λ r. P r.work) (λ e. q) (λ e. round k h _ q n (omega arith))
 
   pub reduce_ind : (w : Work) → length w.zone ≡ 81 → Q w → (length (reduce_steps n n w).work.zone ≡ 81) × Q (reduce_steps n n w).work
   unfolding P

@@ -21,7 +21,7 @@ use Rattle.zones.specs.Settled.{Settled, Raised}
 use Rattle.zones.proofs.sets.Lowering.{lower_limits}
 use Rattle.zones.proofs.pairs.Order.{◌≼◌, ≼_refl, ≼_trans, ≼-sum, smaller_or}
 use Rattle.zones.proofs.places.Places.{lower_size, lower_at_lem, lower_off}
-use Rattle.zones.proofs.reductions.Progress.{seen_in, leaves, seen_all, after_live}
+use Rattle.zones.proofs.reductions.Progress.{seen_in, seen_all, after_round}
 use Rattle.zones.proofs.reductions.Rounds.{col_still}
 use Rattle.zones.proofs.settled.Settled.{way_at_most, relaxed-follows}
 use Rattle.zones.proofs.fractions.Thresholds.{value_sum}
@@ -133,10 +133,7 @@ module _ (n : ℕ) (n≤ : n ≤ 9) (w : Work) (h : Settled n w) where
   -- ---- as the code counts
   pub column_first : (v : Work) → Raised n w v → 0 < n → reduce_steps n 1 v ≡ non_empty v
   unfolding reduce_steps
-  column_first v r p =
-      let e = zero_round v r p n (omega arith) in
-      after_live n 0 (non_empty v) refl
-      ∙ ap (λ (u : Work). leaves u (seen_in n u)) e ∙ ap (leaves v) (seen_all n v (column_diagonal v r))
+  column_first v r p = after_round n 0 v (sym (zero_round v r p n (omega arith))) (sym (seen_all n v (column_diagonal v r)))
 
   pub column_next : (v u : Work) → Raised n w u → (k i : ℕ) → k < n → i < n → u ≡ round_steps n k i v → relaxed k i 0 u ≡ round_steps n k (i + 1) v
   unfolding round_steps

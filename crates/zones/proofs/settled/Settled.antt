@@ -3,7 +3,7 @@
 use Prim.Native.Nat.{ℕ, zero, suc, ◌+◌, ◌-◌, ◌*◌, ◌<◌, ◌≤◌}
 use mathlib.Core.Path.{◌≡◌, refl, sym, ap, ◌∙◌, subst}
 use mathlib.Core.Bool.{false}
-use lib.IntN.{pos, ◌-ℤ◌, nat_abs}
+use lib.IntN.{◌-ℤ◌, nat_abs}
 use lib.Signed.{◌≤ℤ◌}
 use native.Mathlib.Omega.{arith}
 use native.Mathlib.Decide.{dec_lt}
@@ -22,7 +22,7 @@ use Rattle.zones.specs.Settled.{Settled}
 use Rattle.zones.proofs.pairs.Choices.{not_less_shows, threshold_cases, lowered_old}
 use Rattle.zones.proofs.sets.Lowering.{Falls, falls_refl}
 use Rattle.zones.proofs.pairs.Order.{◌≼◌, ≼_refl, ≼_trans}
-use Rattle.zones.proofs.reductions.Progress.{seen_in, leaves, seen_all, after_live}
+use Rattle.zones.proofs.reductions.Progress.{seen_all, after_round, zero_alive}
 use Rattle.zones.proofs.reductions.Rounds.{relaxed_old}
 use Rattle.zones.proofs.fractions.Thresholds.{value_law, value_sum}
 
@@ -103,16 +103,13 @@ module _ (n : ℕ) (w : Work) (h : Settled n w) where
   settled_round k hk zero hi = refl
   settled_round k hk (suc i) hi = ap (row_steps k i n) (settled_round k hk i (omega arith)) ∙ settled_row k i hk hi n (omega arith)
 
-  settled_live : (a : ℕ) → a < n → pos 0 ≤ℤ (entry w a a).m
-  settled_live a ha = omega (arith, int, ap (λ (q : Pair). q.m) (h.diagonal a ha))
-
   -- no middle index changes it
   pub settled_reduced : (k : ℕ) → k ≤ n → reduce_steps n k w ≡ non_empty w
   unfolding reduce_steps
   settled_reduced zero hk = refl
   settled_reduced (suc k) hk =
-      ap (after_middle n k) (settled_reduced k (omega arith)) ∙ after_live n k (non_empty w) refl
-      ∙ ap (λ (v : Work). leaves v (seen_in n v)) (settled_round k hk n (omega arith)) ∙ ap (leaves w) (seen_all n w settled_live)
+      ap (after_middle n k) (settled_reduced k (omega arith))
+      ∙ after_round n k w (sym (settled_round k hk n (omega arith))) (sym (seen_all n w (zero_alive n w h.size h.diagonal).diagonal))
 
   -- at a lower running fraction it is settled too
   pub settled_later : (f : Fraction) → ((s e : ℕ) → 0 < s → Below s e f → Below s e w.fraction) →

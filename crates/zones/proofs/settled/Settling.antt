@@ -3,7 +3,7 @@
 -- Assumes nothing.
 use Rattle.zones.specs.Reductions.{is_empty}
 use Prim.Native.Nat.{ℕ, suc, ◌<◌, ◌≤◌}
-use mathlib.Core.Path.{◌≡◌, refl, sym, ap, ◌∙◌, subst}
+use mathlib.Core.Path.{◌≡◌, refl, sym, ◌∙◌, subst}
 use mathlib.Core.Bool.{Bool, false}
 use mathlib.Core.List.{List}
 use native.Mathlib.Omega.{arith}
@@ -21,14 +21,14 @@ use Rattle.zones.proofs.sets.Closing.{reduce_through, reduce_shaped}
 use Rattle.zones.proofs.reductions.Closure.{Triangle, reduce_triangle}
 use Rattle.zones.proofs.sets.Meeting.{met_falls}
 use Rattle.zones.proofs.places.Places.{first_at, first_size, home_below, reset_by_lem}
-use Rattle.zones.proofs.reductions.Progress.{Alive}
+use Rattle.zones.proofs.reductions.Progress.{Alive, zero_alive}
 use Rattle.zones.proofs.settled.Settled.{settled_later}
 use Rattle.zones.proofs.fractions.Thresholds.{zero_value}
 
 -- ---- a reduced zone that is not empty
 module _ (c : ℕ) (n≤ : suc c ≤ 9) (w : Work) (g : Shaped c w) (live : is_empty (reduce_steps (suc c) (suc c) w) ≡ false) where
   alive : Alive (suc c) w
-  alive = record { size = g.size; diagonal = λ a ha. omega (arith, int, ap (λ (q : Pair). q.m) (g.diagonal a ha)) }
+  alive = zero_alive (suc c) w g.size g.diagonal
 
   pub reduced_settled : Settled (suc c) (reduce_steps (suc c) (suc c) w).work
   unfolding Triangle

@@ -69,9 +69,24 @@ returns-then-is_some c =
     (one_more (size≡ (goal.at.returns-then-is_some c).After-reset-cleared)) _ met
     (sym c.is_some.ensures ∙ c.if-is_some.true) ∙ ap (enter_of _ _) (cleared (goal.at.returns-then-is_some c).After-reset-cleared)
 
-pub raise-raised-requires : goal.raise-raised-requires
-raise-raised-requires c =
-    record { few_clocks = (asks (goal.at.raise-raised-requires c).After-reset-cleared).0 }
+pub raise-requires : goal.raise-requires
+raise-requires c =
+    record { few_clocks = (asks (goal.at.raise-requires c).After-reset-cleared).0 }
+
+pub invariant_of-raised : goal.invariant_of-raised
+unfolding invariant_of
+invariant_of-raised c =
+    let a = c.args.automaton.now.accepted in
+    let hl = c.requires.there in
+    let at = at≡ (goal.at.invariant_of-raised c).After-reset-cleared in
+    let n = size≡ (goal.at.invariant_of-raised c).After-reset-cleared in
+    let live = sym c.is_some.ensures ∙ c.if-is_some.false in
+    record {
+      ready =
+          raised_ready _ (n≤ (goal.at.invariant_of-raised c).After-reset-cleared) _ (one_more n) (10 * counts) (omega arith) (omega arith) _
+          (invariant_scale _ a _ hl) (ready (goal.at.invariant_of-raised c).After-reset-cleared).0 (meets _ _ at n c.narrow-met.ensures) live
+          (λ x px hx. a.invariant_hi _ x hl px (omega arith)) (raises _ _ at n c.raise.ensures);
+    }
 
 pub reduce_raised-requires : goal.reduce_raised-requires
 unfolding invariant_of
@@ -81,16 +96,11 @@ reduce_raised-requires c =
     let at = at≡ (goal.at.reduce_raised-requires c).After-reset-cleared in
     let n = size≡ (goal.at.reduce_raised-requires c).After-reset-cleared in
     let met = meets _ _ at n c.narrow-met.ensures in
-    let up = raises _ _ at n c.raise-raised.ensures in
+    let up = raises _ _ at n c.raise.ensures in
     let live = sym c.is_some.ensures ∙ c.if-is_some.false in
-    let o = invariant_scale _ a _ hl in (
-      raised_ready _ (n≤ (goal.at.reduce_raised-requires c).After-reset-cleared) _ (one_more n) (10 * counts) (omega arith) (omega arith) _ o
-          (ready (goal.at.reduce_raised-requires c).After-reset-cleared).0 met live
-          (λ x px hx. a.invariant_hi _ x hl px (omega arith)) up,
-      raised_lifted _ (n≤ (goal.at.reduce_raised-requires c).After-reset-cleared) _ (one_more n) (10 * counts) (omega arith) (omega arith) _ o
-          (ready (goal.at.reduce_raised-requires c).After-reset-cleared).0 met live
-          (λ x px hx. a.invariant_present _ x hl px (omega arith)) up,
-    )
+    raised_lifted _ (n≤ (goal.at.reduce_raised-requires c).After-reset-cleared) _ (one_more n) (10 * counts) (omega arith) (omega arith) _
+    (invariant_scale _ a _ hl) (ready (goal.at.reduce_raised-requires c).After-reset-cleared).0 met live
+    (λ x px hx. a.invariant_present _ x hl px (omega arith)) up
 
 pub returns : goal.returns
 unfolding invariant_of
@@ -99,7 +109,7 @@ returns c =
     let n = size≡ (goal.at.returns c).After-reset-cleared in
     let met = meets _ _ at n c.narrow-met.ensures in
     entered _ (n≤ (goal.at.returns c).After-reset-cleared) _ (one_more n) _ met (sym c.is_some.ensures ∙ c.if-is_some.false)
-    (raises _ _ at n c.raise-raised.ensures)
+    (raises _ _ at n c.raise.ensures)
     c.reduce_raised.ensures
     ∙ ap (enter_of _ _) (cleared (goal.at.returns c).After-reset-cleared)
 
@@ -109,5 +119,5 @@ overflow_add-c c = omega (arith, few (goal.at.overflow_add-c c).Start)
 pub reset-cleared-requires : goal.reset-cleared-requires
 reset-cleared-requires c = omega (arith, few (goal.at.reset-cleared-requires c).Start)
 
-pub overflow_add-c-2 : goal.overflow_add-c-2
-overflow_add-c-2 c = omega (arith, few (goal.at.overflow_add-c-2 c).Start)
+pub overflow_add-raised : goal.overflow_add-raised
+overflow_add-raised c = omega (arith, few (goal.at.overflow_add-raised c).Start)

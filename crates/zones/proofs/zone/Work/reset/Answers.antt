@@ -5,7 +5,7 @@ use mathlib.Core.Logic.{inl, inr}
 use lib.ListN.{length}
 use native.Mathlib.Omega.{arith}
 use Rattle.zones.specs.Zones.{set_of, home, reset_places}
-use Rattle.zones.proofs.places.Places.{home_is, home_below, reset_next, reset_as, reset_all}
+use Rattle.zones.proofs.places.Places.{home_is, reset_next, reset_as, reset_all}
 use Rattle.zones.proofs.zone.Work.reset.Goals as goal
 use Rattle.zones.proofs.zone.Work.reset.Goals.{Joined-marked-i, Joined-marked-j, then-marked-i, else-marked-i, then-marked-j, else-marked-j}
 
@@ -16,19 +16,15 @@ loop-i-init c = (refl, refl)
 -- the index whose row or column an index has
 row : (c : Joined-marked-i) →
     (c.if-marked-i.a < 9) × (c.if-marked-i.a ≡ home (set_of c.args.marked) c.loop-i.i)
-row c = let R = set_of c.args.marked in
-    let i = c.loop-i.i in
-    let h = home_is R i (elim c.if-marked-i.branch
-    [ then-marked-i w ↦ inl (w.if-marked-i.true, w.a-is) | else-marked-i w ↦ inr (w.if-marked-i.false, w.a-is) ]) in
-    (omega (arith, h, home_below R 9 i (omega arith)), h)
+row c =
+    home_is _ _ (omega arith) (elim c.if-marked-i.branch
+    [ then-marked-i w ↦ inl (w.if-marked-i.true, w.a-is) | else-marked-i w ↦ inr (w.if-marked-i.false, w.a-is) ])
 
 column : (c : Joined-marked-j) →
     (c.if-marked-j.b < 9) × (c.if-marked-j.b ≡ home (set_of c.args.marked) c.loop-j.j)
-column c = let R = set_of c.args.marked in
-    let j = c.loop-j.j in
-    let h = home_is R j (elim c.if-marked-j.branch
-    [ then-marked-j w ↦ inl (w.if-marked-j.true, w.b-is) | else-marked-j w ↦ inr (w.if-marked-j.false, w.b-is) ]) in
-    (omega (arith, h, home_below R 9 j (omega arith)), h)
+column c =
+    home_is _ _ (omega arith) (elim c.if-marked-j.branch
+    [ then-marked-j w ↦ inl (w.if-marked-j.true, w.b-is) | else-marked-j w ↦ inr (w.if-marked-j.false, w.b-is) ])
 
 pub loop-j-init : goal.loop-j-init
 loop-j-init c = let none : c.loop-i.i * 9 ≡ c.loop-i.i * 9 + 0 = omega arith in (refl, λ y size e. reset_as _ y none e)

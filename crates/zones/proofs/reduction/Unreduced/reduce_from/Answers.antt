@@ -1,59 +1,41 @@
--- `Work::reduce_from` meets its contract: what is done is the definition's middle indices, of this one its rows, and of this row its columns.
+-- `Unreduced::reduce_from` meets its contract: what is done is the definition's middle indices, of this one its rows, and of this row its columns.
 use Prim.Native.Nat.{ℕ, ◌+◌}
-use mathlib.Core.Path.{◌≡◌, refl, sym, ap, ◌∙◌}
+use mathlib.Core.Path.{◌≡◌, sym, ap, ◌∙◌}
 use native.Mathlib.Numerals.{add-one}
 use native.Mathlib.Omega.{arith}
 use Rattle.zones.specs.declared.zone.Work.{Work}
 use Rattle.zones.specs.Pairs.{is_less}
 use Rattle.zones.specs.Zones.{pair_at}
-use Rattle.zones.specs.Ranges.{Fits32}
-use Rattle.zones.specs.Reductions.{relaxed, row_steps, round_steps, seen_with}
-use Rattle.zones.proofs.ranges.Ranges.{TurnReady, spread_small, sum-small, turn_narrow, turn_of, skip_of, diagonal_of}
+use Rattle.zones.specs.Reductions.{relaxed, round_steps, seen_with}
+use Rattle.zones.proofs.ranges.Ranges.{TurnReady, turn_of, skip_of, diagonal_of}
 use Rattle.zones.proofs.reductions.Rounds.{relaxed_is, relaxed_stays, row_next, row_all, round_all}
 use Rattle.zones.proofs.reductions.Progress.{seen_in, seen_none, seen_next, reduced_next, stopped_next, is_none, leaves}
-use Rattle.zones.proofs.zone.Work.reduce_from.Goals as goal
-use Rattle.zones.proofs.zone.Work.reduce_from.Goals.{After-smaller-choice, In-loop-j, After-loop-d}
-use Rattle.zones.proofs.zone.Work.reduce_from.Goals.{then-lt, else-lt, then-i-k+else-loop-j-test, else-i-k}
-
-pub loop-i-init : goal.loop-i-init
-unfolding round_steps
-loop-i-init c = (omega arith, omega arith, refl)
-
-pub loop-j-init : goal.loop-j-init
-unfolding row_steps
-loop-j-init c = (omega arith, omega arith, omega arith, refl)
+use Rattle.zones.proofs.reduction.Unreduced.reduce_from.Goals as goal
+use Rattle.zones.proofs.reduction.Unreduced.reduce_from.Goals.{In-loop-j, After-loop-d}
+use Rattle.zones.proofs.reduction.Unreduced.reduce_from.Goals.{then-lt, else-lt, then-i-k+else-loop-j-test, else-i-k}
 
 -- past the three reads: what the comparison asks of the pairs and the fraction
-turn : (c : In-loop-j) → TurnReady c.loop-j.work c.loop-k.k c.loop-i.i c.loop-j.j
+turn : (c : In-loop-j) → let s : Work = c.loop-j.work in let k : ℕ = c.loop-k.k in let i : ℕ = c.loop-i.i in let j : ℕ = c.loop-j.j in
+    TurnReady s.fraction (pair_at s.zone i j) (pair_at s.zone i k) (pair_at s.zone k j)
 turn c =
-    turn_of _ c.args.self c.well_formed.0.1.1.0.1.0.1 c.requires.0 _ _ (omega arith) c.loop-k.invariant.1 _ _ (omega arith) (omega arith) _ _
+    turn_of _ _ c.well_formed.0.1.1.0.1.1.0.1.0.1 c.args.self.ready _ _ (omega arith) c.loop-k.invariant.1 _ _ (omega arith) (omega arith) _ _
     c.loop-i.invariant.2 c.loop-j.invariant.3
 
 pub sum-requires : goal.sum-requires
 unfolding pair_at
-sum-requires c = let t = turn (goal.at.sum-requires c).In-loop-j in (spread_small t.to, spread_small t.from)
+sum-requires c = (turn (goal.at.sum-requires c).In-loop-j).adds
 
 pub smaller-choice-requires : goal.smaller-choice-requires
 unfolding pair_at
-smaller-choice-requires c =
-    let t = turn (goal.at.smaller-choice-requires c).In-loop-j in
-    (spread_small t.at, rw c.sum.ensures (sum-small _ _ t.to t.from))
-
--- past the comparison: both branches lower the fraction by its threshold
-lowering : (c : After-smaller-choice) →
-    Fits32 c.loop-j.work.fraction × Fits32 c.smaller-choice.result.threshold
-unfolding pair_at
-lowering c =
-    let t : TurnReady c.loop-j.work c.loop-k.k c.loop-i.i c.loop-j.j =
-    turn_of _ c.args.self c.well_formed.0.1.1.0.1.0.1 c.requires.0 _ _ (omega arith) c.loop-k.invariant.1 _ _ (omega arith) (omega arith) _ _
-    c.loop-i.invariant.2 c.loop-j.invariant.3 in
-    (t.fraction, rw (c.smaller-choice.ensures, c.sum.ensures) (turn_narrow _ _ _ _ t))
+smaller-choice-requires c = rw c.sum.ensures (turn (goal.at.smaller-choice-requires c).In-loop-j).compares
 
 pub lower-requires : goal.lower-requires
-lower-requires c = lowering (goal.at.lower-requires c).After-smaller-choice
+unfolding pair_at
+lower-requires c = rw (c.smaller-choice.ensures, c.sum.ensures) (turn (goal.at.lower-requires c).In-loop-j).lowers
 
 pub lower-requires-else-lt : goal.lower-requires-else-lt
-lower-requires-else-lt c = lowering (goal.at.lower-requires-else-lt c).After-smaller-choice
+unfolding pair_at
+lower-requires-else-lt c = rw (c.smaller-choice.ensures, c.sum.ensures) (turn (goal.at.lower-requires-else-lt c).In-loop-j).lowers
 
 pub loop-j-preserved : goal.loop-j-preserved
 unfolding pair_at is_less
@@ -69,9 +51,9 @@ loop-j-preserved c =
 
 pub loop-i-preserved : goal.loop-i-preserved
 loop-i-preserved c =
-    let step : c.if-i-k.work ≡ round_steps c.args.size c.loop-k.k (c.loop-i.i + 1) c.loop-k.work = elim c.if-i-k.branch [
+    let step : c.if-i-k.work ≡ round_steps c.args.self.size c.loop-k.k (c.loop-i.i + 1) c.loop-k.work = elim c.if-i-k.branch [
       | then-i-k+else-loop-j-test w ↦ w.work-is ∙ row_all _ _ _ _ (omega arith) w.loop-j.invariant.3 c.loop-i.invariant.2
-      | else-i-k w ↦ w.work-is ∙ skip_of _ c.args.self c.well_formed.0.1.1.0.1.0.1 c.requires.0 _ _ (omega arith) c.loop-k.invariant.1 _
+      | else-i-k w ↦ w.work-is ∙ skip_of _ _ c.well_formed.0.1.1.0.1.1.0.1.0.1 c.args.self.ready _ _ (omega arith) c.loop-k.invariant.1 _
           w.if-i-k.false c.loop-i.invariant.2
     ] in
     (omega arith, omega arith, step)
@@ -82,7 +64,7 @@ loop-d-init c = (omega arith, c.loop-k.invariant.2 ∙ seen_none _)
 pub seen_with-emptied-requires : goal.seen_with-emptied-requires
 unfolding pair_at
 seen_with-emptied-requires c =
-    diagonal_of _ c.args.self c.well_formed.0.1.1.0.1.0.1 c.requires.0 _ _ (omega arith) c.loop-k.invariant.1 _
+    diagonal_of _ _ c.well_formed.0.1.1.0.1.1.0.1.0.1 c.args.self.ready _ _ (omega arith) c.loop-k.invariant.1 _
     (round_all _ _ _ (omega arith) c.loop-i.invariant.2) _ (omega arith) c.loop-d.invariant.1
 
 pub loop-d-preserved : goal.loop-d-preserved
@@ -91,8 +73,8 @@ loop-d-preserved c =
     (omega arith, c.seen_with-emptied.ensures ∙ ap (seen_with _) c.loop-d.invariant.1 ∙ rw add-one (seen_next _ _))
 
 -- the diagonal after the round
-seen : (c : After-loop-d) → c.loop-d.emptied ≡ seen_in c.args.size c.loop-i.work
-seen c = let all : c.loop-d.d ≡ c.args.size = omega arith in c.loop-d.invariant.1 ∙ ap (λ (n : ℕ). seen_in n c.loop-i.work) all
+seen : (c : After-loop-d) → c.loop-d.emptied ≡ seen_in c.args.self.size c.loop-i.work
+seen c = let all : c.loop-d.d ≡ c.args.self.size = omega arith in c.loop-d.invariant.1 ∙ ap (λ (n : ℕ). seen_in n c.loop-i.work) all
 
 pub returns-then-is_some : goal.returns-then-is_some
 returns-then-is_some c =
