@@ -9,7 +9,7 @@ ghost use Rattle.slots.specs.Slots.{slot_origin, slot_pair, zone_of};
 use zones::pair::Pair;
 
 // The numbers before the pairs: the location, and the origin.
-const FIELDS: usize = 3;
+pub const FIELDS: usize = 3;
 
 // Where the first pair has its m and its p.
 pub const FIRST_M: usize = FIELDS;
@@ -157,18 +157,17 @@ pub fn get_pair(slot: &[i32], t: usize) -> Pair
 }
 
 // The first numbers of a slot become those given.
-pub fn copy(slot: &mut [i32], numbers: &[i32], stride: usize)
-    requires { (stride ≤ length slot.old) × (stride ≤ length numbers.now) }
-    ensures { slot.new ≡ take stride numbers.now ++ drop stride slot.old }
+pub fn copy(slot: &mut [i32], numbers: &[i32])
+    requires { length numbers.now ≤ length slot.old }
+    ensures { slot.new ≡ numbers.now ++ drop (length numbers.now) slot.old }
 {
-    slot[..stride].copy_from_slice(&numbers[..stride]);
+    slot[..numbers.len()].copy_from_slice(numbers);
 }
 
 // The slot at `at` of the store becomes the numbers given: it is lent to the copy as a part.
-pub fn keep(store: &mut [i32], at: usize, numbers: &[i32], stride: usize)
-    requires { (at + stride ≤ length store.old) × (stride ≤ length numbers.now) }
-    ensures { store.new ≡
-        take at store.old ++ (take stride numbers.now ++ drop (at + stride) store.old) }
+pub fn keep(store: &mut [i32], at: usize, numbers: &[i32])
+    requires { at + length numbers.now ≤ length store.old }
+    ensures { store.new ≡ take at store.old ++ (numbers.now ++ drop (at + length numbers.now) store.old) }
 {
-    copy(&mut store[at..], numbers, stride);
+    copy(&mut store[at..], numbers);
 }

@@ -15,7 +15,7 @@ loop-t-init c = (refl, record { n = omega arith; d = omega arith }, refl)
 pub after_choice-below-requires : goal.after_choice-below-requires
 after_choice-below-requires c = (
   c.loop-t.invariant.1,
-  turn_ready _ _ _ c.get_pair-a.ensures c.get_pair-b.ensures c.requires c.loop-t-test.true,
+  turn_ready _ _ _ c.get_pair-a.ensures c.get_pair-b.ensures c.requires (omega (arith, c.pair_count-t-end.ensures)),
 )
 
 pub loop-t-preserved : goal.loop-t-preserved
@@ -25,7 +25,7 @@ loop-t-preserved c =
     let a = c.args in
     let equal = turn_equal a.new.now a.old.now c.loop-t.t new old in (
       c.after_choice-below.ensures ∙ turn_lowers _ _ _ new old c.loop-t.invariant.0,
-      rw c.after_choice-below.ensures (turn_fits _ _ _ new old c.requires c.loop-t-test.true c.loop-t.invariant.1),
+      rw c.after_choice-below.ensures (turn_fits _ _ _ new old c.requires (omega (arith, c.pair_count-t-end.ensures)) c.loop-t.invariant.1),
       elim c.if-ne.branch [
         | then-ne w ↦ w.equal-is ∙ fails_now _ c.loop-t.t (equal ∙ not-true _ (sym c.ne.ensures ∙ w.if-ne.true))
         | else-ne w ↦ w.equal-is ∙ stays_so _ c.loop-t.t (equal ∙ not-false _ (sym c.ne.ensures ∙ w.if-ne.false)) c.loop-t.invariant.2
