@@ -58,8 +58,7 @@ fn drop_inside(turn: Turn, exact: Fraction, new: &[i32], old: &[i32]) -> Turn
         (equal_slots new.now old.now (pair_count new.now)) }
 {
     let inside = inside_of(new, old);
-    let below = inside.below;
-    turn.contained(exact, below, inside.equal)
+    turn.contained(exact, inside.below, inside.equal)
 }
 
 // A zone that has entered l, not the target: it is dropped inside a kept one, refused, or kept.

@@ -4,6 +4,7 @@ use Prim.Native.Nat.{ℕ, ◌+◌, ◌*◌, ◌≤◌}
 use mathlib.Core.Path.{◌≡◌, ap}
 use lib.ListN.{length}
 use native.Mathlib.Omega.{arith}
+use Rattle.encoding.specs.Placing.{placed}
 use Rattle.slots.specs.Slots.{slot_length}
 use Rattle.search.proofs.exploration.Judging.{enters, asks_encode, asks_find, asks_largest, new_length, slot_within, next_within}
 use Rattle.search.proofs.exploration.Judging.{asks_drop, gives_inside, gives_big, gives_full, gives_kept}
@@ -68,6 +69,7 @@ keep-requires c =
     omega (arith, e, size, next_inside (goal.at.keep-requires c).Then-count-capacity)
 
 pub returns-then-count-capacity : goal.returns-then-count-capacity
+unfolding placed
 returns-then-count-capacity c =
     gives_kept
     (enters c.args.automaton.now c.args.origin c.requires.there c.requires.going c.requires.sized)
