@@ -86,6 +86,7 @@ pub fn slot_length(size: usize) -> usize
 }
 
 // The numbers before the pairs, and zeros after them.
+#[tactic(auto, unfolding(crate::specs::Slots::head_of))]
 fn headed(location: usize, origin: Origin) -> [i32; LONGEST]
     requires { location < 256 }
     ensures { result ≡ head_of location origin ++ replicate (spare 0) (pos 0) }
@@ -133,6 +134,7 @@ pub fn origin_of(slot: &[i32]) -> Origin
 }
 
 // The zone of a slot, (0, 0) outside its rows and columns.
+#[tactic(auto, unfolding(crate::specs::Slots::square_to, crate::specs::Slots::zone_of), using(crate::proofs::slot::Loops::place_below, crate::proofs::slot::Loops::decode_turn, crate::proofs::slot::Loops::decode_row))]
 pub fn decode(slot: &[i32], size: usize) -> [Pair; 81]
     requires size_bound { (size ≤ 9) × (slot_length size ≤ length slot.now) }
     requires counts_natural { (t : ℕ) → t < size * size → pos 0 ≤ℤ get_or slot.now (p_at t) (pos 0) }

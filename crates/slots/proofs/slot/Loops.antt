@@ -226,13 +226,6 @@ row_ends n f out n≤ i = go (9 - n) (omega arith)
 pub encoded : ℕ → List ℤ → List Pair → ℕ → List ℤ
 encoded n hd z k = (hd ++ flat (pairs_to n k z)) ++ replicate (longest - m_at (counted n k)) (pos 0)
 
--- the numbers before the pairs, of the slot that it begins with
-abbrev pub head_in : List ℤ → List ℤ
-head_in slot = take fields slot
-
-pub head_in_lem : (l : ℕ) (o : Origin) {slot : List ℤ} → slot ≡ head_of l o ++ replicate (spare 0) (pos 0) → head_in slot ≡ head_of l o
-head_in_lem l o e = rw e (take_at (head_of l o) (replicate (spare 0) (pos 0)) fields (head_size l o))
-
 module _ (n l : ℕ) (o : Origin) (z : List Pair) where
   pub encode_start : {slot : List ℤ} → slot ≡ head_of l o ++ replicate (spare 0) (pos 0) → slot ≡ encoded n (head_of l o) z (0 * 9)
   unfolding encoded pairs_to flat counted
