@@ -2,7 +2,7 @@
 // Its `as` are between i32 and usize, u64 or i64, where std has no From; that no bits are lost is in the contracts.
 // `size ≤ 9` stays a clause: a zone's arrays and its count of indices go by value, document 01's form, and a type of one number would put
 // `.count` into each contract for one short inequality.
-ghost use Rattle.std.specs.Prelude.{◌≡◌, ◌++◌, ℕ, ◌+◌, ◌*◌, ◌≤◌, ◌<◌, length, get_or, take, drop, set, replicate, pos, ◌≤ℤ◌};
+ghost use Rattle.std.specs.Prelude.{◌≡◌, ◌++◌, ℕ, ◌+◌, ◌*◌, ◌≤◌, ◌<◌, length, get_or, set, replicate, pos, ◌≤ℤ◌};
 ghost use Rattle.zones.specs.Integers.{up};
 ghost use Rattle.zones.specs.Ranges.{AllBounded, Bounded, last_counts};
 ghost use Rattle.runs.specs.Limits.{scale};
@@ -99,6 +99,7 @@ fn headed(location: usize, origin: Origin) -> [i32; LONGEST]
 }
 
 // The slot of a zone, and zeros after it.
+#[tactic(auto, using(crate::proofs::slot::Loops::encode_turns))]
 pub fn encode(location: usize, origin: Origin, z: [Pair; 81], size: usize) -> [i32; LONGEST]
     requires size_bound { (size ≤ 9) × (location < 256) }
     requires all_bounded { AllBounded scale last_counts size z }
@@ -134,7 +135,7 @@ pub fn origin_of(slot: &[i32]) -> Origin
 }
 
 // The zone of a slot, (0, 0) outside its rows and columns.
-#[tactic(auto, unfolding(crate::specs::Slots::square_to, crate::specs::Slots::zone_of), using(crate::proofs::slot::Loops::place_below, crate::proofs::slot::Loops::decode_turn, crate::proofs::slot::Loops::decode_row))]
+#[tactic(auto, unfolding(crate::specs::Slots::square_to, crate::specs::Slots::zone_of), using(crate::proofs::slot::Loops::decode_turns))]
 pub fn decode(slot: &[i32], size: usize) -> [Pair; 81]
     requires size_bound { (size ≤ 9) × (slot_length size ≤ length slot.now) }
     requires counts_natural { (t : ℕ) → t < size * size → pos 0 ≤ℤ get_or slot.now (p_at t) (pos 0) }
