@@ -10,18 +10,18 @@ use Rattle.std.proofs.lemmas.Grind.{common_steps}
 use Rattle.encoding.specs.Placing.{placed}
 
 -- ---- bytes that take the place of a lent part from `at` on: of one as long as they are, or of all that follows
-pub part_placed : (s xs : List ℕ) (at n : ℕ) {ys : List ℕ} → n ≡ length xs → ys ≡ xs
+pub part_placed : {X : Type 0} (s xs : List X) (at n : ℕ) {ys : List X} → n ≡ length xs → ys ≡ xs
     → take at s ++ (ys ++ drop n (drop at s)) ≡ placed at xs s
 unfolding placed
 part_placed s xs at n e f = rw (f, e) (simp drop-drop)
 
-pub lent_placed : (s xs : List ℕ) (at : ℕ) {ys : List ℕ} → ys ≡ placed 0 xs (take (length s - at) (drop at s))
+pub lent_placed : {X : Type 0} (s xs : List X) (at : ℕ) {ys : List X} → ys ≡ placed 0 xs (take (length s - at) (drop at s))
     → take at s ++ (ys ++ drop (length s - at) (drop at s)) ≡ placed at xs s
 unfolding placed
 lent_placed s xs at e = grind (arith, common_steps, e)
 
 -- ---- what begins with xs at a place begins with xs and ys, once ys are put behind xs
-behind : (s xs ys : List ℕ) (at to : ℕ) → at ≤ length s → to ≡ at + length xs → placed to ys (placed at xs s) ≡ placed at (xs ++ ys) s
+behind : {X : Type 0} (s xs ys : List X) (at to : ℕ) → at ≤ length s → to ≡ at + length xs → placed to ys (placed at xs s) ≡ placed at (xs ++ ys) s
 unfolding placed
 behind s xs ys at to h e =
     let front : take to (placed at xs s) ≡ take at s ++ xs = grind (arith, common_steps) in
@@ -31,6 +31,6 @@ behind s xs ys at to h e =
     (λ i. front i ++ (ys ++ back i)) ∙ simp append_assoc
 
 -- the same of the code's two puts
-pub goes_on : (s xs ys : List ℕ) (at to : ℕ) → at ≤ length s → to ≡ at + length xs
-    → {t u zs : List ℕ} → t ≡ placed at xs s → zs ≡ ys → u ≡ placed to zs t → u ≡ placed at (xs ++ ys) s
+pub goes_on : {X : Type 0} (s xs ys : List X) (at to : ℕ) → at ≤ length s → to ≡ at + length xs
+    → {t u zs : List X} → t ≡ placed at xs s → zs ≡ ys → u ≡ placed to zs t → u ≡ placed at (xs ++ ys) s
 goes_on s xs ys at to h e f g k = k ∙ (λ i. placed to (g i) (f i)) ∙ behind s xs ys at to h e

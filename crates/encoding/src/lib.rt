@@ -90,11 +90,11 @@ pub fn same(a: &[u8], b: &[u8]) -> bool
     same_by_words(a, b)
 }
 
-// Bytes put at a place of others.
+// Bytes, or numbers, put at a place of others.
 #[tactic(auto, using(crate::proofs::Placed::part_placed))]
-pub fn put(to: &mut [u8], at: usize, bytes: &[u8])
-    requires { at + length bytes.now ≤ length to.old }
-    ensures { to.new ≡ placed at bytes.now to.old }
+pub fn put<T: Copy>(to: &mut [T], at: usize, items: &[T])
+    requires { at + length items.now ≤ length to.old }
+    ensures { to.new ≡ placed at items.now to.old }
 {
-    to[at..at + bytes.len()].copy_from_slice(bytes);
+    to[at..at + items.len()].copy_from_slice(items);
 }

@@ -10,7 +10,7 @@ ghost use Rattle.search.specs.Instance.{fractions_of, zones_of};
 ghost use Rattle.automata.specs.Opened.{edge_of};
 ghost use Rattle.reachability.specs.Search.{Came, judge, expand, take_from};
 ghost use Rattle.automata.specs.Semantics.{system_of};
-ghost use Rattle.slots.specs.Slots.{slot_length, Framed};
+ghost use Rattle.slots.specs.Slots.{slot_length, pair_count, Framed};
 ghost use Rattle.search.specs.Store.{most_slots, capacity_of};
 ghost use Rattle.search.specs.Answers.{state_of};
 ghost use Rattle.search.specs.Outcomes.{Few, most_offers, contained_by};
@@ -36,14 +36,15 @@ const SLOTS: usize = 2147483647;
 
 // The number of the oldest kept slot of the same location that contains the new one.
 fn find(store: &[i32], new: &[i32], count: usize, size: usize) -> Option<usize>
-    requires { (size ≤ 9) × (count * slot_length size ≤ length store.now) × (slot_length size ≤ length new.now) }
+    requires { (size ≤ 9) × (count * slot_length size ≤ length store.now) × (length new.now ≡ slot_length size) }
     ensures { MatchOption result (FirstHit size new.now store.now count count)
         (λ j. (j < count) × FirstHit size new.now store.now count j) }
 {
     let stride = slot_length(size);
     for j in 0..count {
         let at = j * stride;
-        if store[at] == new[0] && is_within(new, &store[at..], size * size) {
+        let old = &store[at..at + stride];
+        if old[0] == new[0] && is_within(new, old) {
             return Some(j);
         }
     }
@@ -51,14 +52,13 @@ fn find(store: &[i32], new: &[i32], count: usize, size: usize) -> Option<usize>
 }
 
 // The new zone is dropped inside the old one, which contains it: the test's thresholds lower both fractions.
-fn drop_inside(turn: Turn, exact: Fraction, new: &[i32], old: &[i32], pairs: usize) -> Turn
-    requires { ComparableSlots new.now old.now pairs × Fits32 exact × Fits32 turn.safe × Few most_offers turn.dropped }
-    ensures { result ≡ contained_by turn exact (inside_slots new.now old.now pairs)
-        (equal_slots new.now old.now pairs) }
+fn drop_inside(turn: Turn, exact: Fraction, new: &[i32], old: &[i32]) -> Turn
+    requires { ComparableSlots new.now old.now (pair_count new.now) × Fits32 exact × Fits32 turn.safe × Few most_offers turn.dropped }
+    ensures { result ≡ contained_by turn exact (inside_slots new.now old.now (pair_count new.now))
+        (equal_slots new.now old.now (pair_count new.now)) }
 {
-    let inside = inside_of(new, old, pairs);
-    let below = inside.below;
-    turn.contained(exact, below, inside.equal)
+    let inside = inside_of(new, old);
+    turn.contained(exact, inside.below, inside.equal)
 }
 
 // A zone that has entered l, not the target: it is dropped inside a kept one, refused, or kept.
@@ -84,15 +84,16 @@ fn judge(
     let exact = w.fraction;
     let numbers = encode(l, origin, z, size);
     let stride = slot_length(size);
-    if let Some(j) = find(store, &numbers, count, size) {
+    let new = &numbers[..stride];
+    if let Some(j) = find(store, new, count, size) {
         let at = j * stride;
-        return drop_inside(turn, exact, &numbers, &store[at..], size * size);
+        return drop_inside(turn, exact, new, &store[at..at + stride]);
     }
-    if COUNTS < largest_count(&numbers, size * size) {
+    if COUNTS < largest_count(new) {
         return turn.refused(exact, Refusal::ErrorCountTooLarge);
     }
     if count < capacity {
-        keep(store, count * stride, &numbers, stride);
+        keep(store, count * stride, new);
         return Turn {
             count: count + 1,
             exact,

@@ -1,8 +1,8 @@
 -- "location, then pairs row by row, m before p"; "Each slot gains two numbers after the location .., so a slot takes 3 + 2(n + 1)²."
 -- A slot as one codec: its length, how it is written, and how it is read.
 -- Here `n` is the number of indices, clocks + 1; a place k of a zone's square is row k / 9 and column k % 9.
-use Rattle.std.specs.Prelude.{ℕ, zero, suc, ◌+◌, ◌-◌, ◌*◌, ◌%◌, ◌<◌, ◌≡◌, Bool, cond, List, [], ◌∷◌, ◌++◌, ltb, get_or, set, replicate, ℤ, pos}
-use Rattle.std.specs.Prelude.{negsuc}
+use Rattle.std.specs.Prelude.{ℕ, zero, suc, ◌+◌, ◌-◌, ◌*◌, ◌/◌, ◌%◌, ◌<◌, ◌≡◌, Bool, cond, List, [], ◌∷◌, ◌++◌, length, ltb, get_or, set}
+use Rattle.std.specs.Prelude.{replicate, ℤ, pos, negsuc}
 use Rattle.std.specs.Int.Signed.{non_neg}
 use Rattle.zones.specs.declared.pair.Pair.{Pair}
 use Rattle.zones.specs.Containment.{place_of}
@@ -31,6 +31,10 @@ m_at t = fields + 2 * t
 
 abbrev pub p_at : ℕ → ℕ
 p_at t = fields + 1 + 2 * t
+
+-- how many pairs the numbers of a slot are
+abbrev pub pair_count : List ℤ → ℕ
+pair_count s = (length s - fields) / 2
 
 -- ---- writing
 -- the pairs among the first k places, row by row

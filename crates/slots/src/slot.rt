@@ -1,15 +1,20 @@
 // A slot of the store as one codec: its length, how a zone is written to it, and how it is read.
-ghost use Rattle.std.specs.Prelude.{◌≡◌, ◌++◌, ℕ, ◌+◌, ◌*◌, ◌≤◌, ◌<◌, length, get_or, take, drop, set, replicate, pos, ◌≤ℤ◌};
+// Its `as` are between i32 and usize, u64 or i64, where std has no From; that no bits are lost is in the contracts.
+// `size ≤ 9` stays a clause: a zone's arrays and its count of indices go by value, document 01's form, and a type of one number would put
+// `.count` into each contract for one short inequality.
+ghost use Rattle.std.specs.Prelude.{◌≡◌, ◌++◌, ℕ, ◌+◌, ◌*◌, ◌≤◌, ◌<◌, length, get_or, set, replicate, pos, ◌≤ℤ◌};
 ghost use Rattle.zones.specs.Integers.{up};
 ghost use Rattle.zones.specs.Ranges.{AllBounded, Bounded, last_counts};
 ghost use Rattle.runs.specs.Limits.{scale};
 ghost use Rattle.slots.specs.Slots.{fields, slot_length, spare, m_at, p_at, no_origin, origin_along, is_along, head_of, slot_of};
 ghost use Rattle.slots.specs.Slots.{slot_origin, slot_pair, zone_of};
+ghost use Rattle.encoding.specs.Placing.{placed};
 
+use encoding::put;
 use zones::pair::Pair;
 
 // The numbers before the pairs: the location, and the origin.
-const FIELDS: usize = 3;
+pub const FIELDS: usize = 3;
 
 // Where the first pair has its m and its p.
 pub const FIRST_M: usize = FIELDS;
@@ -53,8 +58,7 @@ impl Origin {
     pub fn is_along(self) -> bool
         ensures { result ≡ is_along self }
     {
-        let parent = self.parent;
-        0 <= parent
+        0 <= self.parent
     }
 
     // That slot, and the edge.
@@ -82,20 +86,20 @@ pub fn slot_length(size: usize) -> usize
 }
 
 // The numbers before the pairs, and zeros after them.
+#[tactic(auto, unfolding(crate::specs::Slots::head_of))]
 fn headed(location: usize, origin: Origin) -> [i32; LONGEST]
     requires { location < 256 }
     ensures { result ≡ head_of location origin ++ replicate (spare 0) (pos 0) }
 {
     let mut slot = [0; LONGEST];
-    let parent = origin.parent;
-    let edge = origin.edge;
     slot[0] = location as i32;
-    slot[1] = parent;
-    slot[2] = edge;
+    slot[1] = origin.parent;
+    slot[2] = origin.edge;
     slot
 }
 
 // The slot of a zone, and zeros after it.
+#[tactic(auto, using(crate::proofs::slot::Loops::encode_turns))]
 pub fn encode(location: usize, origin: Origin, z: [Pair; 81], size: usize) -> [i32; LONGEST]
     requires size_bound { (size ≤ 9) × (location < 256) }
     requires all_bounded { AllBounded scale last_counts size z }
@@ -131,6 +135,7 @@ pub fn origin_of(slot: &[i32]) -> Origin
 }
 
 // The zone of a slot, (0, 0) outside its rows and columns.
+#[tactic(auto, unfolding(crate::specs::Slots::square_to, crate::specs::Slots::zone_of), using(crate::proofs::slot::Loops::decode_turns))]
 pub fn decode(slot: &[i32], size: usize) -> [Pair; 81]
     requires size_bound { (size ≤ 9) × (slot_length size ≤ length slot.now) }
     requires counts_natural { (t : ℕ) → t < size * size → pos 0 ≤ℤ get_or slot.now (p_at t) (pos 0) }
@@ -151,24 +156,16 @@ pub fn get_pair(slot: &[i32], t: usize) -> Pair
     ensures { result ≡ slot_pair slot.now t }
 {
     Pair {
-        m: slot[FIRST_M + 2 * t] as i64,
+        m: i64::from(slot[FIRST_M + 2 * t]),
         p: slot[FIRST_P + 2 * t] as u64,
     }
 }
 
-// The first numbers of a slot become those given.
-pub fn copy(slot: &mut [i32], numbers: &[i32], stride: usize)
-    requires { (stride ≤ length slot.old) × (stride ≤ length numbers.now) }
-    ensures { slot.new ≡ take stride numbers.now ++ drop stride slot.old }
+// The slot at `at` of the store becomes the numbers given: it is lent to what puts them there, as a part.
+#[tactic(auto, using(encoding::proofs::Placed::lent_placed))]
+pub fn keep(store: &mut [i32], at: usize, numbers: &[i32])
+    requires { at + length numbers.now ≤ length store.old }
+    ensures { store.new ≡ placed at numbers.now store.old }
 {
-    slot[..stride].copy_from_slice(&numbers[..stride]);
-}
-
-// The slot at `at` of the store becomes the numbers given: it is lent to the copy as a part.
-pub fn keep(store: &mut [i32], at: usize, numbers: &[i32], stride: usize)
-    requires { (at + stride ≤ length store.old) × (stride ≤ length numbers.now) }
-    ensures { store.new ≡
-        take at store.old ++ (take stride numbers.now ++ drop (at + stride) store.old) }
-{
-    copy(&mut store[at..], numbers, stride);
+    put(&mut store[at..], 0, numbers);
 }

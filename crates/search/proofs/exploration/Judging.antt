@@ -7,7 +7,7 @@ use Rattle.zones.specs.Reductions.{is_empty, safe_of}
 use Prim.Native.Nat.{ℕ, zero, suc, ◌+◌, ◌-◌, ◌*◌, ◌<◌, ◌≤◌}
 use mathlib.Core.Path.{◌≡◌, refl, sym, ap, ◌∙◌, subst}
 use mathlib.Core.Bool.{Bool, true, false}
-use mathlib.Core.List.{List, [], ◌∷◌, ◌++◌}
+use mathlib.Core.List.{List, [], ◌∷◌, ◌++◌, append-nil}
 use borrow.Author.Tests.{lt-ltb, le-ltb, eq-eqb, ne_eqb}
 use lib.Dec.{eqb}
 use lib.IntN.{ℤ, pos}
@@ -40,14 +40,14 @@ use Rattle.search.specs.Instance.{Fractions, fractions_of, ZoneState, ZoneNode, 
 use Rattle.reachability.specs.Search as defined
 use Rattle.reachability.specs.Search.{Came, first_zone, by_edge, reached, refused, ended, Nth, none, find, dropping, judge, offer}
 use Rattle.automata.specs.Semantics.{system_of}
-use Rattle.slots.specs.Slots.{slot_length, spare, p_at, head_of, slot_of, zone_of, Framed}
+use Rattle.slots.specs.Slots.{slot_length, spare, pair_count, p_at, head_of, slot_of, zone_of, Framed}
 use Rattle.slots.specs.Containing.{inside_slots, equal_slots, largest_slot, Readable, ComparableSlots}
 use Rattle.slots.specs.declared.slot.Origin.{Origin}
 use Rattle.search.specs.Store.{origin_of, store_of}
 use Rattle.reachability.proofs.Judged.{Judged, was_target, was_inside, was_big, was_kept, was_full, computes}
 use Rattle.slots.proofs.slot.Codec.{head_size, slot_taken, slot_counts, slot_readable, slot_bounded, zone_of_slot, inside_slots_lem}
-use Rattle.slots.proofs.slot.Codec.{equal_slots_lem, largest_slot_lem}
-use Rattle.search.proofs.exploration.Stores.{slot_as, SlotAt, slot_at, store_length, store_more, hit_none, hit_first, slot_fits, lent_part}
+use Rattle.slots.proofs.slot.Codec.{equal_slots_lem, largest_slot_lem, slot_size, pairs_counted}
+use Rattle.search.proofs.exploration.Stores.{slot_as, SlotAt, slot_at, store_length, store_more, hit_none, hit_first, slot_fits, lent_part, slot_lent, lent_slot, hit_inside}
 
 -- the outcome that tells the origin is the definition's
 pub came_back : (c : Came) → came_of (origin_of c) ≡ c
@@ -191,21 +191,20 @@ module _ (b : List ℕ) (a : Accepted b) where
     })
 
     -- it is inside a kept one: the oldest such counts
-    judged_inside : j < turn.count → {at : ℕ} → at ≡ j * slot_length n → {below : Fraction} {t : Bool} →
-        below ≡ inside_slots (slot_of n (head_of l o) w.zone ++ rest) (take (length s - at) (drop at s)) (n * n) →
-        t ≡ equal_slots (slot_of n (head_of l o) w.zone ++ rest) (take (length s - at) (drop at s)) (n * n) →
+    judged_inside : j < turn.count → {L : ℕ} → L ≡ slot_length n → {below : Fraction} {t : Bool} →
+        below ≡ inside_slots (slot_of n (head_of l o) w.zone ++ rest) (slot_lent L j s) (n * n) →
+        t ≡ equal_slots (slot_of n (head_of l o) w.zone ++ rest) (slot_lent L j s) (n * n) →
         Shown n s₀ after s (contained_by turn w.fraction below t)
     unfolding lowered_inside
-    judged_inside hj {at} e g u =
+    judged_inside hj e g u =
         let m = nth_at q.kept j (omega (arith, d.shown.number)) in
-        let t = stored_slot d.shown j m.node m.nth in
-        let k = part s j at m.node e t in
+        let k = lent_slot n n≤ s j m.node e (stored_slot d.shown j m.node m.nth) in
         let hd = head_of m.node.at (origin_of m.node.came) in
         let hd≡ = head_size m.node.at (origin_of m.node.came) in
         let f : _ ≡ inside_below n w.zone m.node.zone =
-        g ∙ rw k (inside_slots_lem n (head_of l o) (head_size l o) w.zone rest hd hd≡ m.node.zone t.rest n≤) in
+        g ∙ rw k (inside_slots_lem n (head_of l o) (head_size l o) w.zone rest hd hd≡ m.node.zone [] n≤) in
         let v : _ ≡ equal n w.zone m.node.zone =
-        u ∙ rw k (equal_slots_lem n (head_of l o) (head_size l o) w.zone rest hd hd≡ m.node.zone t.rest n≤) in
+        u ∙ rw k (equal_slots_lem n (head_of l o) (head_size l o) w.zone rest hd hd≡ m.node.zone [] n≤) in
         shows (was_inside m.node off (hit_first b n≤ l o w.zone q.kept s₀ rest j first m.node m.nth))
         (dropped_as _ v (ap (lowered_by w.fraction) f) (ap (lowered_by turn.safe) f))
 
@@ -227,16 +226,15 @@ module _ (b : List ℕ) (a : Accepted b) where
         judged_full r = shows (was_full off alone counted (omega (arith, d.shown.number))) stopped_by
 
         judged_kept : turn.count < capacity → {at : ℕ} {s' : List ℤ} → at ≡ turn.count * slot_length n →
-            s' ≡ take at s ++ (take (slot_length n) (slot_of n (head_of l o) w.zone ++ rest) ++ drop (at + slot_length n) s) →
+            s' ≡ take at s ++ (slot_of n (head_of l o) w.zone ++ drop (at + slot_length n) s) →
             Shown n s₀ after s' (kept_by turn w.fraction)
         unfolding outcome_of
         judged_kept r {at} e f =
-            let t = slot_taken n (head_of l o) (head_size l o) w.zone rest n≤ in
             let told : slot_of n (head_of l o) w.zone ≡ slot_as n to_judge = ap (λ (x : Origin). slot_of n (head_of l x) w.zone) (sym p.told) in
             let m = store_more n n≤ q.kept to_judge s₀ at (e ∙ ap (λ (c : ℕ). c * slot_length n) d.shown.number) in
             shows (was_kept off alone counted (omega (arith, d.shown.number))) (record {
               number = omega (arith, d.shown.number, length-append q.kept (to_judge ∷ []));
-              store = f ∙ (λ i. take at (d.shown.store i) ++ ((t ∙ told) i ++ drop (at + slot_length n) (d.shown.store i))) ∙ m;
+              store = f ∙ (λ i. take at (d.shown.store i) ++ (told i ++ drop (at + slot_length n) (d.shown.store i))) ∙ m;
               exact = refl;
               safe = refl;
               again = d.shown.again;
@@ -284,13 +282,31 @@ module _ {b : List ℕ} {l : ℕ} {o : Origin} {w : Work} {capacity : ℕ} {turn
   pub asks_encode : ((size ≤ 9) × (l < 256)) × AllBounded scale last_counts size w.zone
   asks_encode = rw es ((n≤ b a, omega (arith, entered.location, a.complete.locations≤)), entered.sized.ranged.bounded)
 
-  -- the slot of w
-  module _ {new : List ℤ} (en : new ≡ slot_of size (head_of l o) w.zone ++ replicate (spare size) (pos 0)) where
-    pub asks_largest : Readable new (size * size)
-    asks_largest = rw en (slot_readable size (head_of l o) (head_size l o) w.zone _ (omega (arith, es, n≤ b a)))
+  -- the slot of w, which is the first L numbers that encode gives
+  module _ {numbers : List ℤ} (f : numbers ≡ slot_of size (head_of l o) w.zone ++ replicate (spare size) (pos 0))
+      {L : ℕ} (e : L ≡ slot_length size) where
+    abbrev new : List ℤ
+    new = take L numbers
 
-    pub asks_find : (size ≤ 9) × (turn.count * slot_length size ≤ length s) × (slot_length size ≤ length new)
-    asks_find = (omega (arith, es, n≤ b a), rw es (going_slots b a i), asks_largest.long)
+    new≡ : new ≡ slot_of (n b a) (head_of l o) w.zone ++ []
+    new≡ =
+        rw (e, f) (slot_taken size (head_of l o) (head_size l o) w.zone _ (omega (arith, es, n≤ b a)))
+        ∙ ap (λ (k : ℕ). slot_of k (head_of l o) w.zone) es ∙ sym (append-nil _)
+
+    long : length new ≡ slot_length (n b a)
+    long = ap length (new≡ ∙ append-nil _) ∙ slot_size _ (head_of l o) (head_size l o) w.zone (n≤ b a)
+
+    pub new_length : length new ≡ slot_length size
+    new_length = long ∙ ap slot_length (sym es)
+
+    new_pairs : pair_count new ≡ n b a * n b a
+    new_pairs = pairs_counted (n b a) new long
+
+    pub asks_largest : Readable new (pair_count new)
+    asks_largest = rw (new_pairs, new≡) (slot_readable _ (head_of l o) (head_size l o) w.zone [] (n≤ b a))
+
+    pub asks_find : (size ≤ 9) × (turn.count * slot_length size ≤ length s) × (length new ≡ slot_length size)
+    asks_find = (omega (arith, es, n≤ b a), rw es (going_slots b a i), new_length)
 
   -- a slot for which there is room: the next one, or one among the first `count`
   pub next_within : {j per-slot : ℕ} → per-slot ≡ slot_length size → j < capacity → j * per-slot + slot_length size ≤ length s
@@ -300,52 +316,54 @@ module _ {b : List ℕ} {l : ℕ} {o : Origin} {w : Work} {capacity : ℕ} {turn
   slot_within e h = next_within e (omega (arith, going_count b a i))
 
   -- what each branch gives
-  module _ {new : List ℤ} (en : new ≡ slot_of size (head_of l o) w.zone ++ replicate (spare size) (pos 0))
-      {j : ℕ} (h : FirstHit size new s turn.count j) where
-    new≡ : new ≡ slot_of (n b a) (head_of l o) w.zone ++ replicate (spare (n b a)) (pos 0)
-    new≡ = en ∙ ap (λ (k : ℕ). slot_of k (head_of l o) w.zone ++ replicate (spare k) (pos 0)) es
+  module _ {numbers : List ℤ} (f : numbers ≡ slot_of size (head_of l o) w.zone ++ replicate (spare size) (pos 0))
+      {L : ℕ} (e : L ≡ slot_length size) {j : ℕ} (h : FirstHit size (take L numbers) s turn.count j) where
+    abbrev slot : List ℤ
+    slot = new f e
 
-    hits : FirstHit (n b a) (slot_of (n b a) (head_of l o) w.zone ++ replicate (spare (n b a)) (pos 0)) s turn.count j
-    hits = rw (es, new≡) at h
+    here : L ≡ slot_length (n b a)
+    here = e ∙ ap slot_length es
+
+    hits : FirstHit (n b a) (slot_of (n b a) (head_of l o) w.zone ++ []) s turn.count j
+    hits = rw (es, new≡ f e) at h
 
     abbrev op : Led o → ZoneState → ZoneState
     op p q = judge (system_of b) (zones_of b) capacity q (node_at l p.came p.path w.zone) (fractions_of w.fraction turn.safe)
 
-    module _ (hj : j < turn.count) {at : ℕ} (e : at ≡ j * slot_length size) where
-      here : at ≡ j * slot_length (n b a)
-      here = e ∙ ap (λ (k : ℕ). j * slot_length k) es
-
-      asks_inside : ComparableSlots new (take (length s - at) (drop at s)) (size * size)
+    module _ (hj : j < turn.count) where
+      asks_inside : ComparableSlots slot (slot_lent L j s) (pair_count slot)
       asks_inside =
           let d = i.live.shown in
           let m = nth_at i.state.kept j (omega (arith, d.number)) in
           let k = m.node in
           let t = stored_slot b a d j k m.nth in
-          rw (es, new≡, part b a s j at k here t) (record {
-            new_reads = slot_readable _ (head_of l o) (head_size l o) w.zone _ (n≤ b a);
-            old_reads = slot_readable _ (head_of k.at (origin_of k.came)) (head_size k.at (origin_of k.came)) k.zone _ (n≤ b a);
-            new_bounded = slot_bounded _ (head_of l o) (head_size l o) w.zone _ scale last_counts (n≤ b a) entered.sized.ranged.bounded;
-            old_bounded = slot_bounded _ (head_of k.at (origin_of k.came)) (head_size k.at (origin_of k.came)) k.zone _
+          let old≡ = lent_slot _ (n≤ b a) s j k here t in
+          let inside = hit_inside (n b a) _ s j here (long f e) (rw es at (h.found hj)) in
+          rw (new_pairs f e, new≡ f e, old≡) (record {
+            new_reads = slot_readable _ (head_of l o) (head_size l o) w.zone [] (n≤ b a);
+            old_reads = slot_readable _ (head_of k.at (origin_of k.came)) (head_size k.at (origin_of k.came)) k.zone [] (n≤ b a);
+            new_bounded = slot_bounded _ (head_of l o) (head_size l o) w.zone [] scale last_counts (n≤ b a) entered.sized.ranged.bounded;
+            old_bounded = slot_bounded _ (head_of k.at (origin_of k.came)) (head_size k.at (origin_of k.came)) k.zone []
                 scale last_counts (n≤ b a)
                 (node_bounded b a k (i.live.sound.nodes j k m.nth));
-            inside = rw t.same at (hits.found hj).inside;
+            inside = rw (new_pairs f e, new≡ f e, old≡) at inside;
           })
 
-      pub asks_drop : ComparableSlots new (take (length s - at) (drop at s)) (size * size) × Fits32 w.fraction × Fits32 turn.safe ×
+      pub asks_drop : ComparableSlots slot (slot_lent L j s) (pair_count slot) × Fits32 w.fraction × Fits32 turn.safe ×
           Few most_offers turn.dropped
       asks_drop = (asks_inside, entered.sized.narrow, going_safe b a i, entered.few)
 
-      pub gives_inside : {r : Turn} → r ≡ contained_by turn w.fraction (inside_slots new (take (length s - at) (drop at s)) (size * size))
-          (equal_slots new (take (length s - at) (drop at s)) (size * size)) → (p : Led o) → Continues b capacity s turn (op p) s r
+      pub gives_inside : {r : Turn} → r ≡ contained_by turn w.fraction (inside_slots slot (slot_lent L j s) (pair_count slot))
+          (equal_slots slot (slot_lent L j s) (pair_count slot)) → (p : Led o) → Continues b capacity s turn (op p) s r
       gives_inside x p = record {
         shows = λ s₀ q d. rw x (judged_inside b a d entered.away w p _ hits hj here
-            (λ i. inside_slots (new≡ i) (take (length s - at) (drop at s)) (es i * es i))
-            (λ i. equal_slots (new≡ i) (take (length s - at) (drop at s)) (es i * es i)));
+            (λ i. inside_slots (new≡ f e i) (slot_lent L j s) (new_pairs f e i))
+            (λ i. equal_slots (new≡ f e i) (slot_lent L j s) (new_pairs f e i)));
       }
 
-    module _ (out : turn.count ≤ j) {most : ℕ} (em : most ≡ largest_slot new (size * size)) where
+    module _ (out : turn.count ≤ j) {most : ℕ} (em : most ≡ largest_slot slot (pair_count slot)) where
       largest : most ≡ largest_count (n b a) w.zone
-      largest = em ∙ (λ i. largest_slot (new≡ i) (es i * es i)) ∙ largest_slot_lem _ (head_of l o) (head_size l o) w.zone _ (n≤ b a)
+      largest = em ∙ (λ i. largest_slot (new≡ f e i) (new_pairs f e i)) ∙ largest_slot_lem _ (head_of l o) (head_size l o) w.zone _ (n≤ b a)
 
       pub gives_big : counts < most → (p : Led o) →
           Continues b capacity s turn (op p) s (refused_by turn w.fraction ErrorCountTooLarge)
@@ -355,14 +373,14 @@ module _ {b : List ℕ} {l : ℕ} {o : Origin} {w : Work} {capacity : ℕ} {turn
           Continues b capacity s turn (op p) s (refused_by turn w.fraction StoreFull)
       gives_full g r p = record { shows = λ s₀ q d. judged_full b a d entered.away w p _ hits out (rw largest at g) r }
 
-      pub gives_kept : most ≤ counts → turn.count < capacity → {per-slot : ℕ} {s' : List ℤ} → per-slot ≡ slot_length size →
-          s' ≡ take (turn.count * per-slot) s ++ (take per-slot new ++ drop (turn.count * per-slot + per-slot) s) → (p : Led o) →
+      pub gives_kept : most ≤ counts → turn.count < capacity → {s' : List ℤ} →
+          s' ≡ take (turn.count * L) s ++ (slot ++ drop (turn.count * L + length slot) s) → (p : Led o) →
           Continues b capacity s turn (op p) s' (kept_by turn w.fraction)
-      gives_kept g r {per-slot} e f p =
-          let k = e ∙ ap slot_length es in
+      gives_kept g r k p =
+          let whole = new≡ f e ∙ append-nil _ in
           record {
-            shows = λ s₀ q d. judged_kept b a d entered.away w p _ hits out (rw largest at g) r (ap (λ (x : ℕ). turn.count * x) k)
-                (f ∙ (λ i. take (turn.count * per-slot) s ++ (take (k i) (new≡ i) ++ drop (turn.count * per-slot + k i) s)));
+            shows = λ s₀ q d. judged_kept b a d entered.away w p _ hits out (rw largest at g) r (ap (λ (x : ℕ). turn.count * x) here)
+                (k ∙ (λ i. take (turn.count * L) s ++ (whole i ++ drop (turn.count * L + long f e i) s)));
           }
 
 -- ---- the whole offer

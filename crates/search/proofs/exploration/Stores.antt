@@ -8,6 +8,7 @@ use borrow.Author.Tests.{lt-ltb, le-ltb, eqb-true, eq-eqb}
 use lib.Dec.{ltb, eqb}
 use lib.IntN.{ℤ, pos}
 use lib.ListN.{length, get_or, take, drop, length-append, length-drop}
+use Rattle.std.proofs.lemmas.List.{get_or-take}
 use lib.Seq.{get_or-drop, drop-drop, take_at, drop_at, take_all}
 use native.Mathlib.Decide.{dec_lt}
 use native.Mathlib.Omega.{arith}
@@ -23,11 +24,11 @@ use Rattle.search.specs.Instance.{ZoneNode, zones_of}
 use Rattle.reachability.specs.Search.{Found, none, found, Nth, find}
 use Rattle.automata.specs.Semantics.{system_of}
 use Rattle.slots.specs.declared.slot.Origin.{Origin}
-use Rattle.slots.specs.Slots.{slot_length, head_of, slot_of, slot_location}
+use Rattle.slots.specs.Slots.{slot_length, pair_count, head_of, slot_of, slot_location}
 use Rattle.slots.specs.Containing.{within_slots}
 use Rattle.search.specs.Store.{origin_of, slots_of, store_of, most_slots, capacity_of}
 use Rattle.reachability.proofs.Lists.{nth_lt}
-use Rattle.slots.proofs.slot.Codec.{slot_size, head_size, slot_location_lem, within_slots_lem}
+use Rattle.slots.proofs.slot.Codec.{slot_size, head_size, slot_location_lem, within_slots_lem, pairs_counted, within_taken}
 
 -- the slot of a node
 abbrev pub slot_as : ℕ → ZoneNode → List ℤ
@@ -135,22 +136,38 @@ lent_part s at = take_all (length s - at) (drop at s) (omega (arith, length-drop
 pub lent_length : (s : List ℤ) (at : ℕ) → length (take (length s - at) (drop at s)) ≡ length s - at
 lent_length s at = ap length (lent_part s at) ∙ length-drop at s
 
--- whether slot j contains the new one, from what the code's two tests showed
-module _ (n : ℕ) (new s : List ℤ) (j : ℕ) {at : ℕ} (e : at ≡ j * slot_length n) where
-  same_at : get_or s at (pos 0) ≡ get_or s (j * slot_length n) (pos 0)
-  same_at = ap (λ (i : ℕ). get_or s i (pos 0)) e
+-- ---- slot j as the code has it, of L numbers
+abbrev pub slot_lent : ℕ → ℕ → List ℤ → List ℤ
+slot_lent L j s = take (j * L + L - j * L) (drop (j * L) s)
 
-  inside_at : within_slots new (take (length s - at) (drop at s)) (n * n) ≡ within_slots new (drop (j * slot_length n) s) (n * n)
-  inside_at = ap (λ (u : List ℤ). within_slots new u (n * n)) (lent_part s at ∙ ap (λ (i : ℕ). drop i s) e)
+-- it is the slot of node j alone
+pub lent_slot : (n : ℕ) (n≤ : n ≤ 9) (s : List ℤ) (j : ℕ) (k : ZoneNode) {L : ℕ} → L ≡ slot_length n → SlotAt n n≤ s j k →
+    slot_lent L j s ≡ slot_as n k ++ []
+lent_slot n n≤ s j k e t =
+    rw (e, t.same, append-nil (slot_as n k))
+    (take_at (slot_as n k) t.rest (j * slot_length n + slot_length n - j * slot_length n) (node_size n n≤ k ∙ omega arith))
 
-  pub hit : get_or s at (pos 0) ≡ slot_location new → within_slots new (take (length s - at) (drop at s)) (n * n) ≡ true → Hits n new s j
+-- whether it contains the new one, from what the code's two tests showed
+module _ (n : ℕ) (new s : List ℤ) (j : ℕ) {L : ℕ} (e : L ≡ slot_length n) (new≡ : length new ≡ slot_length n) where
+  same_at : get_or (slot_lent L j s) 0 (pos 0) ≡ get_or s (j * slot_length n) (pos 0)
+  same_at =
+      let z : j * slot_length n + 0 ≡ j * slot_length n = omega arith in
+      rw (e, get_or-take (j * slot_length n + slot_length n - j * slot_length n) (drop (j * slot_length n) s) 0 (pos 0) (omega arith))
+      (rw (get_or-drop (j * slot_length n) s 0 (pos 0), z))
+
+  inside_at : within_slots new (slot_lent L j s) (pair_count new) ≡ within_slots new (drop (j * slot_length n) s) (n * n)
+  inside_at =
+      rw (pairs_counted n new new≡, e)
+      (within_taken new (drop (j * slot_length n) s) (n * n) (j * slot_length n + slot_length n - j * slot_length n) (omega arith))
+
+  pub hit : get_or (slot_lent L j s) 0 (pos 0) ≡ slot_location new → within_slots new (slot_lent L j s) (pair_count new) ≡ true → Hits n new s j
   hit f g = record { same = sym same_at ∙ f; inside = sym inside_at ∙ g }
 
-  pub miss_location : (get_or s at (pos 0) ≡ slot_location new → ⊥) → Hits n new s j → ⊥
-  miss_location f h = f (same_at ∙ h.same)
+  pub hit_location : Hits n new s j → get_or (slot_lent L j s) 0 (pos 0) ≡ slot_location new
+  hit_location h = same_at ∙ h.same
 
-  pub miss_inside : within_slots new (take (length s - at) (drop at s)) (n * n) ≡ false → Hits n new s j → ⊥
-  miss_inside g h = true_false (sym (inside_at ∙ h.inside) ∙ g)
+  pub hit_inside : Hits n new s j → within_slots new (slot_lent L j s) (pair_count new) ≡ true
+  hit_inside h = inside_at ∙ h.inside
 
 pub misses_more : (n : ℕ) (new s : List ℤ) (j : ℕ) → ((i : ℕ) → i < j → Hits n new s i → ⊥) →
     (Hits n new s j → ⊥) → (i : ℕ) → i < j + 1 → Hits n new s i → ⊥

@@ -9,6 +9,7 @@ use borrow.Author.Tests.{lt-ltb, le-ltb, ltb-true, ltb-false}
 use lib.Dec.{ltb}
 use lib.IntN.{ℤ, pos}
 use lib.ListN.{length, get_or, take, set, length-append, length-set, length-replicate, get_or-replicate}
+use Rattle.std.proofs.lemmas.List.{get_or-take}
 use lib.Seq.{take_at, get_or_at, append_snoc, get_or-set_same, get_or-set_other, ext_get_or}
 use lib.Signed.{◌≤ℤ◌}
 use native.Mathlib.Decide.{ℕ_discrete, dec_lt}
@@ -31,7 +32,7 @@ use Rattle.zones.specs.Ranges.{AllBounded, Bounded}
 use Rattle.zones.proofs.places.Inside.{bounded_place}
 use Rattle.zones.proofs.sets.Squares.{up_to}
 use Rattle.slots.specs.Slots.{fields, slot_length, m_at, p_at, pairs_to, pairs_of, flat, head_of, slot_of, slot_location, slot_pair, counted}
-use Rattle.slots.specs.Slots.{square_to}
+use Rattle.slots.specs.Slots.{pair_count, square_to}
 use Rattle.slots.specs.Slots.{slot_origin, zone_of, Framed}
 use Rattle.slots.specs.declared.slot.Origin.{Origin}
 use Rattle.slots.specs.Containing.{compare_numbers, every_pair, within_slots, equal_slots, inside_slots, largest_slot, Readable}
@@ -269,6 +270,20 @@ module _ (n : ℕ) (hd : List ℤ) (hd≡ : length hd ≡ fields) (z : List Pair
   zone_of_slot =
       let long = square-length n slot (n * 9) in
       ext_get_or zero_pair (square_to n (n * 9) slot) z (long ∙ sym size) (λ i h. back_at i (omega arith) (dec_lt i (n * 9)) (dec_lt (i % 9) n))
+
+-- ---- a slot of n indices is n × n pairs, and the test reads no numbers past its pairs
+pub pairs_counted : (n : ℕ) (s : List ℤ) → length s ≡ slot_length n → pair_count s ≡ n * n
+pairs_counted n s e = omega (arith, e)
+
+every_pair_same : (n : ℕ) {there here : ℕ → Bool} → ((t : ℕ) → t < n → there t ≡ here t) → every_pair n there ≡ every_pair n here
+unfolding every_pair
+every_pair_same zero f = refl
+every_pair_same (suc n) f = rw (f n (omega arith), every_pair_same n (λ t h. f t (omega arith)))
+
+pub within_taken : (new old : List ℤ) (pairs len : ℕ) → m_at pairs ≤ len → within_slots new (take len old) pairs ≡ within_slots new old pairs
+unfolding compare_numbers
+within_taken new old pairs len h =
+    every_pair_same pairs (λ t b. rw (get_or-take len old (m_at t) (pos 0) (omega arith), get_or-take len old (p_at t) (pos 0) (omega arith)))
 
 -- ---- two slots compared are their zones compared
 same_cmp : (x y : ℕ) → int_cmp (pos x) (pos y) ≡ nat_cmp x y

@@ -10,8 +10,8 @@ use mathlib.Core.Bool.{Bool, true, false, cond}
 use mathlib.Core.List.{List, [], ◌∷◌, ◌++◌, append_assoc, append-nil}
 use lib.Dec.{T}
 use lib.IntN.{ℤ, pos, negsuc, nat_abs}
-use lib.ListN.{length, get_or, take, set, replicate, length-append}
-use lib.Seq.{take_at, set_at, append_snoc}
+use lib.ListN.{length, get_or, set, replicate, length-append}
+use lib.Seq.{set_at, append_snoc}
 use lib.Signed.{◌≤ℤ◌, lt_z, non_neg, yes_non_neg}
 use mir.Syntax.{w32, w64}
 use mir.Val.{Fits, SFits, of_z, to_z}
@@ -97,6 +97,8 @@ module _ (new old : List ℤ) (t : ℕ) where
       unfolding compare_numbers
       tells_same e = rw (same_bits ho hn m, irreflexive new_m, same_bits po pn e, irreflexive new_p)
 
+pub ruleset comparing = (tells_higher, tells_lower, tells_more, tells_fewer, tells_same)
+
 -- ---- `is_within`, `inside_of`: what every pair passes
 module _ (passes : ℕ → Bool) (t : ℕ) where
   fails : passes t ≡ false → (d : ℕ) → every_pair (d + suc t) passes ≡ false
@@ -167,6 +169,8 @@ module _ (new old : List ℤ) (t : ℕ) where
           let r = turn_ready in
           lowered_narrow widest widest f _ k (chosen_narrow widest widest scale last_counts last_here _ _ r.chosen r.other r.order)
 
+pub ruleset insides = (turn_ready, turn_fits, turn_lowers, turn_equal, stays_so, fails_now)
+
 -- the lowest threshold of a test that holds is in range
 pub slots_fit : (new old : List ℤ) (pairs : ℕ) → ComparableSlots new old pairs → Fits32 (inside_slots new old pairs)
 unfolding inside_slots
@@ -226,13 +230,6 @@ row_ends n f out n≤ i = go (9 - n) (omega arith)
 pub encoded : ℕ → List ℤ → List Pair → ℕ → List ℤ
 encoded n hd z k = (hd ++ flat (pairs_to n k z)) ++ replicate (longest - m_at (counted n k)) (pos 0)
 
--- the numbers before the pairs, of the slot that it begins with
-abbrev pub head_in : List ℤ → List ℤ
-head_in slot = take fields slot
-
-pub head_in_lem : (l : ℕ) (o : Origin) {slot : List ℤ} → slot ≡ head_of l o ++ replicate (spare 0) (pos 0) → head_in slot ≡ head_of l o
-head_in_lem l o e = rw e (take_at (head_of l o) (replicate (spare 0) (pos 0)) fields (head_size l o))
-
 module _ (n l : ℕ) (o : Origin) (z : List Pair) where
   pub encode_start : {slot : List ℤ} → slot ≡ head_of l o ++ replicate (spare 0) (pos 0) → slot ≡ encoded n (head_of l o) z (0 * 9)
   unfolding encoded pairs_to flat counted
@@ -270,6 +267,8 @@ module _ (n : ℕ) (hd : List ℤ) (hd≡ : length hd ≡ fields) (z : List Pair
   unfolding encoded
   encode_row i f = f ∙ row_ends n (encoded n hd z) (λ k c. rw (pairs_out n z k c, counted_out n k c)) n≤ i
 
+pub ruleset encode_turns = (head_size, encode_start, encode_turn, encode_row, encode_all)
+
 -- ---- `decode`
 module _ (n : ℕ) (n≤ : n ≤ 9) (s : List ℤ) where
   pub decode_turn : (i j : ℕ) {z : List Pair} {q : Pair} → i < n → j < n → q ≡ slot_pair s (i * n + j) → z ≡ square_to n (i * 9 + j) s →
@@ -281,3 +280,5 @@ module _ (n : ℕ) (n≤ : n ≤ 9) (s : List ℤ) where
 
   pub decode_row : (i : ℕ) {z : List Pair} → z ≡ square_to n (i * 9 + n) s → z ≡ square_to n ((i + 1) * 9) s
   decode_row i g = g ∙ row_ends n (λ k. square_to n k s) (square_out n s) n≤ i
+
+pub ruleset decode_turns = (place_below, decode_turn, decode_row)

@@ -14,7 +14,9 @@ pub returns : goal.returns
 returns c =
     let a = c.args in
     let passes = λ (t : ℕ). is_at_most (compare_numbers a.new.now a.old.now t) in
-    all_answers passes a.pairs c.all.result
+    let pairs = c.pair_count.result in
+    rw (← c.pair_count.ensures)
+    (all_answers passes pairs c.all.result
     (cases_from_all _ _ _ (λ t. passes t ≡ true) (λ t. passes t ≡ false) c.all.ensures.ran
-    (YieldsList-from_range 0 a.pairs a.pairs refl (omega arith))
-    (λ x q k. search (rules, tests)) (λ x q k. search (rules, tests)))
+    (YieldsList-from_range 0 pairs pairs refl (omega arith))
+    (λ x q k. search (rules, tests)) (λ x q k. search (rules, tests))))
