@@ -5,8 +5,10 @@ ghost use Rattle.order.specs.Edges.{rising};
 ghost use Rattle.order.specs.Laid.{numbered};
 ghost use Rattle.canonical.specs.Numbers.{Found, Inserted, Lists, taken_at};
 
+use crate::comparing::less;
 use crate::edges::Edges;
 use arrayvec::ArrayVec;
+use encoding::same;
 
 // Edges, and the numbers of some in order. A byte holds the number of one of 256.
 #[derive(Drop)]
@@ -36,13 +38,14 @@ impl<'a> Order<'a> {
         ensures { Found self.now.edges.size self.now.edges.bytes.now self.now.numbers.items x result }
     {
         let edges = self.edges;
+        let edge = edges.nth(x);
         let numbers = self.numbers.as_slice();
         let count = numbers.len();
         if count == 0 {
             return Some(0);
         }
         let last = count - 1;
-        if edges.less(usize::from(numbers[last]), x) {
+        if less(edges.nth(usize::from(numbers[last])), edge) {
             return Some(count);
         }
         let mut lo = 0;
@@ -50,13 +53,13 @@ impl<'a> Order<'a> {
         // `partition_point` asks for a test of any byte, where only listed numbers are of edges: it would test each number first, and never in vain.
         while lo < hi {
             let mid = lo + (hi - lo) / 2;
-            if edges.less(usize::from(numbers[mid]), x) {
+            if less(edges.nth(usize::from(numbers[mid])), edge) {
                 lo = mid + 1;
             } else {
                 hi = mid;
             }
         }
-        if edges.same(x, usize::from(numbers[lo])) {
+        if same(edge, edges.nth(usize::from(numbers[lo]))) {
             return None;
         }
         Some(lo)

@@ -26,10 +26,8 @@ fn write_edges(form: &mut [u8], order: &Order)
     ensures { form.new ≡ placed order.now.edges.at (listed_bytes order.now.edges.size order.now.edges.bytes.now order.now.numbers.items) form.old }
 {
     let edges = order.edges;
-    let mut to = edges.at;
-    for &i in order.numbers.as_slice() {
-        put(form, to, edges.nth(usize::from(i)));
-        to += edges.size;
+    for (k, &i) in order.numbers.as_slice().iter().enumerate() {
+        put(form, edges.at + k * edges.size, edges.nth(usize::from(i)));
     }
 }
 
