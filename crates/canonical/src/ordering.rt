@@ -1,9 +1,9 @@
 // The numbers of edges, sorted by the edges' bytes, repeats dropped.
-ghost use Rattle.std.specs.Prelude.{◌≡◌, ◌<◌, length, All, [], true};
+ghost use Rattle.std.specs.Prelude.{◌≡◌, ◌<◌, Bool, length, All, [], true};
 ghost use Rattle.std.proofs.Props.{props};
 ghost use Rattle.order.specs.Edges.{rising};
 ghost use Rattle.order.specs.Laid.{numbered};
-ghost use Rattle.canonical.specs.Numbers.{Found, Inserted, Lists, taken_at};
+ghost use Rattle.canonical.specs.Numbers.{Found, Inserted, Lists, Takes};
 
 use crate::comparing::less;
 use crate::edges::Edges;
@@ -77,24 +77,27 @@ impl<'a> Order<'a> {
     }
 }
 
-// The edge that is taken after i others.
-fn next_taken(down: bool, edges: usize, i: usize) -> usize
-    requires { i < edges }
-    ensures { (result ≡ taken_at down edges i) × (result < edges) }
+// All of them, by the edge that is taken after i others.
+fn taken_by<'a, F: Fn(usize) -> usize>(edges: Edges<'a>, taken: F) -> Order<'a>
+    requires { (down : Bool) × Takes down edges.count (F.pre taken) (F.post taken) }
+    ensures same { result.edges ≡ edges.entry }
+    ensures lists { Lists edges.entry.size edges.entry.bytes.now edges.entry.count result.numbers.items }
 {
-    if down { edges - 1 - i } else { i }
+    let mut order = Order::new(edges);
+    for i in 0..edges.count {
+        order.insert(taken(i));
+    }
+    order
 }
 
-// All of them. Where the first two fall they are taken from the last to the first, so that edges in falling order are behind all that are listed,
-// too.
+// Where the first two fall they are taken from the last to the first, so that edges in falling order are behind all that are listed, too.
 pub(crate) fn order_of<'a>(edges: Edges<'a>) -> Order<'a>
     ensures same { result.edges ≡ edges.entry }
     ensures lists { Lists edges.entry.size edges.entry.bytes.now edges.entry.count result.numbers.items }
 {
-    let down = edges.falls();
-    let mut order = Order::new(edges);
-    for i in 0..edges.count {
-        order.insert(next_taken(down, edges.count, i));
+    if edges.falls() {
+        taken_by(edges, |i| edges.count - 1 - i)
+    } else {
+        taken_by(edges, |i| i)
     }
-    order
 }
