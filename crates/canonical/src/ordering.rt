@@ -32,7 +32,8 @@ impl<'a> Order<'a> {
     }
 
     // Where edge x belongs, behind the last that is less; none if its bytes are there. Edges in order are behind all, which is tested first; others
-    // are placed by halving.
+    // are placed by halving. Inlined into both orders of taking it is half as fast where edges in random order differ early (measured).
+    #[inline(never)]
     fn place(&self, x: usize) -> Option<usize>
         requires { x < self.now.edges.count }
         ensures { Found self.now.edges.size self.now.edges.bytes.now self.now.numbers.items x result }

@@ -7,8 +7,9 @@ use native.Mathlib.Omega.{arith}
 use Rattle.std.proofs.Common.{Fits, w8}
 use Rattle.encoding.specs.Bytes.{Two, Four}
 use Rattle.canonical.specs.Comparing.{less_from}
-use Rattle.canonical.proofs.comparing.Comparing.{rest-less, rest_more, rest_next, rest_none, words_less, words_more, words_same}
+use Rattle.canonical.proofs.comparing.Comparing.{Decided, decides, passes, one, word, rest_none}
 use Rattle.canonical.proofs.comparing.less.Goals as goal
+use Rattle.canonical.proofs.comparing.less.Goals.{After-be32-y}
 
 -- a slice's type says that its elements are bytes
 four_bytes : (s : List ℕ) → ((i : ℕ) → Fits w8 (get_or s i 0)) → (at : ℕ) → Four s at
@@ -16,37 +17,25 @@ four_bytes s h at =
     let two : (i : ℕ) → Two s i = λ i. record { first = (h i).fits; second = (h (i + 1)).fits } in
     record { front = two at; back = two (at + 2) }
 
-pub returns-then-x-y : goal.returns-then-x-y
-returns-then-x-y c =
-    let a = c.args in
-    words_less a.a.now a.b.now (4 * c.loop-i.i) (omega arith) (omega arith) (c.be32-x.ensures, four_bytes _ c.type_inv.a _)
-    (c.be32-y.ensures, four_bytes _ c.type_inv.b _) c.if-x-y.true ∙ c.loop-i.invariant
+words : (c : After-be32-y) → Decided c.args.a.now c.args.b.now (4 * c.loop-i.i) 4 c.be32-x.result c.be32-y.result
+words c =
+    word _ _ (4 * c.loop-i.i) (omega arith) (omega arith) (c.be32-x.ensures, four_bytes _ c.type_inv.a _)
+    (c.be32-y.ensures, four_bytes _ c.type_inv.b _)
 
-pub returns-then-y-x : goal.returns-then-y-x
-returns-then-y-x c =
-    let a = c.args in
-    words_more a.a.now a.b.now (4 * c.loop-i.i) (omega arith) (omega arith) (c.be32-x.ensures, four_bytes _ c.type_inv.a _)
-    (c.be32-y.ensures, four_bytes _ c.type_inv.b _) c.if-y-x.true ∙ c.loop-i.invariant
+pub returns-then-x-y : goal.returns-then-x-y
+returns-then-x-y c = decides _ _ _ 4 (words (goal.at.returns-then-x-y c).After-be32-y) c.if-x-y.true ∙ c.loop-i.invariant
 
 pub loop-i-preserved : goal.loop-i-preserved
 loop-i-preserved c =
-    let a = c.args in
     let k : 4 * (c.loop-i.i + 1) ≡ 4 * c.loop-i.i + 4 = omega arith in
-    ap (less_from a.a.now a.b.now) k
-    ∙ words_same a.a.now a.b.now (4 * c.loop-i.i) (omega arith) (omega arith) (c.be32-x.ensures, four_bytes _ c.type_inv.a _)
-    (c.be32-y.ensures, four_bytes _ c.type_inv.b _) (omega arith) ∙ c.loop-i.invariant
+    ap (less_from c.args.a.now c.args.b.now) k
+    ∙ passes _ _ _ 4 (words (goal.at.loop-i-preserved c).After-be32-y) c.if-x-y.false ∙ c.loop-i.invariant
 
 pub returns-then-a-i : goal.returns-then-a-i
-returns-then-a-i c =
-    let a = c.args in sym (rest-less a.a.now a.b.now c.loop-i-2.i (omega arith) (omega arith) c.if-a-i.true) ∙ c.loop-i-2.invariant
-
-pub returns-then-b-i : goal.returns-then-b-i
-returns-then-b-i c =
-    let a = c.args in sym (rest_more a.a.now a.b.now c.loop-i-2.i (omega arith) (omega arith) c.if-b-i.true) ∙ c.loop-i-2.invariant
+returns-then-a-i c = decides _ _ _ 1 (one _ _ c.loop-i-2.i (omega arith) (omega arith)) c.if-a-i.true ∙ c.loop-i-2.invariant
 
 pub loop-i-2-preserved : goal.loop-i-2-preserved
-loop-i-2-preserved c =
-    let a = c.args in sym (rest_next a.a.now a.b.now c.loop-i-2.i (omega arith) (omega arith) (omega arith)) ∙ c.loop-i-2.invariant
+loop-i-2-preserved c = passes _ _ _ 1 (one _ _ c.loop-i-2.i (omega arith) (omega arith)) c.if-a-i.false ∙ c.loop-i-2.invariant
 
 pub returns : goal.returns
 returns c =
