@@ -32,7 +32,7 @@ impl<'a> Order<'a> {
     }
 
     // Where edge x belongs, behind the last that is less; none if its bytes are there. Edges in order are behind all, which is tested first; others
-    // are placed by halving. Inlined into both orders of taking it is half as fast where edges in random order differ early (measured).
+    // are placed by halving. Inlined into both orders of taking it takes half as long again where edges differ early (measured).
     #[inline(never)]
     fn place(&self, x: usize) -> Option<usize>
         requires { x < self.now.edges.count }
@@ -51,7 +51,7 @@ impl<'a> Order<'a> {
         }
         let mut lo = 0;
         let mut hi = last;
-        // `partition_point` asks for a test of any byte, where only listed numbers are of edges: it would test each number first, and never in vain.
+        // `partition_point` asks for a test of any byte, where only listed numbers are of edges: it would hold each against their count first.
         while lo < hi {
             let mid = lo + (hi - lo) / 2;
             if less(edges.nth(usize::from(numbers[mid])), edge) {
@@ -73,6 +73,7 @@ impl<'a> Order<'a> {
         ensures inserted { Inserted self.old.edges.size self.old.edges.bytes.now self.old.numbers.items x self.new.numbers.items }
     {
         if let Some(at) = self.place(x) {
+            // A byte has no From<usize>, and the error of its TryFrom would be a branch that is never taken.
             self.numbers.insert(at, x as u8);
         }
     }

@@ -14,6 +14,7 @@ fn write_front(form: &mut [u8], automaton: &[u8], at: usize, total: usize, count
     requires total_bound { (total < 4294967296) × (count < 4294967296) }
     ensures { form.new ≡ placed 0 (front_of automaton.now at total count) form.old }
 {
+    // A u32 has no From<usize>, and the error of its TryFrom would be a branch that is never taken.
     put(form, 0, &bytes_of(total as u32));
     put(form, 4, &automaton[4..9]);
     put(form, 9, &two_bytes_of(count as u32));
