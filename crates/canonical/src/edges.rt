@@ -34,6 +34,7 @@ impl<'a> Edges<'a> {
     }
 
     // The bytes of edge i.
+    #[tactic(auto, unfolding(order::specs::Laid::edge_bytes))]
     pub fn nth(&self, i: usize) -> &'a [u8]
         requires { i < self.now.count }
         ensures bytes { result.now ≡ nth_edge self.now.size self.now.bytes.now i }
@@ -44,6 +45,7 @@ impl<'a> Edges<'a> {
     }
 
     // Whether each edge is less than the next.
+    #[tactic(auto, using(crate::proofs::edges::Rising::falls_here, crate::proofs::edges::Rising::rises_on, crate::proofs::edges::Rising::rising_none))]
     pub fn is_rising(&self) -> bool
         ensures { result ≡ rising (first_edges self.now.size self.now.bytes.now self.now.count) }
     {

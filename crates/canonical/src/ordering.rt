@@ -21,6 +21,7 @@ pub(crate) struct Order<'a> {
 
 impl<'a> Order<'a> {
     // None is listed yet.
+    #[tactic(auto, unfolding(order::specs::Edges::rising))]
     fn new(edges: Edges<'a>) -> Self
         ensures same { result.edges ≡ edges.entry }
         ensures empty { result.numbers.items ≡ [] }
@@ -67,6 +68,7 @@ impl<'a> Order<'a> {
     }
 
     // Edge x is listed, unless its bytes are there.
+    #[tactic(auto, using(crate::proofs::ordering::Inserting::insert_put))]
     fn insert(&mut self, x: usize)
         requires { (x < self.old.edges.count) × (length self.old.numbers.items < 256) }
         ensures same { self.new.edges ≡ self.old.edges }

@@ -9,6 +9,7 @@ use crate::ordering::Order;
 use encoding::{bytes_of, put, two_bytes_of};
 
 // The head and the invariants: length and number of edges put right, all else as drawn.
+#[tactic(auto, using(crate::proofs::writing::Front::front_put))]
 fn write_front(form: &mut [u8], automaton: &[u8], at: usize, total: usize, count: usize)
     requires at_fits { (11 ≤ at) × (at ≤ length automaton.now) × (at ≤ length form.old) }
     requires total_bound { (total < 4294967296) × (count < 4294967296) }
@@ -22,6 +23,7 @@ fn write_front(form: &mut [u8], automaton: &[u8], at: usize, total: usize, count
 }
 
 // The listed edges, one after another.
+#[tactic(auto, using(crate::proofs::writing::Listed::placed_none, crate::proofs::writing::Listed::write_turn))]
 fn write_edges(form: &mut [u8], order: &Order)
     requires { order.now.edges.at + length order.now.numbers.items * order.now.edges.size ≤ length form.old }
     ensures { form.new ≡ placed order.now.edges.at (listed_bytes order.now.edges.size order.now.edges.bytes.now order.now.numbers.items) form.old }

@@ -22,10 +22,10 @@ pub returns-then-same : goal.returns-then-same
 returns-then-same c =
     let l = c.loop-lo in
     let here = compared (goal.at.returns-then-same c).After-same in
-    (l.lo, place_none _ _ _ _ _ l.lo l.hi l.invariant (omega arith) here c.if-same.true)
+    place_none _ _ _ _ l.lo l.hi l.invariant (omega arith) here c.if-same.true
 
 pub returns : goal.returns
 returns c =
     let l = c.loop-lo in
     let here = compared (goal.at.returns c).After-same in
-    place_new _ _ _ _ _ l.lo l.hi l.invariant (omega arith) here c.if-same.false
+    place_new _ _ _ _ l.lo l.hi l.invariant (omega arith) here c.if-same.false
