@@ -5,6 +5,7 @@ ghost use Rattle.order.specs.Edges.{bytes_less};
 use encoding::be32;
 
 // Whether bytes are less than as many others: four as one number, then the odd ones.
+#[tactic(auto, using(crate::proofs::comparing::Comparing::compared))]
 pub(crate) fn less(a: &[u8], b: &[u8]) -> bool
     requires { length a.now ≡ length b.now }
     ensures { result ≡ bytes_less a.now b.now }

@@ -21,6 +21,7 @@ pub(crate) struct Edges<'a> {
 impl<'a> Edges<'a> {
     ghost use Rattle.canonical.specs.Edges.{EdgesOf};
 
+    #[tactic(auto, using(crate::proofs::edges::Lying::lies), unfolding(automata::specs::Automata::edge_in))]
     pub fn of(automaton: &Automaton<'a>) -> Self
         ensures { EdgesOf automaton.now.bytes.now result }
     {
@@ -45,7 +46,7 @@ impl<'a> Edges<'a> {
     }
 
     // Whether each edge is less than the next.
-    #[tactic(auto, using(crate::proofs::edges::Rising::falls_here, crate::proofs::edges::Rising::rises_on, crate::proofs::edges::Rising::rising_none))]
+    #[tactic(auto, using(crate::proofs::edges::Rising::rising_turns))]
     pub fn is_rising(&self) -> bool
         ensures { result ≡ rising (first_edges self.now.size self.now.bytes.now self.now.count) }
     {

@@ -81,6 +81,7 @@ impl<'a> Order<'a> {
     }
 }
 
+#[tactic(auto, using(crate::proofs::ordering::Ordering::order_none, crate::proofs::ordering::Ordering::order_more))]
 // All of them, by the edge that is taken after i others.
 fn taken_by<'a, F: Fn(usize) -> usize>(edges: Edges<'a>, taken: F) -> Order<'a>
     requires { (down : Bool) × Takes down edges.count (F.pre taken) (F.post taken) }

@@ -92,3 +92,6 @@ module _ (s t : List ℕ) where
   pub word : (k : ℕ) {x y : ℕ} → k + 4 ≤ length s → k + 4 ≤ length t → (x ≡ be32_at s k) × Four s k → (y ≡ be32_at t k) × Four t k
       → Decided s t k 4 x y
   word k p q e f = rw (e.0, f.0) (four k p q e.1 f.1)
+
+-- what the code's loops lack
+pub ruleset compared = (decides, passes, one, rest_none)

@@ -41,3 +41,5 @@ lying b {e} q =
 pub rising_drawn : (b : List ℕ) {e : Edges} → EdgesOf b e → {r : Bool} → r ≡ rising (first_edges e.size e.bytes.now e.count) → r ≡ in_order b
 unfolding in_order
 rising_drawn b q h = h ∙ ap rising (lying b q)
+
+pub ruleset lies = (at_inside, part_whole, lent_part)

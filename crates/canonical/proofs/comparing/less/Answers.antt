@@ -30,13 +30,3 @@ loop-i-preserved c =
     let k : 4 * (c.loop-i.i + 1) ≡ 4 * c.loop-i.i + 4 = omega arith in
     ap (less_from c.args.a.now c.args.b.now) k
     ∙ passes _ _ _ 4 (words (goal.at.loop-i-preserved c).After-be32-y) c.if-x-y.false ∙ c.loop-i.invariant
-
-pub returns-then-a-i : goal.returns-then-a-i
-returns-then-a-i c = decides _ _ _ 1 (one _ _ c.loop-i-2.i (omega arith) (omega arith)) c.if-a-i.true ∙ c.loop-i-2.invariant
-
-pub loop-i-2-preserved : goal.loop-i-2-preserved
-loop-i-2-preserved c = passes _ _ _ 1 (one _ _ c.loop-i-2.i (omega arith) (omega arith)) c.if-a-i.false ∙ c.loop-i-2.invariant
-
-pub returns : goal.returns
-returns c =
-    let a = c.args in sym (rest_none a.a.now a.b.now c.loop-i-2.i (omega arith) (omega arith)) ∙ c.loop-i-2.invariant

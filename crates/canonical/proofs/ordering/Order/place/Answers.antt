@@ -11,7 +11,8 @@ use Rattle.canonical.proofs.ordering.Order.place.Goals as goal
 use Rattle.canonical.proofs.ordering.Order.place.Goals.{After-same}
 
 compared : (c : After-same) → let e = c.args.self.now.edges in
-    c.same.result ≡ same_bytes (nth_edge e.size e.bytes.now c.args.x) (nth_edge e.size e.bytes.now (get_or c.args.self.now.numbers.items c.loop-lo.lo 0))
+    let listed = get_or c.args.self.now.numbers.items c.loop-lo.lo 0 in
+    c.same.result ≡ same_bytes (nth_edge e.size e.bytes.now c.args.x) (nth_edge e.size e.bytes.now listed)
 compared c =
     let e = c.args.self.now.edges in
     let listed = c.from-2.ensures ∙ ap (λ (ns : List ℕ). get_or ns c.loop-lo.lo 0) c.as_slice-numbers.ensures.value in
