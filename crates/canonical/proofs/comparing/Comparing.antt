@@ -1,6 +1,6 @@
 -- Two strings compared byte by byte, or four bytes at a time as one number: what is left decides as the whole does.
 -- Assumes nothing.
-use Prim.Native.Nat.{ℕ, ◌+◌, ◌*◌, ◌<◌, ◌≤◌}
+use Prim.Native.Nat.{ℕ, ◌+◌, ◌*◌, ◌/◌, ◌<◌, ◌≤◌}
 use mathlib.Core.Bool.{true, false}
 use mathlib.Core.List.{List}
 use mathlib.Core.Path.{◌≡◌, refl, sym, ap, ◌∙◌}
@@ -11,6 +11,7 @@ use lib.Seq.{drop-cons}
 use native.Mathlib.Numerals.{add-one}
 use native.Mathlib.Nat.{suc-mul, mul-le-mul_right}
 use native.Mathlib.Omega.{arith}
+use Rattle.std.proofs.Common.{Fits, w8}
 use Rattle.std.proofs.lemmas.List.{drop_all}
 use Rattle.encoding.specs.Bytes.{Two, Four}
 use Rattle.encoding.specs.Numbers.{be16_at, be32_at}
@@ -88,10 +89,23 @@ module _ (s t : List ℕ) where
       joins s t k 2 2 65536 (small s v.back) (small t w.back) (two k (omega arith) (omega arith) v.front w.front)
       (two (k + 2) (omega arith) (omega arith) v.back w.back)
 
-  -- the code's words
-  pub word : (k : ℕ) {x y : ℕ} → k + 4 ≤ length s → k + 4 ≤ length t → (x ≡ be32_at s k) × Four s k → (y ≡ be32_at t k) × Four t k
-      → Decided s t k 4 x y
-  word k p q e f = rw (e.0, f.0) (four k p q e.1 f.1)
+-- a slice's type says that its elements are bytes
+four_bytes : (s : List ℕ) → ((i : ℕ) → Fits w8 (get_or s i 0)) → (at : ℕ) → Four s at
+four_bytes s h at =
+    let two : (i : ℕ) → Two s i = λ i. record { first = (h i).fits; second = (h (i + 1)).fits } in
+    record { front = two at; back = two (at + 2) }
+
+-- the code's word i
+module _ (s t : List ℕ) (f : (j : ℕ) → Fits w8 (get_or s j 0)) (g : (j : ℕ) → Fits w8 (get_or t j 0)) (i : ℕ) (p : i < length s / 4)
+    (q : i < length t / 4) {x y : ℕ} (d : x ≡ be32_at s (4 * i)) (e : y ≡ be32_at t (4 * i)) where
+  word : Decided s t (4 * i) 4 x y
+  word = rw (d, e) (four s t (4 * i) (omega arith) (omega arith) (four_bytes s f _) (four_bytes t g _))
+
+  pub word_decides : (x ≡ y → ⊥) → ltb x y ≡ less_from s t (4 * i)
+  word_decides = decides s t (4 * i) 4 word
+
+  pub word_passes : x ≡ y → less_from s t (4 * (i + 1)) ≡ less_from s t (4 * i)
+  word_passes o = let k : 4 * (i + 1) ≡ 4 * i + 4 = omega arith in ap (less_from s t) k ∙ passes s t (4 * i) 4 word o
 
 -- what the code's loops lack
-pub ruleset compared = (decides, passes, one, rest_none)
+pub ruleset compared = (word_decides, word_passes, decides, passes, one, rest_none)
