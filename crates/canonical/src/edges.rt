@@ -1,13 +1,11 @@
 // The edges of an automaton, as they lie one behind another.
 ghost use Rattle.std.specs.Prelude.{◌≡◌, ◌*◌, ◌≤◌, ◌<◌, length};
-ghost use Rattle.encoding.specs.Bytes.{same_bytes};
-ghost use Rattle.order.specs.Edges.{bytes_less, rising};
+ghost use Rattle.order.specs.Edges.{rising};
 ghost use Rattle.order.specs.Laid.{nth_edge, first_edges};
 ghost use Rattle.canonical.specs.Numbers.{falling};
 
 use crate::comparing::less;
 use automata::opened::Automaton;
-use encoding::same;
 
 // The place of the first in the automaton, the bytes from there on, the size of each, and their number.
 #[derive(Clone, Copy)]
@@ -23,6 +21,7 @@ pub(crate) struct Edges<'a> {
 impl<'a> Edges<'a> {
     ghost use Rattle.canonical.specs.Edges.{EdgesOf};
 
+    #[tactic(auto, using(crate::proofs::edges::Lying::lies), unfolding(automata::specs::Automata::edge_in))]
     pub fn of(automaton: &Automaton<'a>) -> Self
         ensures { EdgesOf automaton.now.bytes.now result }
     {
@@ -36,6 +35,7 @@ impl<'a> Edges<'a> {
     }
 
     // The bytes of edge i.
+    #[tactic(auto, unfolding(order::specs::Laid::edge_bytes))]
     pub fn nth(&self, i: usize) -> &'a [u8]
         requires { i < self.now.count }
         ensures bytes { result.now ≡ nth_edge self.now.size self.now.bytes.now i }
@@ -45,28 +45,13 @@ impl<'a> Edges<'a> {
         &self.bytes[from..from + self.size]
     }
 
-    // Whether edge i is less than edge j.
-    pub fn less(&self, i: usize, j: usize) -> bool
-        requires { (i < self.now.count) × (j < self.now.count) }
-        ensures { result ≡ bytes_less (nth_edge self.now.size self.now.bytes.now i) (nth_edge self.now.size self.now.bytes.now j) }
-    {
-        less(self.nth(i), self.nth(j))
-    }
-
-    // Whether edges i and j have the same bytes.
-    pub fn same(&self, i: usize, j: usize) -> bool
-        requires { (i < self.now.count) × (j < self.now.count) }
-        ensures { result ≡ same_bytes (nth_edge self.now.size self.now.bytes.now i) (nth_edge self.now.size self.now.bytes.now j) }
-    {
-        same(self.nth(i), self.nth(j))
-    }
-
     // Whether each edge is less than the next.
+    #[tactic(auto, using(crate::proofs::edges::Rising::rising_turns))]
     pub fn is_rising(&self) -> bool
         ensures { result ≡ rising (first_edges self.now.size self.now.bytes.now self.now.count) }
     {
         for i in 1..self.count {
-            if !self.less(i - 1, i) {
+            if !less(self.nth(i - 1), self.nth(i)) {
                 return false;
             }
         }
@@ -78,6 +63,6 @@ impl<'a> Edges<'a> {
     pub fn falls(&self) -> bool
         ensures { result ≡ falling self.now.size self.now.bytes.now self.now.count }
     {
-        2 <= self.count && self.less(1, 0)
+        2 <= self.count && less(self.nth(1), self.nth(0))
     }
 }

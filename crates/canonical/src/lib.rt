@@ -19,6 +19,7 @@ use ordering::order_of;
 use writing::write_form;
 
 // Whether the edges rise, each less than the next.
+#[tactic(auto, using(crate::proofs::edges::Lying::rising_drawn))]
 fn in_order(automaton: &Automaton) -> bool
     ensures { result ≡ in_order automaton.now.bytes.now }
 {

@@ -9,11 +9,13 @@ use crate::ordering::Order;
 use encoding::{bytes_of, put, two_bytes_of};
 
 // The head and the invariants: length and number of edges put right, all else as drawn.
+#[tactic(auto, using(crate::proofs::writing::Front::front_put))]
 fn write_front(form: &mut [u8], automaton: &[u8], at: usize, total: usize, count: usize)
     requires at_fits { (11 ≤ at) × (at ≤ length automaton.now) × (at ≤ length form.old) }
     requires total_bound { (total < 4294967296) × (count < 4294967296) }
     ensures { form.new ≡ placed 0 (front_of automaton.now at total count) form.old }
 {
+    // A u32 has no From<usize>, and the error of its TryFrom would be a branch that is never taken.
     put(form, 0, &bytes_of(total as u32));
     put(form, 4, &automaton[4..9]);
     put(form, 9, &two_bytes_of(count as u32));
@@ -21,15 +23,14 @@ fn write_front(form: &mut [u8], automaton: &[u8], at: usize, total: usize, count
 }
 
 // The listed edges, one after another.
+#[tactic(auto, using(crate::proofs::writing::Listed::placed_none, crate::proofs::writing::Listed::write_turn))]
 fn write_edges(form: &mut [u8], order: &Order)
     requires { order.now.edges.at + length order.now.numbers.items * order.now.edges.size ≤ length form.old }
     ensures { form.new ≡ placed order.now.edges.at (listed_bytes order.now.edges.size order.now.edges.bytes.now order.now.numbers.items) form.old }
 {
     let edges = order.edges;
-    let mut to = edges.at;
-    for &i in order.numbers.as_slice() {
-        put(form, to, edges.nth(usize::from(i)));
-        to += edges.size;
+    for (k, &i) in order.numbers.as_slice().iter().enumerate() {
+        put(form, edges.at + k * edges.size, edges.nth(usize::from(i)));
     }
 }
 

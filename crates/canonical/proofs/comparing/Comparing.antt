@@ -1,14 +1,17 @@
 -- Two strings compared byte by byte, or four bytes at a time as one number: what is left decides as the whole does.
 -- Assumes nothing.
-use Prim.Native.Nat.{ℕ, ◌+◌, ◌*◌, ◌<◌, ◌≤◌}
+use Prim.Native.Nat.{ℕ, ◌+◌, ◌*◌, ◌/◌, ◌<◌, ◌≤◌}
 use mathlib.Core.Bool.{true, false}
 use mathlib.Core.List.{List}
 use mathlib.Core.Path.{◌≡◌, refl, sym, ap, ◌∙◌}
+use borrow.Author.Tests.{lt-ltb, le-ltb}
+use lib.Dec.{ltb}
 use lib.ListN.{length, get_or}
 use lib.Seq.{drop-cons}
 use native.Mathlib.Numerals.{add-one}
 use native.Mathlib.Nat.{suc-mul, mul-le-mul_right}
 use native.Mathlib.Omega.{arith}
+use Rattle.std.proofs.Common.{Fits, w8}
 use Rattle.std.proofs.lemmas.List.{drop_all}
 use Rattle.encoding.specs.Bytes.{Two, Four}
 use Rattle.encoding.specs.Numbers.{be16_at, be32_at}
@@ -18,13 +21,13 @@ use Rattle.canonical.specs.Comparing.{less_from}
 
 -- ---- byte by byte
 module _ (s t : List ℕ) (k : ℕ) (p : k < length s) (q : k < length t) where
-  pub rest-less : get_or s k 0 < get_or t k 0 → less_from s t k ≡ true
+  rest-less : get_or s k 0 < get_or t k 0 → less_from s t k ≡ true
   rest-less l = rw (drop-cons s k 0, drop-cons t k 0) (head-less _ _ _ _ l)
 
-  pub rest_more : get_or t k 0 < get_or s k 0 → less_from s t k ≡ false
+  rest_more : get_or t k 0 < get_or s k 0 → less_from s t k ≡ false
   rest_more l = rw (drop-cons s k 0, drop-cons t k 0) (head_more _ _ _ _ l)
 
-  pub rest_next : get_or s k 0 ≡ get_or t k 0 → less_from s t k ≡ less_from s t (k + 1)
+  rest_next : get_or s k 0 ≡ get_or t k 0 → less_from s t k ≡ less_from s t (k + 1)
   rest_next l = rw (add-one k, drop-cons s k 0, drop-cons t k 0) (head_same _ _ _ _ l)
 
 pub rest_none : (s t : List ℕ) (k : ℕ) → length s ≤ k → length t ≤ k → less_from s t k ≡ false
@@ -33,7 +36,7 @@ rest_none s t k p q = rw (drop_all k s p, drop_all k t q) refl
 
 -- ---- several bytes as one number
 -- the first bytes that are left, read as x and y, decide, or leave it to those from k + n on
-data Decided (s t : List ℕ) (k n x y : ℕ) : Type 0 where
+pub data Decided (s t : List ℕ) (k n x y : ℕ) : Type 0 where
   lower : less_from s t k ≡ true → x < y → Decided s t k n x y
   higher : less_from s t k ≡ false → y < x → Decided s t k n x y
   alike : less_from s t k ≡ less_from s t (k + n) → x ≡ y → Decided s t k n x y
@@ -49,13 +52,25 @@ joins s t k m n base f g (alike r e) (alike q l) =
     let far : k + m + n ≡ k + (m + n) = omega arith in
     alike (r ∙ q ∙ ap (less_from s t) far) (omega (arith, ap (λ (j : ℕ). j * base) e))
 
+module _ (s t : List ℕ) (k n : ℕ) {x y : ℕ} where
+  -- they say which is less where they differ
+  pub decides : Decided s t k n x y → (x ≡ y → ⊥) → ltb x y ≡ less_from s t k
+  decides (lower r l) d = lt-ltb x y l ∙ sym r
+  decides (higher r l) d = le-ltb x y (omega arith) ∙ sym r
+  decides (alike r e) d = absurd (d e)
+
+  pub passes : Decided s t k n x y → x ≡ y → less_from s t (k + n) ≡ less_from s t k
+  passes (lower r l) e = absurd (omega arith)
+  passes (higher r l) e = absurd (omega arith)
+  passes (alike r l) e = sym r
+
 small : (s : List ℕ) {i : ℕ} → Two s i → be16_at s i < 65536
 unfolding be16_at
 small s v = omega arith
 
 module _ (s t : List ℕ) where
   -- one byte, two and four
-  one : (k : ℕ) → k < length s → k < length t → Decided s t k 1 (get_or s k 0) (get_or t k 0)
+  pub one : (k : ℕ) → k < length s → k < length t → Decided s t k 1 (get_or s k 0) (get_or t k 0)
   one k p q = go (numbers (get_or s k 0) (get_or t k 0))
     where
       go : Numbers (get_or s k 0) (get_or t k 0) → Decided s t k 1 (get_or s k 0) (get_or t k 0)
@@ -74,31 +89,23 @@ module _ (s t : List ℕ) where
       joins s t k 2 2 65536 (small s v.back) (small t w.back) (two k (omega arith) (omega arith) v.front w.front)
       (two (k + 2) (omega arith) (omega arith) v.back w.back)
 
-  -- ---- by the code's words
-  module _ (k : ℕ) (p : k + 4 ≤ length s) (q : k + 4 ≤ length t) {x y : ℕ} (e : (x ≡ be32_at s k) × Four s k) (f : (y ≡ be32_at t k) × Four t k) where
-    words : Decided s t k 4 x y
-    words = rw (e.0, f.0) (four k p q e.1 f.1)
+-- a slice's type says that its elements are bytes
+four_bytes : (s : List ℕ) → ((i : ℕ) → Fits w8 (get_or s i 0)) → (at : ℕ) → Four s at
+four_bytes s h at =
+    let two : (i : ℕ) → Two s i = λ i. record { first = (h i).fits; second = (h (i + 1)).fits } in
+    record { front = two at; back = two (at + 2) }
 
-    pub words_less : x < y → true ≡ less_from s t k
-    words_less m = go words
-      where
-        go : Decided s t k 4 x y → true ≡ less_from s t k
-        go (lower r l) = sym r
-        go (higher r l) = absurd (omega arith)
-        go (alike r l) = absurd (omega arith)
+-- the code's word i
+module _ (s t : List ℕ) (f : (j : ℕ) → Fits w8 (get_or s j 0)) (g : (j : ℕ) → Fits w8 (get_or t j 0)) (i : ℕ) (p : i < length s / 4)
+    (q : i < length t / 4) {x y : ℕ} (d : x ≡ be32_at s (4 * i)) (e : y ≡ be32_at t (4 * i)) where
+  word : Decided s t (4 * i) 4 x y
+  word = rw (d, e) (four s t (4 * i) (omega arith) (omega arith) (four_bytes s f _) (four_bytes t g _))
 
-    pub words_more : y < x → false ≡ less_from s t k
-    words_more m = go words
-      where
-        go : Decided s t k 4 x y → false ≡ less_from s t k
-        go (lower r l) = absurd (omega arith)
-        go (higher r l) = sym r
-        go (alike r l) = absurd (omega arith)
+  pub word_decides : (x ≡ y → ⊥) → ltb x y ≡ less_from s t (4 * i)
+  word_decides = decides s t (4 * i) 4 word
 
-    pub words_same : x ≡ y → less_from s t (k + 4) ≡ less_from s t k
-    words_same m = go words
-      where
-        go : Decided s t k 4 x y → less_from s t (k + 4) ≡ less_from s t k
-        go (lower r l) = absurd (omega arith)
-        go (higher r l) = absurd (omega arith)
-        go (alike r l) = sym r
+  pub word_passes : x ≡ y → less_from s t (4 * (i + 1)) ≡ less_from s t (4 * i)
+  word_passes o = let k : 4 * (i + 1) ≡ 4 * i + 4 = omega arith in ap (less_from s t) k ∙ passes s t (4 * i) 4 word o
+
+-- what the code's loops lack
+pub ruleset compared = (word_decides, word_passes, decides, passes, one, rest_none)

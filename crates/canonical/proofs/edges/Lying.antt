@@ -38,6 +38,8 @@ lying b {e} q =
     ap (λ (s : List ℕ). edges_from e.size s 0 e.count) q.bytes
     ∙ sym (from-drop e.size b e.at 0 e.count) ∙ (λ i. edges_from (q.size i) b (z i) (q.count i))
 
-pub rising-drawn : (b : List ℕ) {e : Edges} → EdgesOf b e → {r : Bool} → r ≡ rising (first_edges e.size e.bytes.now e.count) → r ≡ in_order b
+pub rising_drawn : (b : List ℕ) {e : Edges} → EdgesOf b e → {r : Bool} → r ≡ rising (first_edges e.size e.bytes.now e.count) → r ≡ in_order b
 unfolding in_order
-rising-drawn b q h = h ∙ ap rising (lying b q)
+rising_drawn b q h = h ∙ ap rising (lying b q)
+
+pub ruleset lies = (at_inside, part_whole, lent_part)

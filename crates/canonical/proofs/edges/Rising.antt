@@ -51,3 +51,6 @@ unfolding rising edges_from
 rising_none size s at zero h = refl
 rising_none size s at (suc zero) h = refl
 rising_none size s at (suc (suc n)) h = absurd (omega arith)
+
+-- what the code's loop lacks
+pub ruleset rising_turns = (falls_here, rises_on, rising_none)

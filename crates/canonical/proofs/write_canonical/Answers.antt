@@ -9,7 +9,7 @@ use Rattle.automata.specs.declared.refusals.Refusal.{Refusal}
 use Rattle.automata.proofs.canonical.Theorems.{form_laws}
 use Rattle.canonical.specs.Parts.{Sorted}
 use Rattle.canonical.proofs.Ways.{Writes, refused, short, written}
-use Rattle.canonical.proofs.writing.Parts.{sorted_in, total≡}
+use Rattle.canonical.proofs.writing.Parts.{sorted_in, total_is}
 use Rattle.canonical.proofs.write_canonical.Goals as goal
 use Rattle.canonical.proofs.write_canonical.Goals.{In_ok-automaton, After-order_of-order}
 
@@ -32,19 +32,19 @@ pub returns-then-form-total : goal.returns-then-form-total
 returns-then-form-total c =
     let here = goal.at.returns-then-form-total c in
     let a = c.in_ok-automaton.automaton in
-    let total = total≡ _ _ (sorted here.After-order_of-order) c.len.ensures.value in
+    let total = total_is _ _ (sorted here.After-order_of-order) c.len.ensures.value in
     let w = passed here.In_ok-automaton _ _ _ (short _ _ a.accepted total c.if-form-total.true) in
     record { value = w.0; form_after = w.1; form_laws = form_laws _ }
 
 pub write_form-requires-clause-total_value : goal.write_form-requires-clause-total_value
 write_form-requires-clause-total_value c =
     let here = goal.at.write_form-requires-clause-total_value c in
-    (total≡ _ _ (sorted here.After-order_of-order) c.len.ensures.value, c.if-form-total.false)
+    (total_is _ _ (sorted here.After-order_of-order) c.len.ensures.value, c.if-form-total.false)
 
 pub returns : goal.returns
 returns c =
     let here = goal.at.returns c in
     let a = c.in_ok-automaton.automaton in
-    let total = total≡ _ _ (sorted here.After-order_of-order) c.len.ensures.value in
+    let total = total_is _ _ (sorted here.After-order_of-order) c.len.ensures.value in
     let w = passed here.In_ok-automaton _ _ _ (written _ _ a.accepted total c.if-form-total.false c.write_form.ensures) in
     record { value = w.0; form_after = w.1; form_laws = form_laws _ }

@@ -32,9 +32,6 @@ unfolding joined
 joined_snoc [] x = append-nil x
 joined_snoc (y ∷ es) x = ap (λ (l : List ℕ). y ++ l) (joined_snoc es x) ∙ sym (append_assoc y (joined es) x)
 
-pub next_place : (at i size : ℕ) {to : ℕ} → to ≡ at + i * size → to + size ≡ at + (i + 1) * size
-next_place at i size e = rw (add-one i) (omega (arith, suc-mul i size))
-
 module _ (size : ℕ) (s : List ℕ) (n : ℕ) (w : n * size ≤ length s) where
   numbered_sized : (l : List ℕ) → All (λ (i : ℕ). i < n) l → Sized size (numbered size s l)
   numbered_sized [] h x m = absurd m
@@ -53,9 +50,10 @@ module _ (size : ℕ) (s : List ℕ) (n : ℕ) (w : n * size ≤ length s) where
         ∙ ap joined (map-append (nth_edge size s) (take i ns) (get_or ns i 0 ∷ []))
         ∙ joined_snoc (numbered size s (take i ns)) (nth_edge size s (get_or ns i 0))
 
-    pub write_turn : (form : List ℕ) (at i : ℕ) {to : ℕ} {edge old new : List ℕ} → at ≤ length form → i < length ns → to ≡ at + i * size
-        → old ≡ placed at (listed_bytes size s (take i ns)) form → edge ≡ nth_edge size s (get_or ns i 0) → new ≡ placed to edge old
+    pub write_turn : (form : List ℕ) (at i : ℕ) {edge old new : List ℕ} → at ≤ length form → i < length ns
+        → old ≡ placed at (listed_bytes size s (take i ns)) form → edge ≡ nth_edge size s (get_or ns i 0) → new ≡ placed (at + i * size) edge old
         → new ≡ placed at (listed_bytes size s (take (i + 1) ns)) form
-    write_turn form at i {to} r g p e q f =
-        goes_on form (listed_bytes size s (take i ns)) (nth_edge size s (get_or ns i 0)) at to r (omega (arith, written-length i (omega arith))) e q f
+    write_turn form at i r g q e f =
+        goes_on form (listed_bytes size s (take i ns)) (nth_edge size s (get_or ns i 0)) at (at + i * size) r
+        (omega (arith, written-length i (omega arith))) q e f
         ∙ ap (λ (l : List ℕ). placed at l form) (sym (one_more i g))

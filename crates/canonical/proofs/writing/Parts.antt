@@ -36,14 +36,14 @@ module _ (b : List ℕ) (o : Order) (s : Sorted b o) where
   count_ordered : length o.numbers.items ≡ length (ordered b)
   count_ordered = sym (length-map o.numbers.items (nth_edge o.edges.size o.edges.bytes.now)) ∙ ap length edges-ordered
 
-  form_length_lem≡ : o.edges.at + length o.numbers.items * o.edges.size ≡ form_length b
-  form_length_lem≡ = λ i. s.edges.at i + count_ordered i * s.edges.size i
+  form_length_is : o.edges.at + length o.numbers.items * o.edges.size ≡ form_length b
+  form_length_is = λ i. s.edges.at i + count_ordered i * s.edges.size i
 
   at≤ : o.edges.at ≤ length b
   at≤ = at_inside b s.complete s.edges.at
 
-  pub total≡ : {n : ℕ} → n ≡ length o.numbers.items → o.edges.at + n * o.edges.size ≡ length (canonical_of b)
-  total≡ e = (λ i. o.edges.at + e i * o.edges.size) ∙ form_length_lem≡ ∙ sym (form_length_lem b s.complete)
+  pub total_is : {n : ℕ} → n ≡ length o.numbers.items → o.edges.at + n * o.edges.size ≡ length (canonical_of b)
+  total_is e = (λ i. o.edges.at + e i * o.edges.size) ∙ form_length_is ∙ sym (form_length_lem b s.complete)
 
   total-small : length (canonical_of b) < 4294967296
   total-small = omega (arith, form_length_lem b s.complete, small b s.complete)
@@ -52,7 +52,7 @@ module _ (b : List ℕ) (o : Order) (s : Sorted b o) where
   module _ (n : ℕ) {total count : ℕ} (t : total ≡ length (canonical_of b)) (k : count ≡ length o.numbers.items) (h : total ≤ n) where
     pub asks_front : ((11 ≤ o.edges.at) × (o.edges.at ≤ length b) × (o.edges.at ≤ n)) × ((total < 4294967296) × (count < 4294967296))
     asks_front = (
-      (omega (arith, s.edges.at), at≤, omega (arith, total≡ refl)),
+      (omega (arith, s.edges.at), at≤, omega (arith, total_is refl)),
       (omega (arith, total-small), omega (arith, s.order.few, o.edges.few)),
     )
 

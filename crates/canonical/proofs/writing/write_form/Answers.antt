@@ -2,7 +2,7 @@
 use mathlib.Core.Path.{refl}
 use lib.ListN.{length}
 use native.Mathlib.Omega.{arith}
-use Rattle.canonical.proofs.writing.Parts.{asks_front, total≡, form_put}
+use Rattle.canonical.proofs.writing.Parts.{asks_front, total_is, form_put}
 use Rattle.canonical.proofs.writing.write_form.Goals as goal
 
 pub write_front-requires : goal.write_front-requires
@@ -13,7 +13,7 @@ write_front-requires c =
     record { at_fits = asked.0; total_bound = asked.1 }
 
 pub write_edges-requires : goal.write_edges-requires
-write_edges-requires c = let a = c.args in omega (arith, total≡ a.automaton.now a.order.now c.requires.sorted refl)
+write_edges-requires c = let a = c.args in omega (arith, total_is a.automaton.now a.order.now c.requires.sorted refl)
 
 pub returns : goal.returns
 returns c =
