@@ -77,27 +77,25 @@ impl<'a> Search<'a> {
     {
         let size = self.automaton.clocks + 1;
         let count = turn.count;
-        let z = w.zone;
-        let exact = w.fraction;
-        let numbers = encode(l, origin, z, size);
+        let numbers = encode(l, origin, w.zone, size);
         let stride = slot_length(size);
         if let Some(j) = find(store, &numbers, count, size) {
             let at = j * stride;
-            return drop_inside(turn, exact, &numbers, &store[at..], size * size);
+            return drop_inside(turn, w.fraction, &numbers, &store[at..], size * size);
         }
         if COUNTS < largest_count(&numbers, size * size) {
-            return turn.refused(exact, Refusal::ErrorCountTooLarge);
+            return turn.refused(w.fraction, Refusal::ErrorCountTooLarge);
         }
         if count < self.capacity {
             keep(store, count * stride, &numbers, stride);
             return Turn {
                 count: count + 1,
-                exact,
+                exact: w.fraction,
                 outcome: Outcome::Going,
                 ..turn
             };
         }
-        turn.refused(exact, Refusal::StoreFull)
+        turn.refused(w.fraction, Refusal::StoreFull)
     }
 
     // What has entered l is judged.
@@ -106,19 +104,17 @@ impl<'a> Search<'a> {
         requires going { Goes self most_offers store.old turn × SoundResult self.automaton.now.bytes.now r }
         ensures { Tells self.entry store.old turn l origin r store.new result }
     {
-        let work = r.work;
-        let exact = work.fraction;
         if let Some(safe) = r.emptied {
-            return turn.emptied(exact, safe);
+            return turn.emptied(r.work.fraction, safe);
         }
         if l == self.automaton.target() {
             return Turn {
-                exact,
+                exact: r.work.fraction,
                 outcome: Outcome::Reached(origin),
                 ..turn
             };
         }
-        self.judge(store, turn, l, origin, work)
+        self.judge(store, turn, l, origin, r.work)
     }
 
     // A settled zone enters l after a reset, and is judged. The start and the edges share this function, so that the compiler keeps it
@@ -161,12 +157,9 @@ impl<'a> Search<'a> {
     {
         let met = narrow(&self.automaton.guard(i), w, false);
         if let Some(safe) = met.emptied {
-            let work = met.work;
-            let exact = work.fraction;
-            return turn.emptied(exact, safe);
+            return turn.emptied(met.work.fraction, safe);
         }
-        let resets = edge.resets;
-        self.arrive(store, turn, edge.to, origin, met.work, resets)
+        self.arrive(store, turn, edge.to, origin, met.work, edge.resets)
     }
 
     // The edges of the kept zone of slot `parent`, in order, until the search stops.
@@ -176,16 +169,14 @@ impl<'a> Search<'a> {
         ensures { Expands self.entry store.old turn parent l z store.new result }
     {
         let mut t = turn;
-        let first = t.exact;
         let mut w = Work {
             zone: z,
-            fraction: first,
+            fraction: t.exact,
         };
         for i in 0..self.automaton.edges {
             let edge = self.automaton.edge(i);
             if edge.from == l {
-                let exact = t.exact;
-                w.fraction = exact;
+                w.fraction = t.exact;
                 let origin = Origin::along(parent, i);
                 t = self.follow(store, t, origin, i, edge, w);
                 if t.has_ended() {

@@ -41,12 +41,9 @@ fn meet(constraint: &Constraint, w: Work, settled: bool) -> Met
         if met.is_below(there) {
             same = false;
         }
-        let upper = met.upper;
-        let lower = met.lower;
-        let fraction = met.fraction;
-        work.zone[x * 9] = upper;
-        work.zone[x] = lower;
-        work.fraction = fraction;
+        work.zone[x * 9] = met.upper;
+        work.zone[x] = met.lower;
+        work.fraction = met.fraction;
     }
     Met {
         work,
@@ -71,12 +68,11 @@ pub fn narrow(constraint: &Constraint, w: Work, settled: bool) -> Reduced
 fn raise(constraint: &Constraint, w: Work) -> Work
     ensures { result ≡ raise_limits (limits_at constraint.now.bytes.now constraint.now.at) constraint.now.clocks w }
 {
-    let fraction = w.fraction;
-    let mut z = w.zone;
+    let mut work = w;
     for x in 1..constraint.clocks + 1 {
-        z[x * 9] = Pair::at_most(constraint.limits(x).hi);
+        work.zone[x * 9] = Pair::at_most(constraint.limits(x).hi);
     }
-    Work { zone: z, fraction }
+    work
 }
 
 // The zone, which is settled, enters location l after a reset.
