@@ -65,14 +65,12 @@ pub fn narrow(constraint: &Constraint, w: Work, settled: bool) -> Reduced
 }
 
 // Each entry (clock, 0) is put to (hi, 1), hi among the limits.
-fn raise(constraint: &Constraint, w: Work) -> Work
-    ensures { result ≡ raise_limits (limits_at constraint.now.bytes.now constraint.now.at) constraint.now.clocks w }
+fn raise(constraint: &Constraint, work: &mut Work)
+    ensures { work.new ≡ raise_limits (limits_at constraint.now.bytes.now constraint.now.at) constraint.now.clocks work.old }
 {
-    let mut work = w;
     for x in 1..constraint.clocks + 1 {
         work.zone[x * 9] = Pair::at_most(constraint.limits(x).hi);
     }
-    work
 }
 
 // The zone, which is settled, enters location l after a reset.
@@ -83,9 +81,10 @@ pub(crate) fn enter(automaton: &Automaton, l: usize, w: Work, resets: [bool; 9])
 {
     let size = automaton.clocks + 1;
     let invariant = automaton.invariant(l);
-    let met = narrow(&invariant, w.reset(size, resets), true);
+    let mut met = narrow(&invariant, w.reset(size, resets), true);
     if met.emptied.is_some() {
         return met;
     }
-    raise(&invariant, met.work).reduce_raised(size)
+    raise(&invariant, &mut met.work);
+    met.work.reduce_raised(size)
 }

@@ -26,4 +26,4 @@ loop-x-preserved c =
 pub returns : goal.returns
 returns c =
     let inv = c.loop-x.invariant in
-    (λ i. record { zone = c.loop-x.work.zone; fraction = inv.1 i }) ∙ raise_all _ _ c.args.w (omega arith) inv.0
+    (λ i. record { zone = c.loop-x.work.zone; fraction = inv.1 i }) ∙ raise_all _ _ c.args.work.now (omega arith) inv.0
