@@ -15,15 +15,13 @@ use lib.Ieee.Nearest.{div_mono}
 use native.Mathlib.Nat.{mul-le-mul_right, le_trans, div-mul-le_self}
 use Rattle.zones.specs.declared.pair.Pair.{Pair}
 use Rattle.zones.specs.Containment.{within}
-use Rattle.runs.proofs.Contradictions.{true_false}
-use Rattle.zones.proofs.sets.Squares.{up_to}
 use Rattle.automata.specs.Automata.{clocks}
 use Rattle.search.specs.Exploring.{Hits, FirstHit}
 use Rattle.search.specs.Instance.{ZoneNode, zones_of}
 use Rattle.reachability.specs.Search.{Found, none, found, Nth, find}
 use Rattle.automata.specs.Semantics.{system_of}
 use Rattle.slots.specs.declared.slot.Origin.{Origin}
-use Rattle.slots.specs.Slots.{slot_length, head_of, slot_of, slot_location}
+use Rattle.slots.specs.Slots.{slot_length, head_of, slot_of}
 use Rattle.slots.specs.Containing.{within_slots}
 use Rattle.search.specs.Store.{origin_of, slots_of, store_of, most_slots, capacity_of}
 use Rattle.reachability.proofs.Lists.{nth_lt}
@@ -134,27 +132,6 @@ lent_part s at = take_all (length s - at) (drop at s) (omega (arith, length-drop
 
 pub lent_length : (s : List ℤ) (at : ℕ) → length (take (length s - at) (drop at s)) ≡ length s - at
 lent_length s at = ap length (lent_part s at) ∙ length-drop at s
-
--- whether slot j contains the new one, from what the code's two tests showed
-module _ (n : ℕ) (new s : List ℤ) (j : ℕ) {at : ℕ} (e : at ≡ j * slot_length n) where
-  same_at : get_or s at (pos 0) ≡ get_or s (j * slot_length n) (pos 0)
-  same_at = ap (λ (i : ℕ). get_or s i (pos 0)) e
-
-  inside_at : within_slots new (take (length s - at) (drop at s)) (n * n) ≡ within_slots new (drop (j * slot_length n) s) (n * n)
-  inside_at = ap (λ (u : List ℤ). within_slots new u (n * n)) (lent_part s at ∙ ap (λ (i : ℕ). drop i s) e)
-
-  pub hit : get_or s at (pos 0) ≡ slot_location new → within_slots new (take (length s - at) (drop at s)) (n * n) ≡ true → Hits n new s j
-  hit f g = record { same = sym same_at ∙ f; inside = sym inside_at ∙ g }
-
-  pub miss_location : (get_or s at (pos 0) ≡ slot_location new → ⊥) → Hits n new s j → ⊥
-  miss_location f h = f (same_at ∙ h.same)
-
-  pub miss_inside : within_slots new (take (length s - at) (drop at s)) (n * n) ≡ false → Hits n new s j → ⊥
-  miss_inside g h = true_false (sym (inside_at ∙ h.inside) ∙ g)
-
-pub misses_more : (n : ℕ) (new s : List ℤ) (j : ℕ) → ((i : ℕ) → i < j → Hits n new s i → ⊥) →
-    (Hits n new s j → ⊥) → (i : ℕ) → i < j + 1 → Hits n new s i → ⊥
-misses_more n new s j f g i h = up_to (λ i. Hits n new s i → ⊥) j f g i (omega arith)
 
 -- ---- the first slot that contains the new one is the node that the definition finds
 module _ (b : List ℕ) (n≤ : suc (clocks b) ≤ 9) (l : ℕ) (o : Origin) (z : List Pair) where
