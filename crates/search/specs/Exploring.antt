@@ -10,7 +10,7 @@ use Rattle.runs.specs.Limits.{scale}
 use Rattle.zones.specs.Successors.{enter_of, follow_of}
 use Rattle.zones.specs.Zones.{reset_of}
 use Rattle.search.specs.declared.outcome.Turn.{Turn}
-use Rattle.search.specs.Outcomes.{outcome_of, Honest}
+use Rattle.search.specs.Outcomes.{outcome_of, Honest, Few}
 use Rattle.automata.specs.Automata.{clocks, locations, to, guard_of, invariant_of, resets_of}
 use Rattle.search.specs.Instance.{ZoneNode, ZoneState, work_of, result_of, zones_of}
 use Rattle.reachability.specs.Search.{Came, going, Nth, offer}
@@ -67,13 +67,14 @@ pub record Live (b : List ℕ) (slots : ℕ) (s₀ : List ℤ) (q : ZoneState) (
   pub sound : SoundState b slots q
   pub goes : q.outcome ≡ going
 
--- a search that goes on, at the turn t, with places for `slots` slots in the store that was lent
-pub record Going (b : List ℕ) (slots : ℕ) (s : List ℤ) (t : Turn) : Type 0 where
+-- a search that goes on, at the turn t, with places for `slots` slots in the store that was lent, at most `offers` zones being dropped
+pub record Going (b : List ℕ) (slots offers : ℕ) (s : List ℤ) (t : Turn) : Type 0 where
   pub base : List ℤ
   pub state : ZoneState
   pub live : Live b slots base state s t
   pub long : slots * slot_length (suc (clocks b)) ≤ length base
   pub few : slots ≤ most_slots
+  pub dropped : Few offers t.dropped
 
 -- what a part of the search gives from the store s and the turn t to s' and r: of every state that they show, sound and going on, they
 -- show what the definition f comes to

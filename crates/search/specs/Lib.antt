@@ -11,3 +11,4 @@ pub mod Examples
 pub mod Meeting
 pub mod Outcomes
 pub mod Exploring
+pub mod Steps

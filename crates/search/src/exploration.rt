@@ -1,15 +1,12 @@
 // The search over zones in the lent store: kept zones are taken oldest first, with edges in order.
-ghost use Rattle.std.specs.Prelude.{◌≡◌, List, ℕ, suc, ◌*◌, ◌≤◌, ◌<◌, length, MatchOption};
+ghost use Rattle.std.specs.Prelude.{◌≡◌, suc, ◌*◌, ◌≤◌, ◌<◌, length, MatchOption};
 ghost use Rattle.zones.specs.Ranges.{Fits32, Sized, counts, last_counts};
 ghost use Rattle.zones.specs.Settled.{Settled};
 ghost use Rattle.zones.specs.Zones.{set_of};
 ghost use Rattle.automata.specs.Automata.{clocks, edges, locations, target, to};
-ghost use Rattle.search.specs.Exploring.{FirstHit, Shown, SoundResult, SoundZone, Offers, Led, node_at, arrival_of, successor_of};
-ghost use Rattle.search.specs.Exploring.{Continues, Going};
-ghost use Rattle.search.specs.Instance.{fractions_of, zones_of};
+ghost use Rattle.search.specs.Exploring.{FirstHit, Shown, SoundResult, SoundZone, arrival_of, successor_of};
+ghost use Rattle.search.specs.Steps.{Goes, Judges, Tells, Expands, Takes};
 ghost use Rattle.automata.specs.Opened.{edge_of};
-ghost use Rattle.reachability.specs.Search.{Came, judge, expand, take_from};
-ghost use Rattle.automata.specs.Semantics.{system_of};
 ghost use Rattle.slots.specs.Slots.{slot_length, pair_count, Framed};
 ghost use Rattle.search.specs.Store.{most_slots, capacity_of};
 ghost use Rattle.search.specs.Answers.{state_of};
@@ -61,189 +58,158 @@ fn drop_inside(turn: Turn, exact: Fraction, new: &[i32], old: &[i32]) -> Turn
     turn.contained(exact, inside.below, inside.equal)
 }
 
-// A zone that has entered l, not the target: it is dropped inside a kept one, refused, or kept.
-fn judge(
-    automaton: &Automaton,
-    store: &mut [i32],
-    turn: Turn,
+// A search of an automaton, in a store with places for `capacity` slots: what stays while the turn goes on. The store is lent to each step,
+// since a `&mut` field would have to be followed to its end in each contract.
+#[derive(Clone, Copy)]
+struct Search<'a> {
+    automaton: &'a Automaton<'a>,
     capacity: usize,
-    l: usize,
-    origin: Origin,
-    w: Work,
-) -> Turn
-    requires there { (l < locations automaton.now.bytes.now) × (l ≡ target automaton.now.bytes.now → ⊥) }
-    requires going { Going automaton.now.bytes.now capacity store.old turn × Few most_offers turn.dropped }
-    requires sized { Sized last_counts (suc (clocks automaton.now.bytes.now)) w × Framed (suc (clocks automaton.now.bytes.now)) w.zone }
-    ensures { (p : Led origin) → Continues automaton.now.bytes.now capacity store.old turn
-        (λ q. judge (system_of automaton.now.bytes.now) (zones_of automaton.now.bytes.now) capacity q
-        (node_at l p.came p.path w.zone) (fractions_of w.fraction turn.safe)) store.new result }
-{
-    let size = automaton.clocks + 1;
-    let count = turn.count;
-    let z = w.zone;
-    let exact = w.fraction;
-    let numbers = encode(l, origin, z, size);
-    let stride = slot_length(size);
-    let new = &numbers[..stride];
-    if let Some(j) = find(store, new, count, size) {
-        let at = j * stride;
-        return drop_inside(turn, exact, new, &store[at..at + stride]);
+}
+
+impl<'a> Search<'a> {
+    // A zone that has entered l, not the target: it is dropped inside a kept one, refused, or kept.
+    fn judge(self, store: &mut [i32], turn: Turn, l: usize, origin: Origin, w: Work) -> Turn
+        requires there { (l < locations self.automaton.now.bytes.now) × (l ≡ target self.automaton.now.bytes.now → ⊥) }
+        requires going { Goes self most_offers store.old turn }
+        requires sized { Sized last_counts (suc (clocks self.automaton.now.bytes.now)) w
+            × Framed (suc (clocks self.automaton.now.bytes.now)) w.zone }
+        ensures { Judges self.entry store.old turn l origin w store.new result }
+    {
+        let size = self.automaton.clocks + 1;
+        let count = turn.count;
+        let numbers = encode(l, origin, w.zone, size);
+        let stride = slot_length(size);
+        let new = &numbers[..stride];
+        if let Some(j) = find(store, new, count, size) {
+            let at = j * stride;
+            return drop_inside(turn, w.fraction, new, &store[at..at + stride]);
+        }
+        if COUNTS < largest_count(new) {
+            return turn.refused(w.fraction, Refusal::ErrorCountTooLarge);
+        }
+        if count < self.capacity {
+            keep(store, count * stride, new);
+            return Turn {
+                count: count + 1,
+                exact: w.fraction,
+                outcome: Outcome::Going,
+                ..turn
+            };
+        }
+        turn.refused(w.fraction, Refusal::StoreFull)
     }
-    if COUNTS < largest_count(new) {
-        return turn.refused(exact, Refusal::ErrorCountTooLarge);
+
+    // What has entered l is judged.
+    fn offer(self, store: &mut [i32], turn: Turn, l: usize, origin: Origin, r: Reduced) -> Turn
+        requires there { l < locations self.automaton.now.bytes.now }
+        requires going { Goes self most_offers store.old turn × SoundResult self.automaton.now.bytes.now r }
+        ensures { Tells self.entry store.old turn l origin r store.new result }
+    {
+        if let Some(safe) = r.emptied {
+            return turn.emptied(r.work.fraction, safe);
+        }
+        if l == self.automaton.target() {
+            return Turn {
+                exact: r.work.fraction,
+                outcome: Outcome::Reached(origin),
+                ..turn
+            };
+        }
+        self.judge(store, turn, l, origin, r.work)
     }
-    if count < capacity {
-        keep(store, count * stride, new);
-        return Turn {
-            count: count + 1,
-            exact,
-            outcome: Outcome::Going,
-            ..turn
+
+    // A settled zone enters l after a reset, and is judged. The start and the edges share this function, so that the compiler keeps it
+    // out of the loop over the edges and gives its steps one square.
+    fn arrive(
+        self,
+        store: &mut [i32],
+        turn: Turn,
+        l: usize,
+        origin: Origin,
+        w: Work,
+        resets: [bool; 9],
+    ) -> Turn
+        requires there { (l < locations self.automaton.now.bytes.now) × Goes self most_offers store.old turn }
+        requires sized { Sized (10 * counts) (suc (clocks self.automaton.now.bytes.now)) w
+            × Settled (suc (clocks self.automaton.now.bytes.now)) w }
+        requires sound_result { SoundResult self.automaton.now.bytes.now
+            (arrival_of self.automaton.now.bytes.now l (set_of resets) w) }
+        ensures { Tells self.entry store.old turn l origin
+            (arrival_of self.entry.automaton.now.bytes.now l (set_of resets) w) store.new result }
+    {
+        let entered = enter(self.automaton, l, w, resets);
+        self.offer(store, turn, l, origin, entered)
+    }
+
+    // The successor of a taken zone along edge i, which was fetched, is judged.
+    fn follow(
+        self,
+        store: &mut [i32],
+        turn: Turn,
+        origin: Origin,
+        i: usize,
+        edge: Edge,
+        w: Work,
+    ) -> Turn
+        requires there { (i < edges self.automaton.now.bytes.now) × (edge ≡ edge_of self.automaton.now.bytes.now i) }
+        requires going { Goes self most_offers store.old turn × SoundZone self.automaton.now.bytes.now w.zone × Fits32 w.fraction }
+        ensures { Tells self.entry store.old turn (to self.entry.automaton.now.bytes.now i) origin
+            (successor_of self.entry.automaton.now.bytes.now i w) store.new result }
+    {
+        let met = narrow(&self.automaton.guard(i), w, false);
+        if let Some(safe) = met.emptied {
+            return turn.emptied(met.work.fraction, safe);
+        }
+        self.arrive(store, turn, edge.to, origin, met.work, edge.resets)
+    }
+
+    // The edges of the kept zone of slot `parent`, in order, until the search stops.
+    fn expand(self, store: &mut [i32], turn: Turn, parent: usize, l: usize, z: [Pair; 81]) -> Turn
+        requires parent_kept { parent < most_slots }
+        requires going { Goes self (suc (parent * 256)) store.old turn × SoundZone self.automaton.now.bytes.now z }
+        ensures { Expands self.entry store.old turn parent l z store.new result }
+    {
+        let mut t = turn;
+        let mut w = Work {
+            zone: z,
+            fraction: t.exact,
         };
+        for i in 0..self.automaton.edges {
+            let edge = self.automaton.edge(i);
+            if edge.from == l {
+                w.fraction = t.exact;
+                let origin = Origin::along(parent, i);
+                t = self.follow(store, t, origin, i, edge, w);
+                if t.has_ended() {
+                    return t;
+                }
+            }
+        }
+        t
     }
-    turn.refused(exact, Refusal::StoreFull)
-}
 
-// What has entered l is judged.
-fn offer(
-    automaton: &Automaton,
-    store: &mut [i32],
-    turn: Turn,
-    capacity: usize,
-    l: usize,
-    origin: Origin,
-    r: Reduced,
-) -> Turn
-    requires there { l < locations automaton.now.bytes.now }
-    requires going { Going automaton.now.bytes.now capacity store.old turn × SoundResult automaton.now.bytes.now r × Few most_offers turn.dropped }
-    ensures { Offers automaton.now.bytes.now capacity store.old turn l origin r store.new result }
-{
-    let work = r.work;
-    let exact = work.fraction;
-    if let Some(safe) = r.emptied {
-        return turn.emptied(exact, safe);
-    }
-    if l == automaton.target() {
-        return Turn {
-            exact,
-            outcome: Outcome::Reached(origin),
-            ..turn
-        };
-    }
-    judge(automaton, store, turn, capacity, l, origin, work)
-}
-
-// A settled zone enters l after a reset, and is judged. The start and the edges share this function, so that the compiler keeps it
-// out of the loop over the edges and gives its steps one square.
-fn arrive(
-    automaton: &Automaton,
-    store: &mut [i32],
-    turn: Turn,
-    capacity: usize,
-    l: usize,
-    origin: Origin,
-    w: Work,
-    resets: [bool; 9],
-) -> Turn
-    requires there { (l < locations automaton.now.bytes.now) × Going automaton.now.bytes.now capacity store.old turn }
-    requires sized { Sized (10 * counts) (suc (clocks automaton.now.bytes.now)) w × Settled (suc (clocks automaton.now.bytes.now)) w }
-    requires sound_result { SoundResult automaton.now.bytes.now (arrival_of automaton.now.bytes.now l (set_of resets) w)
-        × Few most_offers turn.dropped }
-    ensures { Offers automaton.now.bytes.now capacity store.old turn l origin
-        (arrival_of automaton.now.bytes.now l (set_of resets) w) store.new result }
-{
-    let entered = enter(automaton, l, w, resets);
-    offer(automaton, store, turn, capacity, l, origin, entered)
-}
-
-// The successor of a taken zone along edge i, which was fetched, is judged.
-fn follow(
-    automaton: &Automaton,
-    store: &mut [i32],
-    turn: Turn,
-    capacity: usize,
-    origin: Origin,
-    i: usize,
-    edge: Edge,
-    w: Work,
-) -> Turn
-    requires there { (i < edges automaton.now.bytes.now) × (edge ≡ edge_of automaton.now.bytes.now i) × Few most_offers turn.dropped }
-    requires going { Going automaton.now.bytes.now capacity store.old turn × SoundZone automaton.now.bytes.now w.zone × Fits32 w.fraction }
-    ensures { Offers automaton.now.bytes.now capacity store.old turn (to automaton.now.bytes.now i) origin
-        (successor_of automaton.now.bytes.now i w) store.new result }
-{
-    let at = automaton.edge_at(i) + 3;
-    let met = narrow(automaton, at, automaton.clocks, w, false);
-    if let Some(safe) = met.emptied {
-        let work = met.work;
-        let exact = work.fraction;
-        return turn.emptied(exact, safe);
-    }
-    let resets = edge.resets;
-    arrive(
-        automaton, store, turn, capacity, edge.to, origin, met.work, resets,
-    )
-}
-
-// The edges of the kept zone of slot `parent`, in order, until the search stops.
-fn expand(
-    automaton: &Automaton,
-    store: &mut [i32],
-    turn: Turn,
-    capacity: usize,
-    parent: usize,
-    l: usize,
-    z: [Pair; 81],
-) -> Turn
-    requires going { Going automaton.now.bytes.now capacity store.old turn × SoundZone automaton.now.bytes.now z }
-    requires parent_kept { (parent < most_slots) × Few (suc (parent * 256)) turn.dropped }
-    ensures { (c : Came) (p : List ℕ) → Continues automaton.now.bytes.now capacity store.old turn
-        (expand (system_of automaton.now.bytes.now) (zones_of automaton.now.bytes.now) capacity parent (node_at l c p z)
-        (edges automaton.now.bytes.now) 0) store.new result }
-{
-    let mut t = turn;
-    let first = t.exact;
-    let mut w = Work {
-        zone: z,
-        fraction: first,
-    };
-    for i in 0..automaton.edges {
-        let edge = automaton.edge(i);
-        if edge.from == l {
-            let exact = t.exact;
-            w.fraction = exact;
-            let origin = Origin::along(parent, i);
-            t = follow(automaton, store, t, capacity, origin, i, edge, w);
+    // The kept zones, oldest first, each once, until nothing is left to take.
+    fn take(self, store: &mut [i32], turn: Turn) -> Turn
+        requires { Goes self 1 store.old turn }
+        ensures { Takes self.entry store.old turn store.new result }
+    {
+        let size = self.automaton.clocks + 1;
+        let stride = slot_length(size);
+        let mut t = turn;
+        let mut next = 0;
+        // Zones are kept while others are taken, so the count is no end that a range could name.
+        while next < t.count {
+            let at = next * stride;
+            let l = store[at] as usize;
+            let z = decode(&store[at..], size);
+            t = self.expand(store, t, next, l, z);
             if t.has_ended() {
                 return t;
             }
+            next += 1;
         }
+        t
     }
-    t
-}
-
-// The kept zones, oldest first, each once, until nothing is left to take.
-fn take(automaton: &Automaton, store: &mut [i32], turn: Turn, capacity: usize) -> Turn
-    requires { Going automaton.now.bytes.now capacity store.old turn × Few 1 turn.dropped }
-    ensures { Continues automaton.now.bytes.now capacity store.old turn
-        (take_from (system_of automaton.now.bytes.now) (zones_of automaton.now.bytes.now) capacity capacity 0) store.new result }
-{
-    let size = automaton.clocks + 1;
-    let stride = slot_length(size);
-    let mut t = turn;
-    let mut next = 0;
-    // Zones are kept while others are taken, so the count is no end that a range could name.
-    while next < t.count {
-        let at = next * stride;
-        let l = store[at] as usize;
-        let z = decode(&store[at..], size);
-        t = expand(automaton, store, t, capacity, next, l, z);
-        if t.has_ended() {
-            return t;
-        }
-        next += 1;
-    }
-    t
 }
 
 // How many slots a store has.
@@ -259,8 +225,10 @@ pub fn explore(automaton: &Automaton, store: &mut [i32]) -> Turn
     ensures { Shown (suc (clocks automaton.now.bytes.now)) store.old
         (state_of automaton.now.bytes.now (length store.old)) store.new result }
 {
-    let capacity = capacity_of(store.len(), automaton.clocks + 1);
-    let l = automaton.start();
+    let search = Search {
+        automaton,
+        capacity: capacity_of(store.len(), automaton.clocks + 1),
+    };
     let first = Turn {
         count: 0,
         exact: Fraction::NO_LIMIT,
@@ -271,18 +239,10 @@ pub fn explore(automaton: &Automaton, store: &mut [i32]) -> Turn
         },
         outcome: Outcome::Going,
     };
-    let t = arrive(
-        automaton,
-        store,
-        first,
-        capacity,
-        l,
-        Origin::none(),
-        Work::first(),
-        [false; 9],
-    );
+    let l = automaton.start();
+    let t = search.arrive(store, first, l, Origin::none(), Work::first(), [false; 9]);
     if t.has_ended() {
         return t;
     }
-    take(automaton, store, t, capacity)
+    search.take(store, t)
 }

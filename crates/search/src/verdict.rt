@@ -94,19 +94,20 @@ impl From<Verdict> for Numbers {
     }
 }
 
-// The verdict that numbers say.
-impl From<Numbers> for Verdict {
-    ghost from_gives = { λ x v. v ≡ verdict_of x };
-
-    fn from(x: Numbers) -> Verdict {
-        if x.kind == REACHED {
+impl Numbers {
+    // The verdict that numbers say: every kind but 0 counts as holding, and of sound numbers 1 is the only other.
+    pub fn verdict(self) -> Verdict
+        ensures { result ≡ verdict_of self }
+    {
+        if self.kind == REACHED {
             return Verdict::Reached;
         }
-        Verdict::Holds(Holding::from(Fraction { n: x.n, d: x.d }))
+        Verdict::Holds(Holding::from(Fraction {
+            n: self.n,
+            d: self.d,
+        }))
     }
-}
 
-impl Numbers {
     // Whether the numbers are those of a verdict.
     pub fn are_sound(self) -> bool
         ensures { result ≡ sound_numbers self }

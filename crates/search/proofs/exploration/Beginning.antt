@@ -13,7 +13,7 @@ use Rattle.zones.specs.Successors.{enter_of}
 use Rattle.zones.specs.Zones.{first_work}
 use Rattle.search.specs.declared.outcome.Outcome.TheVariants.{Going}
 use Rattle.search.specs.declared.outcome.Turn.{Turn}
-use Rattle.search.specs.Outcomes.{outcome_of, has_ended, Few}
+use Rattle.search.specs.Outcomes.{outcome_of, has_ended, most_offers}
 use Rattle.automata.specs.Accepted.{Accepted}
 use Rattle.automata.specs.Automata.{clocks, start, invariant_of}
 use Rattle.search.specs.Exploring.{Shown, Live, Offers, Continues}
@@ -33,8 +33,7 @@ use Rattle.search.proofs.exploration.Stores.{capacity_room, capacity_small}
 
 -- ---- what the first offer leaves
 pub record Begun (b : List ℕ) (capacity : ℕ) (s s' : List ℤ) (t' : Turn) : Type 0 where
-  pub goes_on : has_ended (outcome_of t'.outcome) ≡ false → exploring.Going b capacity s' t'
-  pub few : Few 1 t'.dropped
+  pub goes_on : has_ended (outcome_of t'.outcome) ≡ false → exploring.Going b capacity 1 s' t'
   pub stops : has_ended (outcome_of t'.outcome) ≡ true → Shown (suc (clocks b)) s (state_of b (length s)) s' t'
   pub rest : has_ended (outcome_of t'.outcome) ≡ false → {s'' : List ℤ} {t'' : Turn} →
       Continues b capacity s' t' (take_from (system_of b) (zones_of b) capacity capacity 0) s'' t'' →
@@ -66,8 +65,8 @@ module _ {b : List ℕ} (a : Accepted b) (s : List ℤ) {capacity : ℕ} (es : c
   unfolding origin_of
   none = refl
 
-  pub blank_going : exploring.Going b capacity s first_turn
-  blank_going = record { base = s; state = blank; live = blank-live; long = long; few = room }
+  pub blank_going : exploring.Going b capacity most_offers s first_turn
+  blank_going = record { base = s; state = blank; live = blank-live; long = long; few = room; dropped = record { few = omega arith } }
 
   module _ {r : Reduced} (er : r ≡ enter_of (clocks b) (invariant_of b (start b)) first_work) {o : Origin} (eo : o ≡ no_origin)
       {s' : List ℤ} {t' : Turn} (g : Offers b capacity s first_turn (start b) o r s' t') where
@@ -87,14 +86,20 @@ module _ {b : List ℕ} (a : Accepted b) (s : List ℤ) {capacity : ℕ} (es : c
 
     pub begun : Begun b capacity s s' t'
     begun = record {
-      goes_on = λ e. record { base = s; state = state; live = still shown (begin_sound b a capacity) e; long = long; few = room };
-      few = record {
-        few = omega (
-          arith,
-          shown.again,
-          shown.inside,
-          offer_drops (system_of b) (zones_of b) capacity blank (first_node (system_of b)) ((zones_of b).enter (zones_of b).top),
-        );
+      goes_on = λ e. record {
+        base = s;
+        state = state;
+        live = still shown (begin_sound b a capacity) e;
+        long = long;
+        few = room;
+        dropped = record {
+          few = omega (
+            arith,
+            shown.again,
+            shown.inside,
+            offer_drops (system_of b) (zones_of b) capacity blank (first_node (system_of b)) ((zones_of b).enter (zones_of b).top),
+          );
+        };
       };
       stops = stays (take-later (system_of b) (zones_of b) capacity capacity 0 state) whole shown;
       rest = λ e {s''} {t''} h. rw whole at (h.shows s state (still shown (begin_sound b a capacity) e));

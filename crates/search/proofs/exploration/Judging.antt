@@ -96,7 +96,7 @@ module _ (b : List ℕ) (a : Accepted b) where
       let c : turn.count ≤ capacity = omega (arith, d.shown.number, d.sound.most) in
       omega (arith, h, live-length h d.shown d.sound, mul-le-mul_right (slot_length n) c)
 
-  module _ {capacity : ℕ} {s : List ℤ} {turn : Turn} (i : exploring.Going b capacity s turn) where
+  module _ {capacity offers : ℕ} {s : List ℤ} {turn : Turn} (i : exploring.Going b capacity offers s turn) where
     pub going_length : length s ≡ length i.base
     going_length = live-length i.long i.live.shown i.live.sound
 
@@ -249,13 +249,12 @@ pub record Entered (b : List ℕ) (l : ℕ) (o : Origin) (w : Work) (capacity : 
   pub location : l < locations b
   pub away : l ≡ target b → ⊥
   pub sized : Sized last_counts (suc (clocks b)) w
-  pub progress : exploring.Going b capacity s turn
-  pub few : Few most_offers turn.dropped
+  pub progress : exploring.Going b capacity most_offers s turn
   pub size≡ : size ≡ suc (clocks b)
 
 -- by what `judge` requires
 pub enters : (A : Automaton) (o : Origin) {l : ℕ} {w : Work} {capacity : ℕ} {turn : Turn} {s : List ℤ} →
-    (l < locations A.bytes.now) × (l ≡ target A.bytes.now → ⊥) → exploring.Going A.bytes.now capacity s turn × Few most_offers turn.dropped →
+    (l < locations A.bytes.now) × (l ≡ target A.bytes.now → ⊥) → exploring.Going A.bytes.now capacity most_offers s turn →
     Sized last_counts (suc (clocks A.bytes.now)) w × Framed (suc (clocks A.bytes.now)) w.zone →
     Entered A.bytes.now l o w capacity turn s (A.clocks + 1)
 enters A o there going sized = record {
@@ -263,8 +262,7 @@ enters A o there going sized = record {
   location = there.0;
   away = there.1;
   sized = sized.0;
-  progress = going.0;
-  few = going.1;
+  progress = going;
   size≡ = size≡ A.counted;
 }
 
@@ -273,7 +271,7 @@ module _ {b : List ℕ} {l : ℕ} {o : Origin} {w : Work} {capacity : ℕ} {turn
   abbrev a : Accepted b
   a = entered.accepted
 
-  abbrev i : exploring.Going b capacity s turn
+  abbrev i : exploring.Going b capacity most_offers s turn
   i = entered.progress
 
   abbrev es : size ≡ suc (clocks b)
@@ -351,7 +349,7 @@ module _ {b : List ℕ} {l : ℕ} {o : Origin} {w : Work} {capacity : ℕ} {turn
 
       pub asks_drop : ComparableSlots slot (slot_lent L j s) (pair_count slot) × Fits32 w.fraction × Fits32 turn.safe ×
           Few most_offers turn.dropped
-      asks_drop = (asks_inside, entered.sized.narrow, going_safe b a i, entered.few)
+      asks_drop = (asks_inside, entered.sized.narrow, going_safe b a i, i.dropped)
 
       pub gives_inside : {r : Turn} → r ≡ contained_by turn w.fraction (inside_slots slot (slot_lent L j s) (pair_count slot))
           (equal_slots slot (slot_lent L j s) (pair_count slot)) → (p : Led o) → Continues b capacity s turn (op p) s r

@@ -16,8 +16,6 @@ use lib.Ieee.Nearest.{div_mono}
 use native.Mathlib.Nat.{mul-le-mul_right, le_trans, div-mul-le_self}
 use Rattle.zones.specs.declared.pair.Pair.{Pair}
 use Rattle.zones.specs.Containment.{within}
-use Rattle.runs.proofs.Contradictions.{true_false}
-use Rattle.zones.proofs.sets.Squares.{up_to}
 use Rattle.automata.specs.Automata.{clocks}
 use Rattle.search.specs.Exploring.{Hits, FirstHit}
 use Rattle.search.specs.Instance.{ZoneNode, zones_of}

@@ -32,9 +32,9 @@ module _ (c : After-first) where
   abbrev automaton : List ℕ
   automaton = c.args.automaton.now.bytes.now
 
-  capacity≡ : c.capacity_of-capacity.result ≡ capacity_of (suc (clocks automaton)) (length c.args.store.now)
+  capacity≡ : c.capacity_of.result ≡ capacity_of (suc (clocks automaton)) (length c.args.store.now)
   capacity≡ =
-      c.capacity_of-capacity.ensures
+      c.capacity_of.ensures
       ∙ ap (λ (n : ℕ). capacity_of n (length c.args.store.now)) (size≡ c.args.automaton.now.counted)
 
   -- what arrives is the definition's first zone
@@ -50,10 +50,7 @@ arrive-t-requires c =
     record {
       there = (rw c.start-l.ensures a.start<, blank_going a _ (capacity≡ (goal.at.arrive-t-requires c).After-first));
       sized = rw c.first.ensures (first_sized (10 * counts) _ (n≤ _ a), first_settled _ (n≤ _ a));
-      sound_result = (
-        subst (SoundResult _) (sym (arrived (goal.at.arrive-t-requires c).After-first)) (start-sound _ a),
-        record { few = omega arith },
-      );
+      sound_result = subst (SoundResult _) (sym (arrived (goal.at.arrive-t-requires c).After-first)) (start-sound _ a);
     }
 
 -- ---- after the first offer
@@ -61,9 +58,9 @@ module _ (c : After-arrive-t) where
   abbrev bytes : List ℕ
   bytes = c.args.automaton.now.bytes.now
 
-  room : c.capacity_of-capacity.result ≡ capacity_of (suc (clocks bytes)) (length c.args.store.now)
+  room : c.capacity_of.result ≡ capacity_of (suc (clocks bytes)) (length c.args.store.now)
   room =
-      c.capacity_of-capacity.ensures
+      c.capacity_of.ensures
       ∙ ap (λ (n : ℕ). capacity_of n (length c.args.store.now)) (size≡ c.args.automaton.now.counted)
 
   came : arrival_of bytes c.start-l.result (set_of (replicate 9 false)) c.first.result
@@ -72,7 +69,7 @@ module _ (c : After-arrive-t) where
       (λ i. enter_of (clocks bytes) (invariant_of bytes (c.start-l.ensures i))
       ((reset_none (suc (clocks bytes)) (set_of (replicate 9 false)) none_reset c.first.result ∙ c.first.ensures) i))
 
-  offered : Begun bytes c.capacity_of-capacity.result c.args.store.now c.arrive-t.new.store c.arrive-t.result
+  offered : Begun bytes c.capacity_of.result c.args.store.now c.arrive-t.new.store c.arrive-t.result
   offered =
       begun c.args.automaton.now.accepted _ room refl c.none.ensures
       (gives_of _ _ _ _ _ _ c.start-l.ensures came c.arrive-t.ensures)
@@ -82,10 +79,7 @@ returns-then-has_ended c =
     (offered (goal.at.returns-then-has_ended c).After-arrive-t).stops (sym c.has_ended.ensures ∙ c.if-has_ended.true)
 
 pub take-requires : goal.take-requires
-take-requires c = (
-  (offered (goal.at.take-requires c).After-arrive-t).goes_on (sym c.has_ended.ensures ∙ c.if-has_ended.false),
-  (offered (goal.at.take-requires c).After-arrive-t).few,
-)
+take-requires c = (offered (goal.at.take-requires c).After-arrive-t).goes_on (sym c.has_ended.ensures ∙ c.if-has_ended.false)
 
 pub returns : goal.returns
 returns c =
@@ -94,5 +88,5 @@ returns c =
 pub overflow_add-automaton : goal.overflow_add-automaton
 overflow_add-automaton c = omega (arith, few (goal.at.overflow_add-automaton c).Start)
 
-pub capacity_of-capacity-requires : goal.capacity_of-capacity-requires
-capacity_of-capacity-requires c = omega (arith, few (goal.at.capacity_of-capacity-requires c).Start)
+pub capacity_of-requires : goal.capacity_of-requires
+capacity_of-requires c = omega (arith, few (goal.at.capacity_of-requires c).Start)

@@ -11,7 +11,7 @@ use Rattle.search.proofs.successor.raise.Goals as goal
 
 pub loop-x-init : goal.loop-x-init
 unfolding raise_limits
-loop-x-init c = refl
+loop-x-init c = (refl, refl)
 
 pub limits-requires : goal.limits-requires
 limits-requires c = (omega arith, omega arith)
@@ -21,7 +21,9 @@ unfolding limits_at
 loop-x-preserved c =
     let inv = c.loop-x.invariant in
     let bound = c.at_most.ensures ∙ ap (λ (l : Limits). at_most l.hi) c.limits.ensures in
-    raise_more _ _ _ (omega arith) inv bound
+    (raise_more _ _ _ (omega arith) inv.0 bound, inv.1)
 
 pub returns : goal.returns
-returns c = raise_all _ _ _ (omega arith) c.loop-x.invariant
+returns c =
+    let inv = c.loop-x.invariant in
+    (λ i. record { zone = c.loop-x.work.zone; fraction = inv.1 i }) ∙ raise_all _ _ c.args.work.now (omega arith) inv.0

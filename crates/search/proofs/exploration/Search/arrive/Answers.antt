@@ -3,13 +3,13 @@
 use mathlib.Core.Path.{refl, sym, subst}
 use Rattle.search.specs.Exploring.{SoundResult}
 use Rattle.search.proofs.exploration.Arriving.{gives_of}
-use Rattle.search.proofs.exploration.arrive.Goals as goal
+use Rattle.search.proofs.exploration.Search.arrive.Goals as goal
 
 pub offer-requires : goal.offer-requires
 offer-requires c =
     record {
       there = c.requires.there.0;
-      going = (c.requires.there.1, subst (SoundResult _) (sym c.enter-entered.ensures) c.requires.sound_result.0, c.requires.sound_result.1);
+      going = (c.requires.there.1, subst (SoundResult _) (sym c.enter-entered.ensures) c.requires.sound_result);
     }
 
 pub returns : goal.returns

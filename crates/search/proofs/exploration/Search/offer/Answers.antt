@@ -3,11 +3,11 @@
 use mathlib.Core.Path.{sym, ap, ◌∙◌}
 use Rattle.std.specs.Prelude.{is_some}
 use Rattle.search.proofs.exploration.Judging.{lowers, going_safe, gives_empty, gives_target, gives_judged}
-use Rattle.search.proofs.exploration.offer.Goals as goal
+use Rattle.search.proofs.exploration.Search.offer.Goals as goal
 
 pub emptied-requires : goal.emptied-requires
 emptied-requires c =
-    (going_safe _ c.args.automaton.now.accepted c.requires.going.0, rw c.in-Some.is at c.requires.going.1.safe)
+    (going_safe _ c.args.self.automaton.now.accepted c.requires.going.0, rw c.in-Some.is at c.requires.going.1.safe)
 
 pub returns-in-Some : goal.returns-in-Some
 returns-in-Some c =
@@ -21,7 +21,7 @@ pub judge-requires : goal.judge-requires
 judge-requires c =
     record {
       there = (c.requires.there, λ e. c.if-l-target.false (e ∙ sym c.target.ensures));
-      going = (c.requires.going.0, c.requires.going.2);
+      going = c.requires.going.0;
       sized = (c.requires.going.1.sized (ap is_some c.in_default.is), c.requires.going.1.framed (ap is_some c.in_default.is));
     }
 

@@ -10,10 +10,10 @@ use Rattle.automata.specs.declared.fields.Edge.{Edge}
 use Rattle.reachability.specs.Search.{first_zone}
 use Rattle.search.specs.Instance.{work_of}
 use Rattle.search.proofs.exploration.Expanding.{Between, begins, passes, taken_fits, taken-sound, goes_on, offered_length, stops}
-use Rattle.search.proofs.exploration.Expanding.{between_going, between_few, ends}
+use Rattle.search.proofs.exploration.Expanding.{between_going, ends}
 use Rattle.search.proofs.exploration.Judging.{live-length, going_length}
-use Rattle.search.proofs.exploration.expand.Goals as goal
-use Rattle.search.proofs.exploration.expand.Goals.{After-edge-edge, then-edge-l+else-has_ended, else-edge-l}
+use Rattle.search.proofs.exploration.Search.expand.Goals as goal
+use Rattle.search.proofs.exploration.Search.expand.Goals.{After-edge-edge, then-edge-l+else-has_ended, else-edge-l}
 
 pub loop-i-init : goal.loop-i-init
 loop-i-init c =
@@ -24,8 +24,8 @@ edge-edge-requires c = omega arith
 
 -- ---- with the edge fetched
 module _ (c : After-edge-edge) where
-  within : c.loop-i.i < edges c.args.automaton.now.bytes.now
-  within = omega (arith, c.args.automaton.now.counted.edges≡)
+  within : c.loop-i.i < edges c.args.self.automaton.now.bytes.now
+  within = omega (arith, c.args.self.automaton.now.counted.edges≡)
 
   -- the zone with the running fraction
   abbrev taken : Work
@@ -34,34 +34,30 @@ module _ (c : After-edge-edge) where
   taken_is : taken ≡ work_of c.args.z c.loop-i.t.exact
   taken_is = λ k. record { zone = c.loop-i.invariant.0 k; fraction = c.loop-i.t.exact }
 
-  leaves : c.edge-edge.result.from ≡ c.args.l → from c.args.automaton.now.bytes.now c.loop-i.i ≡ c.args.l
+  leaves : c.edge-edge.result.from ≡ c.args.l → from c.args.self.automaton.now.bytes.now c.loop-i.i ≡ c.args.l
   leaves e = sym (ap (λ (e : Edge). e.from) c.edge-edge.ensures) ∙ e
 
   -- for a caller that asks of any state
-  some : Between c.args.automaton.now.bytes.now c.args.capacity c.args.parent c.args.l c.args.z first_zone []
+  some : Between c.args.self.automaton.now.bytes.now c.args.self.capacity c.args.parent c.args.l c.args.z first_zone []
       c.requires.going.0.base c.requires.going.0.state c.loop-i.i c.loop-i.store c.loop-i.t
   some = c.loop-i.invariant.1 first_zone [] c.requires.going.0.base c.requires.going.0.state c.requires.going.0.live
 
 pub along-origin-requires : goal.along-origin-requires
 along-origin-requires c = (
-  omega (arith, c.requires.parent_kept.0),
-  omega (arith, within (goal.at.along-origin-requires c).After-edge-edge, c.args.automaton.now.accepted.complete.edges≤),
+  omega (arith, c.requires.parent_kept),
+  omega (arith, within (goal.at.along-origin-requires c).After-edge-edge, c.args.self.automaton.now.accepted.complete.edges≤),
 )
 
 pub follow-t-requires : goal.follow-t-requires
 follow-t-requires c =
-    let a = c.args.automaton.now.accepted in
+    let a = c.args.self.automaton.now.accepted in
     let pre = c.requires.going in
     record {
-      there = (
-        within (goal.at.follow-t-requires c).After-edge-edge,
-        c.edge-edge.ensures,
-        between_few (some (goal.at.follow-t-requires c).After-edge-edge)
-            (omega (arith, pre.0.live.shown.again, pre.0.live.shown.inside, c.requires.parent_kept.1.few))
-            c.requires.parent_kept.0 (omega (arith, within (goal.at.follow-t-requires c).After-edge-edge, a.complete.edges≤)),
-      );
+      there = (within (goal.at.follow-t-requires c).After-edge-edge, c.edge-edge.ensures);
       going = (
-        between_going (some (goal.at.follow-t-requires c).After-edge-edge) pre.0.long pre.0.few,
+        between_going (some (goal.at.follow-t-requires c).After-edge-edge) pre.0.long pre.0.few
+            (omega (arith, pre.0.live.shown.again, pre.0.live.shown.inside, pre.0.dropped.few)) c.requires.parent_kept
+            (omega (arith, within (goal.at.follow-t-requires c).After-edge-edge, a.complete.edges≤)),
         taken-sound (some (goal.at.follow-t-requires c).After-edge-edge) (within (goal.at.follow-t-requires c).After-edge-edge) a pre.1
             (taken_is (goal.at.follow-t-requires c).After-edge-edge),
         taken_fits (some (goal.at.follow-t-requires c).After-edge-edge) (within (goal.at.follow-t-requires c).After-edge-edge) a pre.1
@@ -71,7 +67,7 @@ follow-t-requires c =
 
 pub shape_of-store-then-has_ended : goal.shape_of-store-then-has_ended
 shape_of-store-then-has_ended c =
-    let a = c.args.automaton.now.accepted in
+    let a = c.args.self.automaton.now.accepted in
     let pre = c.requires.going in
     offered_length (some (goal.at.shape_of-store-then-has_ended c).After-edge-edge)
     (within (goal.at.shape_of-store-then-has_ended c).After-edge-edge) a pre.1
@@ -82,7 +78,7 @@ shape_of-store-then-has_ended c =
 
 pub returns-then-has_ended : goal.returns-then-has_ended
 returns-then-has_ended c =
-    let a = c.args.automaton.now.accepted in
+    let a = c.args.self.automaton.now.accepted in
     let pre = c.requires.going in
     λ x p. record {
       shows = λ s₀ q₀ h. stops (c.loop-i.invariant.1 x p s₀ q₀ h) (within (goal.at.returns-then-has_ended c).After-edge-edge) a pre.1
@@ -93,7 +89,7 @@ returns-then-has_ended c =
 
 pub loop-i-preserved : goal.loop-i-preserved
 loop-i-preserved c =
-    let a = c.args.automaton.now.accepted in
+    let a = c.args.self.automaton.now.accepted in
     let pre = c.requires.going in (
       elim c.if-edge-l.branch [
         | then-edge-l+else-has_ended x ↦ ap (λ (v : Work). v.zone) x.w-is ∙ c.loop-i.invariant.0
@@ -114,7 +110,7 @@ loop-i-preserved c =
 
 pub shape_of-store : goal.shape_of-store
 shape_of-store c =
-    let a = c.args.automaton.now.accepted in
+    let a = c.args.self.automaton.now.accepted in
     let pre = c.requires.going in
     let between = c.loop-i.invariant.1 first_zone [] pre.0.base pre.0.state pre.0.live in
     live-length _ a pre.0.long between.live.shown between.live.sound ∙ sym (going_length _ a pre.0)
@@ -122,5 +118,5 @@ shape_of-store c =
 pub returns : goal.returns
 returns c =
     λ x p. record {
-      shows = λ s₀ q₀ h. ends (c.loop-i.invariant.1 x p s₀ q₀ h) (omega (arith, c.args.automaton.now.counted.edges≡));
+      shows = λ s₀ q₀ h. ends (c.loop-i.invariant.1 x p s₀ q₀ h) (omega (arith, c.args.self.automaton.now.counted.edges≡));
     }

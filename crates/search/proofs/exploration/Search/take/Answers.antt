@@ -13,44 +13,44 @@ use Rattle.slots.specs.Slots.{slot_length}
 use Rattle.automata.proofs.fields.Counting.{size≡, few_clocks}
 use Rattle.search.proofs.exploration.Judging.{live-length, going_length}
 use Rattle.search.proofs.exploration.Taking.{read_location, reads_location, Onward, Turned, begins, ends, onward, few, slot_inside, location}
-use Rattle.search.proofs.exploration.Taking.{asks_decode, onward_few, sound_zone, turned}
+use Rattle.search.proofs.exploration.Taking.{asks_decode, sound_zone, turned}
 use borrow.Author.Rules.{rules}
-use Rattle.search.proofs.exploration.take.Goals as goal
-use Rattle.search.proofs.exploration.take.Goals.{Start, After-expand-t, At-loop-next, In-loop-next}
+use Rattle.search.proofs.exploration.Search.take.Goals as goal
+use Rattle.search.proofs.exploration.Search.take.Goals.{Start, After-expand-t, At-loop-next, In-loop-next}
 
-few_of : (c : Start) → c.args.automaton.now.clocks ≤ 8
-few_of c = few_clocks c.args.automaton.now.counted c.args.automaton.now.accepted
+few_of : (c : Start) → c.args.self.automaton.now.clocks ≤ 8
+few_of c = few_clocks c.args.self.automaton.now.counted c.args.self.automaton.now.accepted
 
 pub loop-next-init : goal.loop-next-init
 loop-next-init c =
-    let size = size≡ c.args.automaton.now.counted in
+    let size = size≡ c.args.self.automaton.now.counted in
     (size, c.slot_length-stride.ensures ∙ ap slot_length size, λ s₀ q₀ h. begins _ _ h)
 
 -- ---- at the head of the loop
 module _ (c : At-loop-next) where
-  on : Onward c.args.automaton.now.bytes.now c.args.capacity c.requires.0.base c.requires.0.state c.loop-next.next c.loop-next.store c.loop-next.t
-  on = c.loop-next.invariant.2 c.requires.0.base c.requires.0.state c.requires.0.live
+  on : Onward c.args.self.automaton.now.bytes.now c.args.self.capacity c.requires.base c.requires.state c.loop-next.next c.loop-next.store c.loop-next.t
+  on = c.loop-next.invariant.2 c.requires.base c.requires.state c.requires.live
 
-  at_entry : length c.args.store.now ≡ length c.requires.0.base
-  at_entry = going_length _ c.args.automaton.now.accepted c.requires.0
+  at_entry : length c.args.store.now ≡ length c.requires.base
+  at_entry = going_length _ c.args.self.automaton.now.accepted c.requires
 
   now : length c.loop-next.store ≡ length c.args.store.now
-  now = live-length _ c.args.automaton.now.accepted c.requires.0.long on.live.shown on.live.sound ∙ sym at_entry
+  now = live-length _ c.args.self.automaton.now.accepted c.requires.long on.live.shown on.live.sound ∙ sym at_entry
 
 -- ---- in a turn
 module _ (c : In-loop-next) where
   abbrev place : ℕ
   place = c.loop-next.next * c.slot_length-stride.result
 
-  place≡ : place ≡ c.loop-next.next * slot_length (suc (clocks c.args.automaton.now.bytes.now))
+  place≡ : place ≡ c.loop-next.next * slot_length (suc (clocks c.args.self.automaton.now.bytes.now))
   place≡ = ap (λ (x : ℕ). c.loop-next.next * x) c.loop-next.invariant.1
 
-  inside : place + slot_length (suc (clocks c.args.automaton.now.bytes.now)) ≤ length c.loop-next.store
-  inside = slot_inside c.args.automaton.now.accepted
-      (c.loop-next.invariant.2 c.requires.0.base c.requires.0.state c.requires.0.live) c.loop-next-test.true place≡ c.requires.0.long
+  inside : place + slot_length (suc (clocks c.args.self.automaton.now.bytes.now)) ≤ length c.loop-next.store
+  inside = slot_inside c.args.self.automaton.now.accepted
+      (c.loop-next.invariant.2 c.requires.base c.requires.state c.requires.live) c.loop-next-test.true place≡ c.requires.long
 
-  below : c.loop-next.next < c.args.capacity
-  below = few c.args.automaton.now.accepted (c.loop-next.invariant.2 c.requires.0.base c.requires.0.state c.requires.0.live) c.loop-next-test.true
+  below : c.loop-next.next < c.args.self.capacity
+  below = few c.args.self.automaton.now.accepted (c.loop-next.invariant.2 c.requires.base c.requires.state c.requires.live) c.loop-next-test.true
 
 pub slice_copy_out-l : goal.slice_copy_out-l
 slice_copy_out-l c = omega (arith, inside (goal.at.slice_copy_out-l c).In-loop-next)
@@ -60,42 +60,39 @@ slice_bounds-decode-start c = omega (arith, inside (goal.at.slice_bounds-decode-
 
 pub decode-z-requires : goal.decode-z-requires
 decode-z-requires c =
-    let q = asks_decode c.args.automaton.now.accepted (on (goal.at.decode-z-requires c).At-loop-next) c.loop-next-test.true
-    (place≡ (goal.at.decode-z-requires c).In-loop-next) c.requires.0.long in
+    let q = asks_decode c.args.self.automaton.now.accepted (on (goal.at.decode-z-requires c).At-loop-next) c.loop-next-test.true
+    (place≡ (goal.at.decode-z-requires c).In-loop-next) c.requires.long in
     rw c.loop-next.invariant.0 (record { size_bound = q.0; counts_natural = q.1 })
 
 pub expand-t-requires : goal.expand-t-requires
 expand-t-requires c =
-    let a = c.args.automaton.now.accepted in
+    let a = c.args.self.automaton.now.accepted in
     let pre = c.requires in
     record {
+      parent_kept = omega (arith, below (goal.at.expand-t-requires c).In-loop-next, pre.few);
       going = (
-        onward a (on (goal.at.expand-t-requires c).At-loop-next) c.loop-next-test.true pre.0.long pre.0.few,
+        onward a (on (goal.at.expand-t-requires c).At-loop-next) c.loop-next-test.true pre.long pre.few
+            (omega (arith, pre.live.shown.again, pre.live.shown.inside, pre.dropped.few)),
         sound_zone a (on (goal.at.expand-t-requires c).At-loop-next) c.loop-next-test.true (place≡ (goal.at.expand-t-requires c).In-loop-next)
             (rw c.loop-next.invariant.0 at c.decode-z.ensures),
-      );
-      parent_kept = (
-        omega (arith, below (goal.at.expand-t-requires c).In-loop-next, pre.0.few),
-        onward_few a (on (goal.at.expand-t-requires c).At-loop-next) c.loop-next-test.true
-            (omega (arith, pre.0.live.shown.again, pre.0.live.shown.inside, pre.1.few)),
       );
     }
 
 -- ---- after the expansion
 module _ (c : After-expand-t) where
   expanded : (s₀ : List ℤ) (q₀ : ZoneState) →
-      Live c.args.automaton.now.bytes.now c.args.capacity s₀ q₀ c.args.store.now c.args.turn →
-      Turned c.args.automaton.now.bytes.now c.args.capacity s₀ q₀ c.loop-next.next c.expand-t.new.store c.expand-t.result
+      Live c.args.self.automaton.now.bytes.now c.args.self.capacity s₀ q₀ c.args.store.now c.args.turn →
+      Turned c.args.self.automaton.now.bytes.now c.args.self.capacity s₀ q₀ c.loop-next.next c.expand-t.new.store c.expand-t.result
   expanded s₀ q₀ h =
       let w = c.loop-next.invariant.2 s₀ q₀ h in
-      let there = location c.args.automaton.now.accepted w c.loop-next-test.true (ap (λ (x : ℕ). c.loop-next.next * x) c.loop-next.invariant.1) in
-      turned c.args.automaton.now.accepted w c.loop-next-test.true (ap (λ (x : ℕ). c.loop-next.next * x) c.loop-next.invariant.1)
+      let there = location c.args.self.automaton.now.accepted w c.loop-next-test.true (ap (λ (x : ℕ). c.loop-next.next * x) c.loop-next.invariant.1) in
+      turned c.args.self.automaton.now.accepted w c.loop-next-test.true (ap (λ (x : ℕ). c.loop-next.next * x) c.loop-next.invariant.1)
       (rw c.loop-next.invariant.0 at c.decode-z.ensures)
       (read_location (search rules) there) c.expand-t.ensures
 
 pub shape_of-store-then-has_ended : goal.shape_of-store-then-has_ended
 shape_of-store-then-has_ended c =
-    let going = c.requires.0 in
+    let going = c.requires in
     (expanded (goal.at.shape_of-store-then-has_ended c).After-expand-t _ _ going.live).same_length going.long
     ∙ sym (at_entry (goal.at.shape_of-store-then-has_ended c).At-loop-next)
 
@@ -132,7 +129,7 @@ slot_length-stride-requires c = omega (arith, few_of (goal.at.slot_length-stride
 
 pub overflow_cast-l : goal.overflow_cast-l
 overflow_cast-l c =
-    reads_location (search rules) (location c.args.automaton.now.accepted (on (goal.at.overflow_cast-l c).At-loop-next) c.loop-next-test.true
+    reads_location (search rules) (location c.args.self.automaton.now.accepted (on (goal.at.overflow_cast-l c).At-loop-next) c.loop-next-test.true
     (place≡ (goal.at.overflow_cast-l c).In-loop-next))
 
 pub offset_bounds-store-at-in-loop-next : goal.offset_bounds-store-at-in-loop-next
