@@ -32,6 +32,7 @@ const COUNTS: u64 = 65535;
 const SLOTS: usize = 2147483647;
 
 // The number of the oldest kept slot of the same location that contains the new one.
+#[tactic(auto, using(crate::proofs::exploration::Stores::finding))]
 fn find(store: &[i32], new: &[i32], count: usize, size: usize) -> Option<usize>
     requires { (size ≤ 9) × (count * slot_length size ≤ length store.now) × (length new.now ≡ slot_length size) }
     ensures { MatchOption result (FirstHit size new.now store.now count count)
@@ -49,6 +50,7 @@ fn find(store: &[i32], new: &[i32], count: usize, size: usize) -> Option<usize>
 }
 
 // The new zone is dropped inside the old one, which contains it: the test's thresholds lower both fractions.
+#[tactic(auto, using(slots::proofs::slot::Loops::slots_fit))]
 fn drop_inside(turn: Turn, exact: Fraction, new: &[i32], old: &[i32]) -> Turn
     requires { ComparableSlots new.now old.now (pair_count new.now) × Fits32 exact × Fits32 turn.safe × Few most_offers turn.dropped }
     ensures { result ≡ contained_by turn exact (inside_slots new.now old.now (pair_count new.now))

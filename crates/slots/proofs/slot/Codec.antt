@@ -9,31 +9,28 @@ use borrow.Author.Tests.{lt-ltb, le-ltb, ltb-true, ltb-false}
 use lib.Dec.{ltb}
 use lib.IntN.{ℤ, pos}
 use lib.ListN.{length, get_or, take, set, length-append, length-set, length-replicate, get_or-replicate}
-use Rattle.std.proofs.lemmas.List.{get_or-take}
 use lib.Seq.{take_at, get_or_at, append_snoc, get_or-set_same, get_or-set_other, ext_get_or}
-use lib.Signed.{◌≤ℤ◌}
+use lib.Signed.{◌≤ℤ◌, ◌<ℤ◌}
 use native.Mathlib.Decide.{ℕ_discrete, dec_lt}
 use native.Mathlib.Nat.{not-suc-le-zero}
 use native.Mathlib.Omega.{arith}
 use Rattle.zones.specs.declared.pair.Pair.{Pair}
 use Rattle.zones.specs.Containment.{place_of, compare_at, every_to, within, equal, inside_to, inside_below, count_to, largest_count}
 use Rattle.zones.specs.Integers.{up}
-use Rattle.zones.proofs.pairs.Integers.{le_make}
+use Rattle.zones.proofs.pairs.Integers.{int, le_make}
 use Rattle.zones.specs.Fractions.{lowered_by}
 use Rattle.std.specs.Ordering.{MatchOrdering, ordering_then, int_cmp, nat_cmp}
 use Rattle.std.proofs.lemmas.Cmp.{ranked}
-use Rattle.zones.proofs.pairs.Integers.{int}
+use Rattle.std.proofs.lemmas.List.{get_or-take}
 use Rattle.std.specs.declared.cmp.Ordering.{Ordering}
 use Rattle.std.specs.declared.cmp.Ordering.TheVariants.{Less, Equal, Greater}
-use lib.Signed.{◌<ℤ◌}
 use Rattle.std.specs.Cmp.{int_cmp_is}
 use Rattle.zones.specs.Pairs.{zero_pair, compare_of, is_at_most, is_equal, threshold_of}
 use Rattle.zones.specs.Ranges.{AllBounded, Bounded}
 use Rattle.zones.proofs.places.Inside.{bounded_place}
 use Rattle.zones.proofs.sets.Squares.{up_to}
 use Rattle.slots.specs.Slots.{fields, slot_length, m_at, p_at, pairs_to, pairs_of, flat, head_of, slot_of, slot_location, slot_pair, counted}
-use Rattle.slots.specs.Slots.{pair_count, square_to}
-use Rattle.slots.specs.Slots.{slot_origin, zone_of, Framed}
+use Rattle.slots.specs.Slots.{slot_origin, pair_count, square_to, zone_of, Framed}
 use Rattle.slots.specs.declared.slot.Origin.{Origin}
 use Rattle.slots.specs.Containing.{compare_numbers, every_pair, within_slots, equal_slots, inside_slots, largest_slot, Readable}
 
