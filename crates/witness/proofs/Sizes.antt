@@ -8,11 +8,11 @@ use Rattle.zones.specs.declared.pair.Pair.{Pair}
 use Rattle.zones.specs.Integers.{up, down}
 use Rattle.zones.specs.Zones.{pair_at}
 use Rattle.zones.proofs.pairs.Integers.{abs_law}
-use Rattle.witness.specs.Witnesses.{clocks_of, plus_bound, wait_to, earlier_of, least_to, back_of, landing_of}
-use Rattle.witness.specs.Sizes.{AllUpTo, Spans, IsState}
-use Rattle.witness.proofs.States.{state_size}
+use Rattle.witness.specs.Witnesses.{clocks_of, plus_bound, places_of, wait_to, earlier_of, least_to, state_before}
+use Rattle.witness.specs.Sizes.{AllUpTo, Spans}
+use Rattle.witness.proofs.States.{state_most}
 
-wait_most : (C n : ℕ) (v : List ℕ) (a : List Pair) → AllUpTo C v → Spans C n a → (k : ℕ) → k ≤ n - 1 → wait_to v a k ≤ 2 * C
+pub wait_most : (C n : ℕ) (v : List ℕ) (a : List Pair) → AllUpTo C v → Spans C n a → (k : ℕ) → k ≤ n - 1 → wait_to v a k ≤ 2 * C
 unfolding wait_to
 wait_most C n v a m s zero h = omega arith
 wait_most C n v a m s (suc k) h =
@@ -36,22 +36,14 @@ least_most u g R x (suc k) = go (least_most u g R x k) (R (suc k))
     go h false = omega arith
 
 module _ (C n : ℕ) (n≤ : n ≤ 9) where
-  pub earlier_size : (v : List ℕ) (t : ℕ) → AllUpTo C v → IsState C n (earlier_of v t (n - 1))
-  earlier_size v t m = state_size (λ x. clocks_of v x - t) C n n≤ (λ x px hx. omega (arith, m x))
+  pub earlier_most : (v : List ℕ) (t : ℕ) → AllUpTo C v → AllUpTo C (earlier_of v t (n - 1))
+  earlier_most v t m = state_most (λ x. clocks_of v x - t) C n n≤ (λ x px hx. omega (arith, m x))
 
-  pub landing_size : (a : List Pair) → Spans C n a → IsState C n (landing_of a n)
-  unfolding landing_of
-  landing_size a s =
-      state_size (λ x. down (pair_at a 0 x).m) C n n≤ (λ x px hx. omega (arith, s 0 x (omega arith) hx, abs_law (pair_at a 0 x).m))
+  pub landing_most : (a : List Pair) → Spans C n a → AllUpTo C (places_of (λ x. down (pair_at a 0 x).m) (n - 1))
+  landing_most a s =
+      state_most (λ x. down (pair_at a 0 x).m) C n n≤ (λ x px hx. omega (arith, s 0 x (omega arith) hx, abs_law (pair_at a 0 x).m))
 
-  module _ (v : List ℕ) (a g : List Pair) (R : ℕ → Bool) where
-    pub back_size : Spans C n g → IsState C n (back_of v a g R n).state
-    unfolding back_of
-    back_size s =
-        let u = earlier_of v (wait_to v a (n - 1)) (n - 1) in
-        state_size (λ x. least_to u g R x (n - 1)) C n n≤
-        (λ x px hx. omega (arith, least_most u g R x (n - 1), s x 0 hx (omega arith), abs_law (pair_at g x 0).m))
-
-    pub back_wait : AllUpTo C v → Spans C n a → (back_of v a g R n).wait ≤ 2 * C
-    unfolding back_of
-    back_wait m s = wait_most C n v a m s (n - 1) (omega arith)
+  pub before_most : (u : List ℕ) (g : List Pair) (R : ℕ → Bool) → Spans C n g → AllUpTo C (state_before u g R (n - 1))
+  before_most u g R s =
+      state_most (λ x. least_to u g R x (n - 1)) C n n≤
+      (λ x px hx. omega (arith, least_most u g R x (n - 1), s x 0 hx (omega arith), abs_law (pair_at g x 0).m))
