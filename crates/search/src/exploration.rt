@@ -171,8 +171,7 @@ fn follow(
     ensures { Offers automaton.now.bytes.now capacity store.old turn (to automaton.now.bytes.now i) origin
         (successor_of automaton.now.bytes.now i w) store.new result }
 {
-    let at = automaton.edge_at(i) + 3;
-    let met = narrow(automaton, at, automaton.clocks, w, false);
+    let met = narrow(&automaton.guard(i), w, false);
     if let Some(safe) = met.emptied {
         let work = met.work;
         let exact = work.fraction;

@@ -1,5 +1,5 @@
 // How a zone goes from location to location, with the limits fetched from the lent bytes.
-ghost use Rattle.std.specs.Prelude.{◌≡◌, true, suc, ◌+◌, ◌*◌, ◌≤◌, ◌<◌, length};
+ghost use Rattle.std.specs.Prelude.{◌≡◌, true, suc, ◌*◌, ◌<◌};
 ghost use Rattle.zones.specs.Ranges.{Sized, OnScale, counts, step_counts};
 ghost use Rattle.runs.specs.Limits.{scale};
 ghost use Rattle.zones.specs.Settled.{Settled};
@@ -9,6 +9,7 @@ ghost use Rattle.automata.specs.Automata.{clocks, locations, limits_at};
 ghost use Rattle.search.specs.Exploring.{arrival_of};
 ghost use Rattle.search.specs.Meeting.{MetBy};
 
+use automata::constraint::Constraint;
 use automata::opened::Automaton;
 use zones::pair::Pair;
 use zones::reduction::Reduced;
@@ -21,16 +22,16 @@ struct Met {
     settled: bool,
 }
 
-// The limits at `at` of c clocks are met, clock by clock. A settled zone stays settled where they lower no entry.
-fn meet(automaton: &Automaton, at: usize, c: usize, w: Work, settled: bool) -> Met
-    requires few_clocks { (c ≤ 8) × (at + 8 * c ≤ length automaton.now.bytes.now) }
-    requires on_scale { OnScale scale c (limits_at automaton.now.bytes.now at) × Sized step_counts (suc c) w }
-    ensures { MetBy (limits_at automaton.now.bytes.now at) c w «settled» result }
+// The limits are met, clock by clock. A settled zone stays settled where they lower no entry.
+fn meet(constraint: &Constraint, w: Work, settled: bool) -> Met
+    requires on_scale { OnScale scale constraint.now.clocks (limits_at constraint.now.bytes.now constraint.now.at)
+        × Sized step_counts (suc constraint.now.clocks) w }
+    ensures { MetBy (limits_at constraint.now.bytes.now constraint.now.at) constraint.now.clocks w «settled» result }
 {
     let mut work = w;
     let mut same = settled;
-    for x in 1..c + 1 {
-        let limits = automaton.limits(at, x);
+    for x in 1..constraint.clocks + 1 {
+        let limits = constraint.limits(x);
         let there = Bounds {
             upper: work.zone[x * 9],
             lower: work.zone[x],
@@ -53,27 +54,27 @@ fn meet(automaton: &Automaton, at: usize, c: usize, w: Work, settled: bool) -> M
     }
 }
 
-// The limits at `at` are met, and the zone is reduced. A settled zone is its own reduction: every middle index is left out.
-pub fn narrow(automaton: &Automaton, at: usize, c: usize, w: Work, settled: bool) -> Reduced
-    requires few_clocks { (c ≤ 8) × (at + 8 * c ≤ length automaton.now.bytes.now) }
-    requires on_scale { OnScale scale c (limits_at automaton.now.bytes.now at) × Sized step_counts (suc c) w }
-    requires settled { «settled» ≡ true → Settled (suc c) w }
-    ensures { result ≡ meet_of c (limits_at automaton.now.bytes.now at) w }
+// The limits are met, and the zone is reduced. A settled zone is its own reduction: every middle index is left out.
+pub fn narrow(constraint: &Constraint, w: Work, settled: bool) -> Reduced
+    requires on_scale { OnScale scale constraint.now.clocks (limits_at constraint.now.bytes.now constraint.now.at)
+        × Sized step_counts (suc constraint.now.clocks) w }
+    requires settled { «settled» ≡ true → Settled (suc constraint.now.clocks) w }
+    ensures { result ≡ meet_of constraint.now.clocks (limits_at constraint.now.bytes.now constraint.now.at) w }
 {
-    let met = meet(automaton, at, c, w, settled);
-    let first = if met.settled { c + 1 } else { 0 };
-    met.work.reduce_from(c + 1, first)
+    let size = constraint.clocks + 1;
+    let met = meet(constraint, w, settled);
+    let first = if met.settled { size } else { 0 };
+    met.work.reduce_from(size, first)
 }
 
-// Each entry (clock, 0) is put to (hi, 1), hi among the limits at `at`.
-fn raise(automaton: &Automaton, at: usize, c: usize, w: Work) -> Work
-    requires few_clocks { (c ≤ 8) × (at + 8 * c ≤ length automaton.now.bytes.now) }
-    ensures { result ≡ raise_limits (limits_at automaton.now.bytes.now at) c w }
+// Each entry (clock, 0) is put to (hi, 1), hi among the limits.
+fn raise(constraint: &Constraint, w: Work) -> Work
+    ensures { result ≡ raise_limits (limits_at constraint.now.bytes.now constraint.now.at) constraint.now.clocks w }
 {
     let fraction = w.fraction;
     let mut z = w.zone;
-    for x in 1..c + 1 {
-        z[x * 9] = Pair::at_most(automaton.limits(at, x).hi);
+    for x in 1..constraint.clocks + 1 {
+        z[x * 9] = Pair::at_most(constraint.limits(x).hi);
     }
     Work { zone: z, fraction }
 }
@@ -84,13 +85,11 @@ pub(crate) fn enter(automaton: &Automaton, l: usize, w: Work, resets: [bool; 9])
     requires sized { Sized (10 * counts) (suc (clocks automaton.now.bytes.now)) w × Settled (suc (clocks automaton.now.bytes.now)) w }
     ensures { result ≡ arrival_of automaton.now.bytes.now l (set_of resets) w }
 {
-    let c = automaton.clocks;
-    let at = automaton.invariant_at(l);
-    let cleared = w.reset(c + 1, resets);
-    let met = narrow(automaton, at, c, cleared, true);
+    let size = automaton.clocks + 1;
+    let invariant = automaton.invariant(l);
+    let met = narrow(&invariant, w.reset(size, resets), true);
     if met.emptied.is_some() {
         return met;
     }
-    let raised = raise(automaton, at, c, met.work);
-    raised.reduce_raised(c + 1)
+    raise(&invariant, met.work).reduce_raised(size)
 }

@@ -33,7 +33,9 @@ use Rattle.zones.proofs.settled.Settled.{settled_reduced}
 use Rattle.zones.proofs.settled.Settling.{reduced_settled, reset_settled, limits_settled}
 use Rattle.zones.proofs.sets.Moving.{then_empty, then_live}
 use Rattle.automata.specs.Accepted.{Accepted}
-use Rattle.automata.specs.Automata.{clocks, locations, edges, reset_byte, limits_at, invariant_of, guard_of, resets_of, in_byte, firsts, reset_set}
+use Rattle.automata.specs.Constraints.{Constrains}
+use Rattle.automata.specs.declared.constraint.Constraint.{Constraint}
+use Rattle.automata.specs.Automata.{clocks, locations, edges, reset_byte, limits_at, invariant_at, invariant_of, guard_of, resets_of, in_byte, firsts, reset_set}
 use Rattle.automata.proofs.accepting.Accepting.{unreset}
 use Rattle.automata.proofs.fields.Resets.{resets_at}
 
@@ -192,20 +194,63 @@ module _ (b : List ℕ) (a : Accepted b) where
           get_or-eq_default (reset_set (reset_byte b i)) false (omega (arith, set-length (reset_byte b i)))
           ∙ sym (unreset _ a i x h (omega (arith, a.complete.clocks≤)))
 
--- ---- the same, as the code fetches counts and places
+-- ---- a constraint, as the code fetches it
 pub one_more : {n m : ℕ} → n ≡ m → n + 1 ≡ suc m
 one_more e = omega arith
 
-pub meets : (b : List ℕ) (w : Work) {at at' n n' : ℕ} {r : Reduced} → at ≡ at' → n ≡ n' → r ≡ meet_of n (limits_at b at) w →
-    r ≡ meet_of n' (limits_at b at') w
-meets b w e f g = g ∙ (λ i. meet_of (f i) (limits_at b (e i)) w)
+module _ {b : List ℕ} {at : ℕ} {c : Constraint} (k : Constrains b at c) where
+  pub meets : (w : Work) {r : Reduced} → r ≡ meet_of c.clocks (limits_at c.bytes.now c.at) w → r ≡ meet_of (clocks b) (limits_at b at) w
+  meets w g = g ∙ (λ i. meet_of (k.clocks≡ i) (limits_at (k.bytes≡ i) (k.at≡ i)) w)
 
-pub raises : (b : List ℕ) (w : Work) {at at' n n' : ℕ} {u : Work} → at ≡ at' → n ≡ n' → u ≡ raise_limits (limits_at b at) n w →
-    u ≡ raise_limits (limits_at b at') n' w
-raises b w e f g = g ∙ (λ i. raise_limits (limits_at b (e i)) (f i) w)
+  pub raises : (w : Work) {u : Work} → u ≡ raise_limits (limits_at c.bytes.now c.at) c.clocks w → u ≡ raise_limits (limits_at b at) (clocks b) w
+  raises w g = g ∙ (λ i. raise_limits (limits_at (k.bytes≡ i) (k.at≡ i)) (k.clocks≡ i) w)
 
--- what `narrow` asks, of the limits at a place
-pub asks_limits : (b : List ℕ) (w : Work) {at at' n n' P : ℕ} → at ≡ at' → n ≡ n' → n' ≤ 8 →
-    at' + 8 * n' ≤ length b → OnScale scale n' (limits_at b at') → P ≤ step_counts → Sized P (suc n') w →
-    ((n ≤ 8) × (at + 8 * n ≤ length b)) × (OnScale scale n (limits_at b at) × Sized step_counts (suc n) w)
-asks_limits b w {P = P} e f h k o p r = rw (e, f) ((h, k), (o, sized_more P step_counts (suc _) w p r))
+  -- what `narrow` asks
+  pub asks_limits : (w : Work) (P : ℕ) → OnScale scale (clocks b) (limits_at b at) → P ≤ step_counts → Sized P (suc (clocks b)) w →
+      OnScale scale c.clocks (limits_at c.bytes.now c.at) × Sized step_counts (suc c.clocks) w
+  asks_limits w P o p r = rw (k.clocks≡, k.bytes≡, k.at≡) (o, sized_more P step_counts (suc (clocks b)) w p r)
+
+-- a settled zone is reset and comes to location l, whose invariant is I
+module _ (b : List ℕ) (a : Accepted b) (l : ℕ) (hl : l < locations b) (w : Work)
+    (h : Sized (10 * counts) (suc (clocks b)) w × Settled (suc (clocks b)) w) (S : ℕ → Bool)
+    {I : Constraint} (k : Constrains b (invariant_at b l) I) where
+  abbrev cleared : Work
+  cleared = reset_of (suc (clocks b)) S w
+
+  pub cleared_ready : Sized (10 * counts) (suc (clocks b)) cleared × Settled (suc (clocks b)) cleared
+  cleared_ready =
+      reset_enters (clocks b) a.complete.clocks≤ w refl (10 * counts) (omega arith) (omega arith) S refl h
+
+  -- u is what the code makes of it, and r what `narrow` gives
+  module _ {n : ℕ} (n≡ : n ≡ clocks b) {u : Work} (e : u ≡ reset_of (n + 1) S w) where
+    cleared≡ : u ≡ cleared
+    cleared≡ = e ∙ (λ i. reset_of (one_more n≡ i) S w)
+
+    pub arrival_asks : OnScale scale I.clocks (limits_at I.bytes.now I.at) × Sized step_counts (suc I.clocks) u
+    unfolding invariant_of
+    arrival_asks = asks_limits k u (10 * counts) (invariant_scale b a l hl) (omega arith) (rw cleared≡ cleared_ready.0)
+
+    pub arrival_settled : Settled (suc I.clocks) u
+    arrival_settled = rw (k.clocks≡, cleared≡) cleared_ready.1
+
+    pub arrival_met : {r : Reduced} → r ≡ meet_of I.clocks (limits_at I.bytes.now I.at) u → r ≡ meet_of (clocks b) (invariant_of b l) cleared
+    unfolding invariant_of
+    arrival_met g = meets k u g ∙ ap (meet_of (clocks b) (invariant_of b l)) cleared≡
+
+  -- r is what `narrow` leaves of it, not empty, and v the wait in it
+  module _ {r : Reduced} (met : r ≡ meet_of (clocks b) (invariant_of b l) cleared) (live : is_empty r ≡ false) {v : Work}
+      (up : v ≡ raise_limits (limits_at I.bytes.now I.at) I.clocks r.work) {n : ℕ} (n≡ : n ≡ clocks b) where
+    raised : v ≡ raise_limits (invariant_of b l) (clocks b) r.work
+    unfolding invariant_of
+    raised = raises k r.work up
+
+    pub arrival_raised : Ready v (n + 1) × Lifted (n + 1) v
+    arrival_raised = (
+      raised_ready (clocks b) a.complete.clocks≤ cleared (one_more n≡) (10 * counts) (omega arith) (omega arith) (invariant_of b l)
+          (invariant_scale b a l hl) cleared_ready.0 met live (λ x px hx. a.invariant_hi l x hl px (omega arith)) raised,
+      raised_lifted (clocks b) a.complete.clocks≤ cleared (one_more n≡) (10 * counts) (omega arith) (omega arith) (invariant_of b l)
+          (invariant_scale b a l hl) cleared_ready.0 met live (λ x px hx. a.invariant_present l x hl px (omega arith)) raised,
+    )
+
+    pub arrival_entered : {q : Reduced} → q ≡ reduce_of (n + 1) v → q ≡ enter_of (clocks b) (invariant_of b l) cleared
+    arrival_entered g = entered (clocks b) a.complete.clocks≤ cleared (one_more n≡) (invariant_of b l) met live raised g

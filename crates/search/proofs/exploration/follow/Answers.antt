@@ -1,51 +1,34 @@
 -- `follow` meets its contract: the guard is met on a taken zone, which is then empty or arrives.
 -- Assumes nothing.
-use Prim.Native.Nat.{ℕ, ◌+◌, ◌*◌, ◌≤◌}
 use mathlib.Core.Path.{◌≡◌, sym, ap, ◌∙◌}
 use Rattle.std.specs.Prelude.{is_some}
-use lib.ListN.{length}
 use native.Mathlib.Omega.{arith}
 use Rattle.zones.specs.Successors.{meet_of}
 use Rattle.runs.proofs.Contradictions.{true_false}
-use Rattle.automata.specs.Automata.{clocks, edge_at, guard_of}
+use Rattle.automata.specs.Automata.{clocks, guard_of}
 use Rattle.search.proofs.exploration.Arriving.{gives_of, taken_sized, emptied_fits, follows_none, arrives, edge_to, follows}
 use Rattle.search.proofs.exploration.Arriving.{arrives_sound, arrives_at}
 use Rattle.search.proofs.exploration.Judging.{lowers, going_safe}
-use Rattle.automata.proofs.fields.Places.{edge-within}
 use Rattle.search.proofs.successor.Stepping.{meets, asks_limits, guard_scale}
 use Rattle.search.proofs.exploration.follow.Goals as goal
-use Rattle.search.proofs.exploration.follow.Goals.{After-edge_at-at, After-narrow-met}
-
--- ---- with the place of the guard
-module _ (c : After-edge_at-at) where
-  place≡ : c.edge_at-at.result ≡ edge_at c.args.automaton.now.bytes.now c.args.i
-  place≡ = c.edge_at-at.ensures
-
-  size≡ : c.args.automaton.now.clocks ≡ clocks c.args.automaton.now.bytes.now
-  size≡ = c.args.automaton.now.counted.clocks≡
-
-  inside : edge_at c.args.automaton.now.bytes.now c.args.i + (3 + 8 * clocks c.args.automaton.now.bytes.now)
-      ≤ length c.args.automaton.now.bytes.now
-  inside = edge-within _ c.args.automaton.now.accepted.complete _ c.requires.there.0
+use Rattle.search.proofs.exploration.follow.Goals.{After-narrow-met}
 
 pub narrow-met-requires : goal.narrow-met-requires
 unfolding guard_of
 narrow-met-requires c =
     let a = c.args.automaton.now.accepted in
     let hi = c.requires.there.0 in
-    let q = asks_limits _ _ (ap (λ x. x + 3) (place≡ (goal.at.narrow-met-requires c).After-edge_at-at))
-    (size≡ (goal.at.narrow-met-requires c).After-edge_at-at) a.complete.clocks≤
-    (omega (arith, inside (goal.at.narrow-met-requires c).After-edge_at-at)) (guard_scale _ a _ hi)
-    (omega arith) (taken_sized _ a _ hi _ c.requires.going.1 c.requires.going.2) in
-    record { few_clocks = q.0; on_scale = q.1; settled = λ e. true_false (sym e) }
+    record {
+      on_scale = asks_limits c.guard.ensures _ _ (guard_scale _ a _ hi) (omega arith)
+          (taken_sized _ a _ hi _ c.requires.going.1 c.requires.going.2);
+      settled = λ e. true_false (sym e);
+    }
 
 -- ---- the guard met
 module _ (c : After-narrow-met) where
   met : c.narrow-met.result ≡ meet_of (clocks c.args.automaton.now.bytes.now) (guard_of c.args.automaton.now.bytes.now c.args.i) c.args.w
   unfolding guard_of
-  met =
-      meets _ _ (ap (λ (x : ℕ). x + 3) c.edge_at-at.ensures) c.args.automaton.now.counted.clocks≡
-      c.narrow-met.ensures
+  met = meets c.guard.ensures _ c.narrow-met.ensures
 
 pub emptied-requires : goal.emptied-requires
 emptied-requires c = (
@@ -87,8 +70,3 @@ returns c =
     gives_of _ _ _ _ _ _ (edge_to _ a _ hi _ c.requires.going.1 c.requires.going.2 (met (goal.at.returns c).After-narrow-met) live
     c.requires.there.1)
     (follows _ a _ hi _ c.requires.going.1 c.requires.going.2 (met (goal.at.returns c).After-narrow-met) live c.requires.there.1) c.arrive.ensures
-
-pub overflow_add-at : goal.overflow_add-at
-overflow_add-at c =
-    let at = (goal.at.overflow_add-at c).After-edge_at-at in
-    omega (arith, place≡ at, inside at)

@@ -1,113 +1,47 @@
 -- `enter` meets its contract: the reset, the invariant met at arrival, the wait, and the invariant met again, each on a zone in range.
 -- Assumes nothing.
-use Prim.Native.Nat.{ℕ, suc, ◌+◌, ◌*◌, ◌≤◌}
-use mathlib.Core.Path.{◌≡◌, sym, ap, ◌∙◌}
-use lib.ListN.{length}
-use native.Mathlib.Omega.{arith}
-use Rattle.zones.specs.Ranges.{Sized, OnScale, counts, step_counts}
-use Rattle.runs.specs.Limits.{scale}
-use Rattle.zones.specs.Settled.{Settled}
-use Rattle.zones.specs.Successors.{enter_of}
+use Prim.Native.Nat.{suc}
+use mathlib.Core.Path.{◌≡◌, refl, sym, ◌∙◌}
+use Rattle.zones.specs.Successors.{meet_of}
 use Rattle.zones.specs.Zones.{set_of, reset_of}
-use Rattle.automata.specs.Automata.{clocks, invariant_at, limits_at, invariant_of}
-use Rattle.automata.proofs.fields.Counting.{few_clocks}
-use Rattle.automata.proofs.fields.Places.{invariant_within}
-use Rattle.search.proofs.successor.Stepping.{one_more, meets, raises, asks_limits, reset_is, reset_enters, raised_ready, raised_lifted}
-use Rattle.search.proofs.successor.Stepping.{entered_none, entered, invariant_scale}
+use Rattle.automata.specs.Automata.{clocks, invariant_of}
+use Rattle.search.proofs.successor.Stepping.{arrival_asks, arrival_settled, arrival_met, arrival_raised, arrival_entered, entered_none}
 use Rattle.search.proofs.successor.enter.Goals as goal
-use Rattle.search.proofs.successor.enter.Goals.{Start, After-reset-cleared}
+use Rattle.search.proofs.successor.enter.Goals.{After-narrow-met}
 
-few : (c : Start) → c.args.automaton.now.clocks ≤ 8
-few c = few_clocks c.args.automaton.now.counted c.args.automaton.now.accepted
-
--- ---- with the clocks reset
-module _ (c : After-reset-cleared) where
-  size≡ : c.args.automaton.now.clocks ≡ clocks c.args.automaton.now.bytes.now
-  size≡ = c.args.automaton.now.counted.clocks≡
-
-  at≡ : c.invariant_at-at.result ≡ invariant_at c.args.automaton.now.bytes.now c.args.l
-  at≡ = c.invariant_at-at.ensures
-
-  n≤ : clocks c.args.automaton.now.bytes.now ≤ 8
-  n≤ = c.args.automaton.now.accepted.complete.clocks≤
-
-  abbrev size : ℕ
-  size = suc (clocks c.args.automaton.now.bytes.now)
-
-  cleared : c.reset-cleared.result ≡ reset_of size (set_of c.args.resets) c.args.w
-  cleared = reset_is _ n≤ _ (one_more size≡) (10 * counts) (omega arith) (omega arith) _ c.reset-cleared.ensures
-
-  ready : Sized (10 * counts) size c.reset-cleared.result × Settled size c.reset-cleared.result
-  ready = reset_enters _ n≤ _ (one_more size≡) (10 * counts) (omega arith) (omega arith) _ c.reset-cleared.ensures c.requires.sized
-
-  -- what the loops over the limits of the invariant ask
-  asks : let n = c.args.automaton.now.clocks in
-      let at = c.invariant_at-at.result in
-      let b = c.args.automaton.now.bytes.now in
-      ((n ≤ 8) × (at + 8 * n ≤ length b)) × (OnScale scale n (limits_at b at) × Sized step_counts (suc n) c.reset-cleared.result)
-  unfolding invariant_of
-  asks =
-      let a = c.args.automaton.now.accepted in
-      let hl = c.requires.there in
-      asks_limits _ _ at≡ size≡ n≤ (invariant_within _ a.complete _ hl)
-      (invariant_scale _ a _ hl) (omega arith) ready.0
+-- ---- with the invariant met
+met : (c : After-narrow-met) → let b = c.args.automaton.now.bytes.now in
+    c.narrow-met.result ≡ meet_of (clocks b) (invariant_of b c.args.l) (reset_of (suc (clocks b)) (set_of c.args.resets) c.args.w)
+met c =
+    let automaton = c.args.automaton.now in
+    arrival_met _ automaton.accepted _ c.requires.there _ c.requires.sized _ c.invariant-invariant.ensures automaton.counted.clocks≡
+    c.reset.ensures c.narrow-met.ensures
 
 pub narrow-met-requires : goal.narrow-met-requires
 narrow-met-requires c =
+    let automaton = c.args.automaton.now in
+    let k = c.invariant-invariant.ensures in
+    let n = automaton.counted.clocks≡ in
     record {
-      few_clocks = (asks (goal.at.narrow-met-requires c).After-reset-cleared).0;
-      on_scale = (asks (goal.at.narrow-met-requires c).After-reset-cleared).1;
-      settled = λ e. rw (size≡ (goal.at.narrow-met-requires c).After-reset-cleared) (ready (goal.at.narrow-met-requires c).After-reset-cleared).1;
+      on_scale = arrival_asks _ automaton.accepted _ c.requires.there _ c.requires.sized _ k n c.reset.ensures;
+      settled = λ e. arrival_settled _ automaton.accepted _ c.requires.there _ c.requires.sized _ k n c.reset.ensures;
     }
 
 pub returns-then-is_some : goal.returns-then-is_some
-unfolding invariant_of
 returns-then-is_some c =
-    let met = meets _ _ (at≡ (goal.at.returns-then-is_some c).After-reset-cleared) (size≡ (goal.at.returns-then-is_some c).After-reset-cleared)
-    c.narrow-met.ensures in
-    entered_none _ (n≤ (goal.at.returns-then-is_some c).After-reset-cleared) _
-    (one_more (size≡ (goal.at.returns-then-is_some c).After-reset-cleared)) _ met
-    (sym c.is_some.ensures ∙ c.if-is_some.true) ∙ ap (enter_of _ _) (cleared (goal.at.returns-then-is_some c).After-reset-cleared)
-
-pub raise-raised-requires : goal.raise-raised-requires
-raise-raised-requires c =
-    record { few_clocks = (asks (goal.at.raise-raised-requires c).After-reset-cleared).0 }
+    entered_none _ c.args.automaton.now.accepted.complete.clocks≤ _ refl _ (met (goal.at.returns-then-is_some c).After-narrow-met)
+    (sym c.is_some.ensures ∙ c.if-is_some.true)
 
 pub reduce_raised-requires : goal.reduce_raised-requires
-unfolding invariant_of
 reduce_raised-requires c =
-    let a = c.args.automaton.now.accepted in
-    let hl = c.requires.there in
-    let at = at≡ (goal.at.reduce_raised-requires c).After-reset-cleared in
-    let n = size≡ (goal.at.reduce_raised-requires c).After-reset-cleared in
-    let met = meets _ _ at n c.narrow-met.ensures in
-    let up = raises _ _ at n c.raise-raised.ensures in
-    let live = sym c.is_some.ensures ∙ c.if-is_some.false in
-    let o = invariant_scale _ a _ hl in (
-      raised_ready _ (n≤ (goal.at.reduce_raised-requires c).After-reset-cleared) _ (one_more n) (10 * counts) (omega arith) (omega arith) _ o
-          (ready (goal.at.reduce_raised-requires c).After-reset-cleared).0 met live
-          (λ x px hx. a.invariant_hi _ x hl px (omega arith)) up,
-      raised_lifted _ (n≤ (goal.at.reduce_raised-requires c).After-reset-cleared) _ (one_more n) (10 * counts) (omega arith) (omega arith) _ o
-          (ready (goal.at.reduce_raised-requires c).After-reset-cleared).0 met live
-          (λ x px hx. a.invariant_present _ x hl px (omega arith)) up,
-    )
+    let automaton = c.args.automaton.now in
+    arrival_raised _ automaton.accepted _ c.requires.there _ c.requires.sized _ c.invariant-invariant.ensures
+    (met (goal.at.reduce_raised-requires c).After-narrow-met) (sym c.is_some.ensures ∙ c.if-is_some.false) c.raise.ensures
+    automaton.counted.clocks≡
 
 pub returns : goal.returns
-unfolding invariant_of
 returns c =
-    let at = at≡ (goal.at.returns c).After-reset-cleared in
-    let n = size≡ (goal.at.returns c).After-reset-cleared in
-    let met = meets _ _ at n c.narrow-met.ensures in
-    entered _ (n≤ (goal.at.returns c).After-reset-cleared) _ (one_more n) _ met (sym c.is_some.ensures ∙ c.if-is_some.false)
-    (raises _ _ at n c.raise-raised.ensures)
-    c.reduce_raised.ensures
-    ∙ ap (enter_of _ _) (cleared (goal.at.returns c).After-reset-cleared)
-
-pub overflow_add-c : goal.overflow_add-c
-overflow_add-c c = omega (arith, few (goal.at.overflow_add-c c).Start)
-
-pub reset-cleared-requires : goal.reset-cleared-requires
-reset-cleared-requires c = omega (arith, few (goal.at.reset-cleared-requires c).Start)
-
-pub overflow_add-c-2 : goal.overflow_add-c-2
-overflow_add-c-2 c = omega (arith, few (goal.at.overflow_add-c-2 c).Start)
+    let automaton = c.args.automaton.now in
+    arrival_entered _ automaton.accepted _ c.requires.there _ c.requires.sized _ c.invariant-invariant.ensures
+    (met (goal.at.returns c).After-narrow-met) (sym c.is_some.ensures ∙ c.if-is_some.false) c.raise.ensures
+    automaton.counted.clocks≡ c.reduce_raised.ensures

@@ -33,7 +33,7 @@ pub meet-met-requires : goal.meet-met-requires
 unfolding limits_at
 meet-met-requires c =
     let limits = c.limits-limits.ensures in
-    turn_ready _ _ c.args.w c.loop-x.work c.requires.few_clocks.0 c.requires.on_scale.0
+    turn_ready _ _ c.args.w c.loop-x.work c.args.constraint.now.there.0 c.requires.on_scale.0
     c.requires.on_scale.1 c.loop-x.x (omega arith) (omega arith) c.loop-x.invariant.0
     (ap (λ (l : Limits). l.lo) limits) (c.upper.ensures ∙ given (ap (λ (l : Limits). l.hi) limits))
 
@@ -42,7 +42,7 @@ unfolding limits_at
 loop-x-preserved c =
     let limits = c.limits-limits.ensures in
     let below = c.is_below.ensures in (
-      turn_met _ _ c.args.w c.loop-x.work c.requires.few_clocks.0 c.requires.on_scale.0
+      turn_met _ _ c.args.w c.loop-x.work c.args.constraint.now.there.0 c.requires.on_scale.0
           c.requires.on_scale.1 c.loop-x.x (omega arith) (omega arith) c.loop-x.invariant.0
           (ap (λ (l : Limits). l.lo) limits) (c.upper.ensures ∙ given (ap (λ (l : Limits). l.hi) limits)) c.meet-met.ensures,
       λ e. elim c.if-is_below.branch [
@@ -57,6 +57,6 @@ loop-x-preserved c =
 
 pub returns : goal.returns
 returns c =
-    let last : c.loop-x.x - 1 ≡ c.args.c = omega arith in
+    let last : c.loop-x.x - 1 ≡ c.args.constraint.now.clocks = omega arith in
     let all = limits_all _ _ c.args.w last c.loop-x.invariant.0 in
     record { work = all; same = λ e. let s = c.loop-x.invariant.1 e in (s.0, ap (λ (v : Work). v.zone) (sym all) ∙ s.1) }

@@ -8,5 +8,5 @@ use Rattle.search.proofs.successor.meet.Given as goal
 
 abbrev pub invariant-loop-x : goal.invariant-loop-x
 invariant-loop-x l =
-    (l.work ≡ meet_limits (limits_at l.automaton.bytes.now l.at) (l.x - 1) l.initial.work)
+    (l.work ≡ meet_limits (limits_at l.constraint.bytes.now l.constraint.at) (l.x - 1) l.initial.work)
     × (l.same ≡ true → (l.initial.same ≡ true) × (l.work.zone ≡ l.initial.work.zone))

@@ -9,9 +9,9 @@ use Rattle.search.proofs.successor.narrow.Goals.{then-met, else-met}
 
 pub reduce_from-requires : goal.reduce_from-requires
 reduce_from-requires c =
-    let n≤ = c.requires.few_clocks.0 in
+    let n≤ = c.args.constraint.now.there.0 in
     let work = c.meet-met.ensures.work in
-    let begun : Begun (c.args.c + 1) c.if-met.first c.meet-met.result.work =
+    let begun : Begun (c.args.constraint.now.clocks + 1) c.if-met.first c.meet-met.result.work =
     elim c.if-met.branch [
       | then-met x ↦
           let s = c.meet-met.ensures.same x.if-met.true in
@@ -21,4 +21,4 @@ reduce_from-requires c =
     (met_ready _ n≤ _ (one_more refl) _ c.requires.on_scale.0 c.requires.on_scale.1 work, begun)
 
 pub returns : goal.returns
-returns c = met_is _ c.requires.few_clocks.0 _ (one_more refl) _ c.meet-met.ensures.work c.reduce_from.ensures
+returns c = met_is _ c.args.constraint.now.there.0 _ (one_more refl) _ c.meet-met.ensures.work c.reduce_from.ensures

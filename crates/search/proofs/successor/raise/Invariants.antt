@@ -7,4 +7,4 @@ use Rattle.search.proofs.successor.raise.Given as goal
 
 abbrev pub invariant-loop-x : goal.invariant-loop-x
 invariant-loop-x l =
-    (l.z ≡ (raise_limits (limits_at l.automaton.bytes.now l.at) (l.x - 1) (record { zone = l.initial.z; fraction = l.fraction })).zone)
+    (l.z ≡ (raise_limits (limits_at l.constraint.bytes.now l.constraint.at) (l.x - 1) (record { zone = l.initial.z; fraction = l.fraction })).zone)
