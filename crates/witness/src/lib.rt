@@ -114,10 +114,11 @@ impl Square {
 }
 
 impl Crossing {
+    ghost use Rattle.witness.specs.Told.{step_of};
+
     // One step back from the state v of the successor.
     pub fn step_back(self, v: State) -> Back
-        ensures wait { result.wait ≡ (back_of v.clocks self.arrived.pairs self.guarded.pairs (set_of self.resets) self.arrived.size).wait }
-        ensures state { result.state.clocks ≡ (back_of v.clocks self.arrived.pairs self.guarded.pairs (set_of self.resets) self.arrived.size).state }
+        ensures { step_of result ≡ back_of v.clocks self.arrived.pairs self.guarded.pairs (set_of self.resets) self.arrived.size }
     {
         let wait = self.arrived.wait_before(v);
         let u = v.earlier(wait, self.arrived.size);

@@ -12,4 +12,4 @@ invariant_of-result c =
 
 pub returns : goal.returns
 unfolding back_of
-returns c = let same = c.args.self.same in record { wait = cc; state = cc }
+returns c = let same = c.args.self.same in cc
