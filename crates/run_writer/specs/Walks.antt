@@ -4,13 +4,18 @@ use Rattle.reachability.specs.Search.{first_zone}
 use Rattle.reachability.specs.Witnesses.{back_to, last_state}
 use Rattle.runs.specs.Runs.{Step, wait, jump}
 use Rattle.search.specs.Outcomes.{came_of}
+use Rattle.zones.specs.declared.pair.Pair.{Pair}
 use Rattle.run_writer.specs.declared.branch.Branch.{Branch}
 use Rattle.run_writer.specs.declared.crossing.Jump.{Jump}
 use Rattle.run_writer.specs.Branch.{kept_of, jumps_before}
-use Rattle.run_writer.specs.Crossing.{witnesses_of, back_along, landing_along}
+use Rattle.run_writer.specs.Crossing.{witnesses_of, zone_in, back_along, landing_along}
 
 abbrev pub jumps_left : Branch → ℕ
 jumps_left x = jumps_before x.automaton.bytes.now (length x.store.now) x.origin
+
+-- the zone that a jump leaves
+abbrev pub zone_left : Jump → List Pair
+zone_left j = zone_in j.automaton.bytes.now j.slot.now
 
 -- from the branch x, whose last jump is j, to the branch y to the zone that j leaves: one jump fewer, and a step of each definition of the run
 pub record Goes (x : Branch) (j : Jump) (y : Branch) : Type 0 where
@@ -18,11 +23,11 @@ pub record Goes (x : Branch) (j : Jump) (y : Branch) : Type 0 where
   pub store : y.store ≡ x.store
   pub fewer : jumps_left x ≡ suc (jumps_left y)
   pub last : let b = x.automaton.bytes.now in
-      last_state (witnesses_of b) (kept_of b (length x.store.now)) (came_of x.origin) ≡ landing_along j.automaton.bytes.now j.edge j.zone
+      last_state (witnesses_of b) (kept_of b (length x.store.now)) (came_of x.origin) ≡ landing_along j.automaton.bytes.now j.edge (zone_left j)
   pub step : let b = x.automaton.bytes.now in let ks = kept_of b (length x.store.now) in
       (m : ℕ) (v : List ℕ) (xs : List Step) → back_to (witnesses_of b) (suc m) ks (came_of x.origin) v xs
-      ≡ back_to (witnesses_of b) m ks (came_of y.origin) (back_along j.automaton.bytes.now j.edge j.zone v).state
-      (jump j.edge ∷ wait (back_along j.automaton.bytes.now j.edge j.zone v).wait ∷ xs)
+      ≡ back_to (witnesses_of b) m ks (came_of y.origin) (back_along j.automaton.bytes.now j.edge (zone_left j) v).state
+      (jump j.edge ∷ wait (back_along j.automaton.bytes.now j.edge (zone_left j) v).wait ∷ xs)
 
 -- a turn goes one jump back, or gives none where the zone is the first one
 abbrev pub Walks : Branch → Option Jump → Branch → Type 0

@@ -10,7 +10,8 @@ ghost use Rattle.run_writer.specs.Writing.{run_of};
 
 use crate::crossing::Jump;
 use automata::opened::Automaton;
-use slots::slot::{Origin, decode, origin_of, slot_length};
+use slots::slot::{Origin, origin_of, slot_length};
+use witness::State;
 
 // The branch to a zone of this origin, in the store where a search has ended: its jumps, from the last one back.
 #[derive(Clone, Copy)]
@@ -36,13 +37,13 @@ impl<'a> Iterator for Branch<'a> {
         if !origin.is_along() {
             return None;
         }
-        let size = self.automaton.clocks + 1;
-        let slot = &self.store[origin.slot() * slot_length(size)..];
+        let stride = slot_length(self.automaton.clocks + 1);
+        let slot = &self.store[origin.slot() * stride..];
         self.origin = origin_of(slot);
         Some(Jump {
             automaton: self.automaton,
             edge: origin.edge(),
-            zone: decode(slot, size),
+            slot,
         })
     }
 }
@@ -65,13 +66,13 @@ impl<'a> Branch<'a> {
     }
 
     // The last state of the run to the zone.
-    fn last_state(mut self) -> [u64; 9]
-        ensures { result ≡ last_state (witnesses_of self.entry.automaton.bytes.now)
+    fn last_state(mut self) -> State
+        ensures { result.clocks ≡ last_state (witnesses_of self.entry.automaton.bytes.now)
             (kept_of self.entry.automaton.bytes.now (length self.entry.store.now)) (came_of self.entry.origin) }
     {
         match self.next() {
             Some(jump) => jump.landing(),
-            None => [0; 9],
+            None => State::start(),
         }
     }
 
@@ -88,6 +89,6 @@ impl<'a> Branch<'a> {
             put_two(run, 2 * left + 2, jump.edge as u64, back.wait);
             v = back.state;
         }
-        put_two(run, 0, (2 * k + 2) as u64, v[1]);
+        put_two(run, 0, (2 * k + 2) as u64, v.clocks[1]);
     }
 }

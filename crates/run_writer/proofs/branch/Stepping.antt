@@ -17,12 +17,12 @@ use Rattle.run_writer.specs.Walks.{jumps_left}
 use Rattle.search.specs.Exploring.{SoundNode, SoundZone}
 use Rattle.search.specs.Instance.{ZoneNode}
 use Rattle.search.specs.Store.{origin_of, most_slots}
-use Rattle.search.proofs.exploration.Judging.{n≤, read_counts, read_zone}
+use Rattle.search.proofs.exploration.Judging.{read_counts, read_zone}
 use Rattle.search.proofs.exploration.Stores.{lent_length}
 use Rattle.slots.specs.declared.slot.Origin.{Origin}
-use Rattle.slots.specs.Slots.{slot_length, p_at, is_along, slot_origin, zone_of}
-use Rattle.zones.specs.declared.pair.Pair.{Pair}
+use Rattle.slots.specs.Slots.{slot_length, p_at, is_along, slot_origin}
 use Rattle.zones.specs.Integers.{up}
+use Rattle.run_writer.specs.Crossing.{zone_in}
 use Rattle.run_writer.specs.Branch.{kept_of, Ended, Standing, origin_before, zone_before, jumps_before}
 use Rattle.run_writer.proofs.branch.Walking.{left_of, sound, slot_of, slot_inside, origin_at, standing, left_at, Along, along, left_is}
 use Rattle.run_writer.proofs.branch.Walking.{few, none_left, left_most, parent_is, one_more}
@@ -81,19 +81,13 @@ module _ {b : List ℕ} {amount : ℕ} {s : List ℤ} (e : Ended b amount s) {o 
     pub reads_origin : {r : Origin} → r ≡ slot_origin (take (length s - slot * stride) (drop (slot * stride) s)) → r ≡ origin_before b amount o
     reads_origin f = f ∙ origin_at e a.parent source a.jumps.kept at≡ ∙ sym origin_is
 
-    module _ {size : ℕ} (ez : size ≡ suc (clocks b)) where
-      pub asks_decode : ((size ≤ 9) × (slot_length size ≤ length (take (length s - slot * stride) (drop (slot * stride) s)))) ×
-          ((i : ℕ) → i < size * size → pos 0 ≤ℤ get_or (take (length s - slot * stride) (drop (slot * stride) s)) (p_at i) (pos 0))
-      asks_decode = rw ez (
-        (n≤ b e.accepted, asks_slot),
-        read_counts b e.accepted s a.parent (slot * stride) source at≡ (slot_of e a.parent source a.jumps.kept),
-      )
+    pub reads_counts : (t : ℕ) → t < suc (clocks b) * suc (clocks b) →
+        pos 0 ≤ℤ get_or (take (length s - slot * stride) (drop (slot * stride) s)) (p_at t) (pos 0)
+    reads_counts = read_counts b e.accepted s a.parent (slot * stride) source at≡ (slot_of e a.parent source a.jumps.kept)
 
-      pub reads_zone : {z : List Pair} → z ≡ zone_of size (take (length s - slot * stride) (drop (slot * stride) s)) → z ≡ zone_before b amount o
-      reads_zone f =
-          f ∙ ap (λ (i : ℕ). zone_of i lent) ez
-          ∙ read_zone b e.accepted s a.parent (slot * stride) source at≡ (slot_of e a.parent source a.jumps.kept) source_sound
-          ∙ sym zone_is
+    pub reads_zone : zone_in b (take (length s - slot * stride) (drop (slot * stride) s)) ≡ zone_before b amount o
+    reads_zone =
+        read_zone b e.accepted s a.parent (slot * stride) source at≡ (slot_of e a.parent source a.jumps.kept) source_sound ∙ sym zone_is
 
 -- ---- so there are no more jumps than slots
 module _ {b : List ℕ} {amount : ℕ} {s : List ℤ} (e : Ended b amount s) where

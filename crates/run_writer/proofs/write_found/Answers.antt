@@ -73,7 +73,7 @@ returns c =
     let b = c.args.automaton.now.bytes.now in
     let same = c.explore-turn.auto.store in
     let found = searched_findings _ o _ _ _ h c.findings.ensures in
-    elim c.match-outcome.branch [
+    elim c.match-turn.branch [
       | in-Reached+else-run-k w ↦
           let g = w.in-Reached.is in
           let k = w.jumps-k.ensures ∙ ap (λ (n : ℕ). jumps_before b n w.in-Reached.origin) same in
