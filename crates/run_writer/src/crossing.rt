@@ -42,13 +42,11 @@ fn cleared(w: Work, size: usize, marked: [bool; 9]) -> Work
     requires { size ≤ 9 }
     ensures { result ≡ reset_of size (set_of marked) w }
 {
-    let old = w.zone;
-    let fraction = w.fraction;
-    let mut zone = old;
+    let mut work = w;
     for k in 0..size * 9 {
-        zone[k] = old[home(marked, k / 9) * 9 + home(marked, k % 9)];
+        work.zone[k] = w.zone[home(marked, k / 9) * 9 + home(marked, k % 9)];
     }
-    Work { zone, fraction }
+    work
 }
 
 // A settled zone is reset, and meets the invariant of l.

@@ -91,11 +91,6 @@ module _ {b : List ℕ} {amount : ℕ} {s : List ℤ} (e : Ended b amount s) {o 
         rw (a.came, back_to, nth_tail ks a.parent k a.jumps.kept)
         (λ x. back_to (witnesses_of b) m ks (sym c≡ x) (sym w≡ x).state (jump (sym i≡ x) ∷ wait (sym w≡ x).wait ∷ xs))
 
-  -- ---- the first zone
-  pub last_first : is_along o ≡ false → replicate 9 0 ≡ last_state (witnesses_of b) (kept_of b amount) (came_of o)
-  unfolding last_state
-  last_first h = ap (last_state (witnesses_of b) ks) (sym (first st h))
-
 -- ---- the buffer: two numbers become x and y
 two_more : (r R : List ℤ) (n : ℕ) (x y : ℤ) → n + 2 ≤ length r → set (set (take (n + 2) r ++ R) n x) (n + 1) y ≡ take n r ++ (x ∷ y ∷ R)
 two_more r R n x y h =
