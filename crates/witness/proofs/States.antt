@@ -39,13 +39,13 @@ module _ (f : ℕ → ℕ) where
       get_or-set_other (places_of f k) (suc k) x (f (suc k)) 0 (λ e. let q = h (omega arith) in omega arith) ∙
       state_none k x (λ p. let q = h p in omega arith)
 
-  -- no clock of a state of n indices is above C if none of f's is
-  pub state_most : (C n : ℕ) → n ≤ 9 → ((x : ℕ) → 0 < x → x < n → f x ≤ C) → AllUpTo C (places_of f (n - 1))
-  state_most C n h m x = go x (ltb x n) refl
+  -- none is above C if none of f's is
+  pub state_most : (C k : ℕ) → k ≤ 8 → ((x : ℕ) → 0 < x → x ≤ k → f x ≤ C) → AllUpTo C (places_of f k)
+  state_most C k h m x = go x (ltb k x) refl
     where
-      go : (x : ℕ) (t : Bool) → ltb x n ≡ t → clocks_of (places_of f (n - 1)) x ≤ C
-      go x false e = let q = ltb-false x n e in omega (arith, state_none (n - 1) x (λ p. omega arith))
-      go zero true e = omega (arith, state_none (n - 1) 0 (λ p. absurd (not-suc-le-zero p)))
-      go (suc x) true e =
-          let q = ltb-true (suc x) n e in
-          omega (arith, state_at (n - 1) (omega arith) (suc x) (omega arith) (omega arith), m (suc x) (omega arith) q)
+      go : (x : ℕ) (t : Bool) → ltb k x ≡ t → clocks_of (places_of f k) x ≤ C
+      go x true e = omega (arith, state_none k x (λ p. ltb-true k x e))
+      go zero false e = omega (arith, state_none k 0 (λ p. absurd (not-suc-le-zero p)))
+      go (suc x) false e =
+          let q = ltb-false k (suc x) e in
+          omega (arith, state_at k h (suc x) (omega arith) (omega arith), m (suc x) (omega arith) q)

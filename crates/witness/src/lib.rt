@@ -52,6 +52,7 @@ impl State {
     }
 
     // The state before the wait.
+    #[tactic(auto, unfolding(crate::specs::Witnesses::places_of), using(crate::proofs::Turns::state_next, crate::proofs::Sizes::earlier_most))]
     fn earlier(self, wait: u64, size: usize) -> State
         requires { size ≤ 9 }
         ensures { result.clocks ≡ earlier_of self.clocks wait (size - 1) }
@@ -66,6 +67,8 @@ impl State {
 
 impl Square {
     // A state of it: each clock at its least.
+    #[tactic(auto, unfolding(crate::specs::Witnesses::places_of, crate::specs::Witnesses::landing_of),
+        using(crate::proofs::Parts::row_less, crate::proofs::Turns::state_next, crate::proofs::Sizes::landing_most))]
     pub fn landing(self) -> State
         ensures { result.clocks ≡ landing_of self.pairs self.size }
     {
@@ -77,6 +80,7 @@ impl Square {
     }
 
     // The most by which a clock of v is above its bound: the shortest wait that may have led there.
+    #[tactic(auto, unfolding(crate::specs::Witnesses::wait_to), using(crate::proofs::Parts::column_less, crate::proofs::Turns::wait_next))]
     fn wait_before(self, v: State) -> u64
         ensures { result ≡ wait_to v.clocks self.pairs (self.size - 1) }
     {
@@ -88,6 +92,7 @@ impl Square {
     }
 
     // The state before the jump that resets and leaves u.
+    #[tactic(auto, unfolding(crate::specs::Witnesses::places_of), using(crate::proofs::Turns::state_next, crate::proofs::Sizes::before_most))]
     fn state_before(self, u: State, resets: [bool; 9]) -> State
         ensures { result.clocks ≡ state_before u.clocks self.pairs (set_of resets) (self.size - 1) }
     {
@@ -117,6 +122,7 @@ impl Crossing {
     ghost use Rattle.witness.specs.Told.{step_of};
 
     // One step back from the state v of the successor.
+    #[tactic(auto, unfolding(crate::specs::Witnesses::back_of), using(crate::proofs::Sizes::wait_most))]
     pub fn step_back(self, v: State) -> Back
         ensures { step_of result ≡ back_of v.clocks self.arrived.pairs self.guarded.pairs (set_of self.resets) self.arrived.size }
     {
