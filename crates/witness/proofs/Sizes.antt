@@ -9,7 +9,7 @@ use Rattle.zones.specs.declared.pair.Pair.{Pair}
 use Rattle.zones.specs.Integers.{up, down}
 use Rattle.zones.specs.Zones.{pair_at}
 use Rattle.zones.proofs.pairs.Integers.{abs_law}
-use Rattle.witness.specs.Witnesses.{clocks_of, plus_bound, places_of, wait_to, earlier_of, least_to, state_before}
+use Rattle.witness.specs.Witnesses.{clocks_of, plus_bound, places_of, wait_to, least_to}
 use Rattle.witness.specs.Sizes.{AllUpTo, Spans}
 use Rattle.witness.proofs.States.{state_most}
 

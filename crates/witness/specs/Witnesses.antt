@@ -51,5 +51,5 @@ back_of v a g R size =
     record { wait = t; state = state_before (earlier_of v t (size - 1)) g R (size - 1) }
 
 -- a state to begin with: v x = −a(0, x), each clock at its least
-unfoldable pub landing_of : List Pair → ℕ → List ℕ
+abbrev pub landing_of : List Pair → ℕ → List ℕ
 landing_of a size = places_of (λ x. down (pair_at a 0 x).m) (size - 1)

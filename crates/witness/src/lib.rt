@@ -1,4 +1,5 @@
 // The step back through zones: from a state of a successor, the wait before it and a state before the jump.
+// States, squares and sets of clocks are document 01's fixed arrays, passed by value.
 #![tactic(auto)]
 
 ghost use Rattle.std.specs.Prelude.{◌≡◌, ◌-◌, ◌*◌, ◌<◌, ◌≤◌, replicate};
@@ -9,14 +10,14 @@ ghost use Rattle.witness.specs.Witnesses.{wait_to, earlier_of, least_to, state_b
 
 use zones::pair::Pair;
 
-// A state: no clock of it is above the scale.
+// A state, clock x at place x: none is above the scale.
 #[derive(Clone, Copy)]
 pub struct State {
     pub clocks: [u64; 9],
     pub ghost up_to: { AllUpTo scale clocks },
 }
 
-// The square of a zone on the scale.
+// The square of a zone of `size` indices, on the scale.
 #[derive(Clone, Copy)]
 pub struct Square {
     pub pairs: [Pair; 81],
@@ -52,7 +53,7 @@ impl State {
     }
 
     // The state before the wait.
-    #[tactic(auto, unfolding(crate::specs::Witnesses::places_of), using(crate::proofs::Turns::state_next, crate::proofs::Sizes::earlier_most))]
+    #[tactic(auto, unfolding(crate::specs::Witnesses::places_of), using(crate::proofs::Turns::state_next))]
     fn earlier(self, wait: u64, size: usize) -> State
         requires { size ≤ 9 }
         ensures { result.clocks ≡ earlier_of self.clocks wait (size - 1) }
@@ -67,8 +68,7 @@ impl State {
 
 impl Square {
     // A state of it: each clock at its least.
-    #[tactic(auto, unfolding(crate::specs::Witnesses::places_of, crate::specs::Witnesses::landing_of),
-        using(crate::proofs::Parts::row_less, crate::proofs::Turns::state_next, crate::proofs::Sizes::landing_most))]
+    #[tactic(auto, unfolding(crate::specs::Witnesses::places_of), using(crate::proofs::Parts::row_less, crate::proofs::Turns::state_next))]
     pub fn landing(self) -> State
         ensures { result.clocks ≡ landing_of self.pairs self.size }
     {
@@ -92,7 +92,7 @@ impl Square {
     }
 
     // The state before the jump that resets and leaves u.
-    #[tactic(auto, unfolding(crate::specs::Witnesses::places_of), using(crate::proofs::Turns::state_next, crate::proofs::Sizes::before_most))]
+    #[tactic(auto, unfolding(crate::specs::Witnesses::places_of), using(crate::proofs::Turns::state_next))]
     fn state_before(self, u: State, resets: [bool; 9]) -> State
         ensures { result.clocks ≡ state_before u.clocks self.pairs (set_of resets) (self.size - 1) }
     {
@@ -104,6 +104,7 @@ impl Square {
     }
 
     // Clock x of it.
+    #[tactic(auto, unfolding(crate::specs::Witnesses::least_to), using(crate::proofs::Parts::column_plus))]
     fn clock_before(self, u: State, resets: [bool; 9], x: usize) -> u64
         requires { x < self.size }
         ensures { result ≡ least_to u.clocks self.pairs (set_of resets) x (self.size - 1) }
@@ -122,7 +123,7 @@ impl Crossing {
     ghost use Rattle.witness.specs.Told.{step_of};
 
     // One step back from the state v of the successor.
-    #[tactic(auto, unfolding(crate::specs::Witnesses::back_of), using(crate::proofs::Sizes::wait_most))]
+    #[tactic(auto, unfolding(crate::specs::Witnesses::back_of))]
     pub fn step_back(self, v: State) -> Back
         ensures { step_of result ≡ back_of v.clocks self.arrived.pairs self.guarded.pairs (set_of self.resets) self.arrived.size }
     {

@@ -1,15 +1,10 @@
 -- `clock_before` meets its contract.
 use mathlib.Core.Path.{◌∙◌}
 use native.Mathlib.Omega.{arith}
-use Rattle.witness.specs.Witnesses.{least_to}
-use Rattle.witness.proofs.Parts.{column_plus, entry_plus}
+use Rattle.witness.proofs.Parts.{entry_plus}
 use Rattle.witness.proofs.Turns.{least_next, least_skips}
 use Rattle.witness.proofs.Square.clock_before.Goals as goal
 use Rattle.witness.proofs.Square.clock_before.Goals.{then-not-resets-b, else-not-resets-b}
-
-pub loop-b-init : goal.loop-b-init
-unfolding least_to
-loop-b-init c = c.saturating_add_signed-least.ensures ∙ column_plus _ _ c.args.self.spans c.args.x c.requires 0 (omega arith)
 
 pub loop-b-preserved : goal.loop-b-preserved
 loop-b-preserved c =

@@ -5,4 +5,7 @@ use Rattle.witness.proofs.Sizes.{landing_most}
 use Rattle.witness.proofs.Square.landing.Goals as goal
 
 pub invariant_of-result : goal.invariant_of-result
-invariant_of-result c = record { up_to = landing_most scale _ _ c.args.self.spans _ c.loop-x.invariant.0 (omega (arith, c.args.self.few, c.loop-x.invariant.0)) c.loop-x.invariant.1 }
+invariant_of-result c = record {
+  up_to = landing_most scale _ _ c.args.self.spans _ c.loop-x.invariant.0 (omega (arith, c.args.self.few, c.loop-x.invariant.0))
+      c.loop-x.invariant.1;
+}
