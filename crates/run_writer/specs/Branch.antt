@@ -1,5 +1,5 @@
 -- What the walk back over the slots asks: the store in which a search has ended, and an origin that one of its zones has.
-use Rattle.std.specs.Prelude.{ℕ, suc, ◌≤◌, List, [], ◌∷◌, ◌≡◌, ℤ, length, drop}
+use Rattle.std.specs.Prelude.{ℕ, suc, ◌≤◌, List, ◌≡◌, ℤ, length}
 use Rattle.automata.specs.Accepted.{Accepted}
 use Rattle.automata.specs.Automata.{clocks}
 use Rattle.automata.specs.Semantics.{system_of}
@@ -10,9 +10,6 @@ use Rattle.search.specs.Instance.{ZoneNode, zones_of, meaning_of}
 use Rattle.search.specs.Outcomes.{came_of}
 use Rattle.search.specs.Store.{origin_of, store_of}
 use Rattle.slots.specs.declared.slot.Origin.{Origin}
-use Rattle.slots.specs.Slots.{no_origin}
-use Rattle.zones.specs.declared.pair.Pair.{Pair}
-use Rattle.zones.specs.Integers.{up}
 
 abbrev pub kept_of : List ℕ → ℕ → List ZoneNode
 kept_of b amount = (state_of b amount).kept
@@ -37,13 +34,6 @@ pub record Standing (b : List ℕ) (amount : ℕ) (o : Origin) : Type 0 where
 pub record Stands (b : List ℕ) (s : List ℤ) (o : Origin) : Type 0 where
   pub ended : Ended b (length s) s
   pub standing : Standing b (length s) o
-
--- the origin and the zone of the slot that an origin names
-unfoldable pub origin_before : List ℕ → ℕ → Origin → Origin
-origin_before b amount o = elim (drop (up o.parent) (kept_of b amount)) [ [] ↦ no_origin | k ∷ more ↦ origin_of k.came ]
-
-unfoldable pub zone_before : List ℕ → ℕ → Origin → List Pair
-zone_before b amount o = elim (drop (up o.parent) (kept_of b amount)) [ [] ↦ [] | k ∷ more ↦ k.zone ]
 
 -- how many jumps lead there
 abbrev pub jumps_before : List ℕ → ℕ → Origin → ℕ

@@ -1,14 +1,13 @@
 -- One turn of the walk: the slot that an origin names is in the store, and its own origin is one jump nearer to the start.
 use Prim.Native.Nat.{ℕ, zero, suc, ◌+◌, ◌-◌, ◌*◌, ◌≤◌, ◌<◌}
 use mathlib.Core.Bool.{Bool, true, false}
-use mathlib.Core.List.{List, ◌∷◌}
+use mathlib.Core.List.{List}
 use mathlib.Core.Path.{◌≡◌, refl, sym, ap, ◌∙◌, subst}
 use lib.IntN.{ℤ, pos}
 use lib.ListN.{length, get_or, drop, take}
 use lib.Signed.{◌≤ℤ◌}
 use native.Mathlib.Omega.{arith}
 use Rattle.automata.specs.Automata.{clocks}
-use Rattle.reachability.proofs.Lists.{nth_tail}
 use Rattle.reachability.specs.Branches.{path_of}
 use Rattle.reachability.specs.Search.{Came, first_zone}
 use Rattle.search.specs.Outcomes.{came_of}
@@ -23,7 +22,7 @@ use Rattle.slots.specs.declared.slot.Origin.{Origin}
 use Rattle.slots.specs.Slots.{slot_length, p_at, is_along, slot_origin}
 use Rattle.zones.specs.Integers.{up}
 use Rattle.run_writer.specs.Crossing.{zone_in}
-use Rattle.run_writer.specs.Branch.{kept_of, Ended, Standing, origin_before, zone_before, jumps_before}
+use Rattle.run_writer.specs.Branch.{kept_of, Ended, Standing, jumps_before}
 use Rattle.run_writer.proofs.branch.Walking.{left_of, sound, slot_of, slot_inside, origin_at, standing, left_at, Along, along, left_is}
 use Rattle.run_writer.proofs.branch.Walking.{few, none_left, left_most, parent_is, one_more}
 
@@ -35,31 +34,20 @@ module _ {b : List ℕ} {amount : ℕ} {s : List ℤ} (e : Ended b amount s) {o 
   abbrev pub source : ZoneNode
   source = (along st h).jumps.parent
 
-  there : drop (up o.parent) (kept_of b amount) ≡ source ∷ drop (suc a.parent) (kept_of b amount)
-  there = ap (λ (i : ℕ). drop i (kept_of b amount)) (parent_is st a) ∙ nth_tail (kept_of b amount) a.parent source a.jumps.kept
-
   -- ---- its origin
-  pub origin_is : origin_before b amount o ≡ origin_of source.came
-  unfolding origin_before
-  origin_is = rw (origin_before, there)
-
-  module _ {o' : Origin} (eo : o' ≡ origin_before b amount o) where
+  module _ {o' : Origin} (eo : o' ≡ origin_of source.came) where
     pub next : Standing b amount o'
-    next = subst (Standing b amount) (sym (eo ∙ origin_is)) (standing e a.parent source a.jumps.kept)
+    next = subst (Standing b amount) (sym eo) (standing e a.parent source a.jumps.kept)
 
     pub nearer : left_of o' < left_of o
-    nearer = omega (arith, left_is st a, ap left_of (eo ∙ origin_is), left_at e a.parent source a.jumps.kept)
+    nearer = omega (arith, left_is st a, ap left_of eo, left_at e a.parent source a.jumps.kept)
 
     pub fewer : jumps_before b amount o ≡ suc (jumps_before b amount o')
-    fewer = one_more st a e ∙ ap (λ x. suc (jumps_before b amount x)) (sym (eo ∙ origin_is))
+    fewer = one_more st a e ∙ ap (λ x. suc (jumps_before b amount x)) (sym eo)
 
   -- ---- its zone
   source_sound : SoundNode b source
   source_sound = (sound e).nodes a.parent source a.jumps.kept
-
-  pub zone_is : zone_before b amount o ≡ source.zone
-  unfolding zone_before
-  zone_is = rw (zone_before, there)
 
   pub sound_zone : SoundZone b source.zone
   sound_zone = record { ranged = source_sound.ranged; framed = source_sound.framed }
@@ -78,16 +66,16 @@ module _ {b : List ℕ} {amount : ℕ} {s : List ℤ} (e : Ended b amount s) {o 
     pub asks_slot : slot_length (suc (clocks b)) ≤ length (take (length s - slot * stride) (drop (slot * stride) s))
     asks_slot = omega (arith, lent_length s (slot * stride), inside)
 
-    pub reads_origin : {r : Origin} → r ≡ slot_origin (take (length s - slot * stride) (drop (slot * stride) s)) → r ≡ origin_before b amount o
-    reads_origin f = f ∙ origin_at e a.parent source a.jumps.kept at≡ ∙ sym origin_is
+    pub reads_origin : {r : Origin} → r ≡ slot_origin (take (length s - slot * stride) (drop (slot * stride) s)) → r ≡ origin_of source.came
+    reads_origin f = f ∙ origin_at e a.parent source a.jumps.kept at≡
 
     pub reads_counts : (t : ℕ) → t < suc (clocks b) * suc (clocks b) →
         pos 0 ≤ℤ get_or (take (length s - slot * stride) (drop (slot * stride) s)) (p_at t) (pos 0)
     reads_counts = read_counts b e.accepted s a.parent (slot * stride) source at≡ (slot_of e a.parent source a.jumps.kept)
 
-    pub reads_zone : zone_in b (take (length s - slot * stride) (drop (slot * stride) s)) ≡ zone_before b amount o
+    pub reads_zone : zone_in b (take (length s - slot * stride) (drop (slot * stride) s)) ≡ source.zone
     reads_zone =
-        read_zone b e.accepted s a.parent (slot * stride) source at≡ (slot_of e a.parent source a.jumps.kept) source_sound ∙ sym zone_is
+        read_zone b e.accepted s a.parent (slot * stride) source at≡ (slot_of e a.parent source a.jumps.kept) source_sound
 
 -- ---- so there are no more jumps than slots
 module _ {b : List ℕ} {amount : ℕ} {s : List ℤ} (e : Ended b amount s) where
@@ -101,7 +89,7 @@ module _ {b : List ℕ} {amount : ℕ} {s : List ℤ} (e : Ended b amount s) whe
     where
       go : (t : Bool) → is_along o ≡ t → ((o' : Origin) → Standing b amount o' → left_of o' ≤ m → jumps_before b amount o' ≤ m)
           → jumps_before b amount o ≤ suc m
-      go true h ih = omega (arith, fewer e st h refl, ih (origin_before b amount o) (next e st h refl) (omega (arith, nearer e st h refl)))
+      go true h ih = omega (arith, fewer e st h refl, ih (origin_of (source e st h).came) (next e st h refl) (omega (arith, nearer e st h refl)))
       go false h ih = omega (arith, none_left st h)
 
   pub jumps_most : {o : Origin} → Standing b amount o → jumps_before b amount o ≤ length (kept_of b amount)
