@@ -40,7 +40,7 @@ use Rattle.run_writer.specs.Crossing.{witnesses_of}
 use Rattle.run_writer.specs.Told.{Tells}
 use Rattle.run_writer.specs.Writing.{run_of, outcome_numbers, run_numbers, run_findings, run_buffer}
 use Rattle.run_writer.proofs.Witnessing.{witness_laws}
-use Rattle.run_writer.proofs.branch.Stepping.{jumps_most}
+use Rattle.run_writer.proofs.branch.Walking.{jumps_most}
 
 -- ---- where there is nothing to write
 module _ (b : List ℕ) (amount : ℕ) (none : run_numbers b amount ≡ []) where

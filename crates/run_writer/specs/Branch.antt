@@ -14,6 +14,10 @@ use Rattle.slots.specs.declared.slot.Origin.{Origin}
 abbrev pub kept_of : List ℕ → ℕ → List ZoneNode
 kept_of b amount = (state_of b amount).kept
 
+-- the node k, kept at the place j or the one that met the target, came so
+abbrev pub CameBy : List ℕ → ℕ → ℕ → ZoneNode → Came → Type 0
+CameBy b amount j k c = Branch (system_of b) (zones_of b) (λ f. (meaning_of b).Exact f 1 0) (kept_of b amount) j k c
+
 -- the store s in which the search of b in `amount` numbers has ended
 pub record Ended (b : List ℕ) (amount : ℕ) (s : List ℤ) : Type 0 where
   pub accepted : Accepted b
@@ -28,7 +32,7 @@ pub record Standing (b : List ℕ) (amount : ℕ) (o : Origin) : Type 0 where
   pub place : ℕ
   pub most : place ≤ length (kept_of b amount)
   pub node : ZoneNode
-  pub branch : Branch (system_of b) (zones_of b) (λ f. (meaning_of b).Exact f 1 0) (kept_of b amount) place node came
+  pub branch : CameBy b amount place node came
 
 -- both, where the store is as long as it was lent
 pub record Stands (b : List ℕ) (s : List ℤ) (o : Origin) : Type 0 where

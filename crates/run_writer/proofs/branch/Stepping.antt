@@ -1,8 +1,8 @@
 -- One turn of the walk: the slot that an origin names is in the store, and its own origin is one jump nearer to the start.
-use Prim.Native.Nat.{ℕ, zero, suc, ◌+◌, ◌-◌, ◌*◌, ◌≤◌, ◌<◌}
-use mathlib.Core.Bool.{Bool, true, false}
+use Prim.Native.Nat.{ℕ, suc, ◌+◌, ◌-◌, ◌*◌, ◌≤◌, ◌<◌}
+use mathlib.Core.Bool.{true}
 use mathlib.Core.List.{List}
-use mathlib.Core.Path.{◌≡◌, refl, sym, ap, ◌∙◌, subst}
+use mathlib.Core.Path.{◌≡◌, sym, ap, ◌∙◌, subst}
 use lib.IntN.{ℤ, pos}
 use lib.ListN.{length, get_or, drop, take}
 use lib.Signed.{◌≤ℤ◌}
@@ -23,8 +23,8 @@ use Rattle.slots.specs.Slots.{slot_length, p_at, is_along, slot_origin}
 use Rattle.zones.specs.Integers.{up}
 use Rattle.run_writer.specs.Crossing.{zone_in}
 use Rattle.run_writer.specs.Branch.{kept_of, Ended, Standing, jumps_before}
-use Rattle.run_writer.proofs.branch.Walking.{left_of, sound, slot_of, slot_inside, origin_at, standing, left_at, Along, along, left_is}
-use Rattle.run_writer.proofs.branch.Walking.{few, none_left, left_most, parent_is, one_more}
+use Rattle.run_writer.proofs.branch.Walking.{sound, slot_of, slot_inside, origin_at, standing, Along, along}
+use Rattle.run_writer.proofs.branch.Walking.{few, parent_is, one_more, jumps_most}
 
 module _ {b : List ℕ} {amount : ℕ} {s : List ℤ} (e : Ended b amount s) {o : Origin} (st : Standing b amount o) (h : is_along o ≡ true) where
   abbrev a : Along st
@@ -38,9 +38,6 @@ module _ {b : List ℕ} {amount : ℕ} {s : List ℤ} (e : Ended b amount s) {o 
   module _ {o' : Origin} (eo : o' ≡ origin_of source.came) where
     pub next : Standing b amount o'
     next = subst (Standing b amount) (sym eo) (standing e a.parent source a.jumps.kept)
-
-    pub nearer : left_of o' < left_of o
-    nearer = omega (arith, left_is st a, ap left_of eo, left_at e a.parent source a.jumps.kept)
 
     pub fewer : jumps_before b amount o ≡ suc (jumps_before b amount o')
     fewer = one_more st a e ∙ ap (λ x. suc (jumps_before b amount x)) (sym eo)
@@ -77,26 +74,9 @@ module _ {b : List ℕ} {amount : ℕ} {s : List ℤ} (e : Ended b amount s) {o 
     reads_zone =
         read_zone b e.accepted s a.parent (slot * stride) source at≡ (slot_of e a.parent source a.jumps.kept) source_sound
 
--- ---- so there are no more jumps than slots
-module _ {b : List ℕ} {amount : ℕ} {s : List ℤ} (e : Ended b amount s) where
-  jumps-left : (m : ℕ) (o : Origin) → Standing b amount o → left_of o ≤ m → jumps_before b amount o ≤ m
-  jumps-left zero o st l = go (is_along o) refl
-    where
-      go : (t : Bool) → is_along o ≡ t → jumps_before b amount o ≤ 0
-      go true h = absurd (omega (arith, left_is st (along st h)))
-      go false h = omega (arith, none_left st h)
-  jumps-left (suc m) o st l = go (is_along o) refl (λ o' st' l'. jumps-left m o' st' l')
-    where
-      go : (t : Bool) → is_along o ≡ t → ((o' : Origin) → Standing b amount o' → left_of o' ≤ m → jumps_before b amount o' ≤ m)
-          → jumps_before b amount o ≤ suc m
-      go true h ih = omega (arith, fewer e st h refl, ih (origin_of (source e st h).came) (next e st h refl) (omega (arith, nearer e st h refl)))
-      go false h ih = omega (arith, none_left st h)
-
-  pub jumps_most : {o : Origin} → Standing b amount o → jumps_before b amount o ≤ length (kept_of b amount)
-  jumps_most {o} st = omega (arith, jumps-left st.place o st (left_most st), st.most)
-
-  pub jumps_few : {o : Origin} → Standing b amount o → jumps_before b amount o ≤ most_slots
-  jumps_few st = omega (arith, jumps_most st, few e)
+pub jumps_few : {b : List ℕ} {amount : ℕ} {s : List ℤ} → Ended b amount s → {o : Origin} → Standing b amount o →
+    jumps_before b amount o ≤ most_slots
+jumps_few e st = omega (arith, jumps_most e st, few e)
 
 -- none lead to the first zone
 pub no_jumps : (x : Branch) → came_of x.origin ≡ first_zone → jumps_left x ≡ 0
