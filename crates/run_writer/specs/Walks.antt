@@ -3,15 +3,28 @@ use Rattle.std.specs.Prelude.{ℕ, suc, List, ◌∷◌, ◌≡◌, MatchOption,
 use Rattle.reachability.specs.Search.{first_zone}
 use Rattle.reachability.specs.Witnesses.{back_to, last_state}
 use Rattle.runs.specs.Runs.{Step, wait, jump}
+use Rattle.search.specs.Answers.{state_of}
 use Rattle.search.specs.Outcomes.{came_of}
 use Rattle.zones.specs.declared.pair.Pair.{Pair}
 use Rattle.run_writer.specs.declared.branch.Branch.{Branch}
 use Rattle.run_writer.specs.declared.crossing.Jump.{Jump}
 use Rattle.run_writer.specs.Branch.{kept_of, jumps_before}
 use Rattle.run_writer.specs.Crossing.{witnesses_of, zone_in, back_along, landing_along}
+use Rattle.run_writer.specs.Writing.{run_of}
 
 abbrev pub jumps_left : Branch → ℕ
 jumps_left x = jumps_before x.automaton.bytes.now (length x.store.now) x.origin
+
+-- the last state of the run to its zone, and that run
+abbrev pub last_left : Branch → List ℕ
+last_left x =
+    let b = x.automaton.bytes.now in
+    last_state (witnesses_of b) (kept_of b (length x.store.now)) (came_of x.origin)
+
+abbrev pub run_left : Branch → List Step
+run_left x =
+    let b = x.automaton.bytes.now in
+    run_of b (state_of b (length x.store.now)) (came_of x.origin)
 
 -- the zone that a jump leaves
 abbrev pub zone_left : Jump → List Pair
@@ -22,8 +35,7 @@ pub record Goes (x : Branch) (j : Jump) (y : Branch) : Type 0 where
   pub automaton : y.automaton ≡ x.automaton
   pub store : y.store ≡ x.store
   pub fewer : jumps_left x ≡ suc (jumps_left y)
-  pub last : let b = x.automaton.bytes.now in
-      last_state (witnesses_of b) (kept_of b (length x.store.now)) (came_of x.origin) ≡ landing_along j.automaton.bytes.now j.edge (zone_left j)
+  pub last : last_left x ≡ landing_along j.automaton.bytes.now j.edge (zone_left j)
   pub step : let b = x.automaton.bytes.now in let ks = kept_of b (length x.store.now) in
       (m : ℕ) (v : List ℕ) (xs : List Step) → back_to (witnesses_of b) (suc m) ks (came_of x.origin) v xs
       ≡ back_to (witnesses_of b) m ks (came_of y.origin) (back_along j.automaton.bytes.now j.edge (zone_left j) v).state
