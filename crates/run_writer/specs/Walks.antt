@@ -5,11 +5,11 @@ use Rattle.reachability.specs.Witnesses.{back_to, last_state}
 use Rattle.runs.specs.Runs.{Step, wait, jump}
 use Rattle.search.specs.Answers.{state_of}
 use Rattle.search.specs.Outcomes.{came_of}
-use Rattle.zones.specs.declared.pair.Pair.{Pair}
 use Rattle.run_writer.specs.declared.branch.Branch.{Branch}
 use Rattle.run_writer.specs.declared.crossing.Jump.{Jump}
 use Rattle.run_writer.specs.Branch.{kept_of, jumps_before}
-use Rattle.run_writer.specs.Crossing.{witnesses_of, zone_in, back_along, landing_along}
+use Rattle.run_writer.specs.Crossing.{witnesses_of}
+use Rattle.run_writer.specs.Jumps.{back_over, landing_over}
 use Rattle.run_writer.specs.Writing.{run_of}
 
 abbrev pub jumps_left : Branch → ℕ
@@ -26,20 +26,16 @@ run_left x =
     let b = x.automaton.bytes.now in
     run_of b (state_of b (length x.store.now)) (came_of x.origin)
 
--- the zone that a jump leaves
-abbrev pub zone_left : Jump → List Pair
-zone_left j = zone_in j.automaton.bytes.now j.slot.now
-
 -- from the branch x, whose last jump is j, to the branch y to the zone that j leaves: one jump fewer, and a step of each definition of the run
 pub record Goes (x : Branch) (j : Jump) (y : Branch) : Type 0 where
   pub automaton : y.automaton ≡ x.automaton
   pub store : y.store ≡ x.store
   pub fewer : jumps_left x ≡ suc (jumps_left y)
-  pub last : last_left x ≡ landing_along j.automaton.bytes.now j.edge (zone_left j)
+  pub last : last_left x ≡ landing_over j
   pub step : let b = x.automaton.bytes.now in let ks = kept_of b (length x.store.now) in
       (m : ℕ) (v : List ℕ) (xs : List Step) → back_to (witnesses_of b) (suc m) ks (came_of x.origin) v xs
-      ≡ back_to (witnesses_of b) m ks (came_of y.origin) (back_along j.automaton.bytes.now j.edge (zone_left j) v).state
-      (jump j.edge ∷ wait (back_along j.automaton.bytes.now j.edge (zone_left j) v).wait ∷ xs)
+      ≡ back_to (witnesses_of b) m ks (came_of y.origin) (back_over j v).state
+      (jump j.edge ∷ wait (back_over j v).wait ∷ xs)
 
 -- a turn goes one jump back, or gives none where the zone is the first one
 abbrev pub Walks : Branch → Option Jump → Branch → Type 0

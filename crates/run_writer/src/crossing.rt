@@ -6,8 +6,7 @@ ghost use Rattle.zones.specs.Settled.{Settled};
 ghost use Rattle.zones.specs.Successors.{meet_of};
 ghost use Rattle.zones.specs.Zones.{set_of, home, reset_of};
 ghost use Rattle.automata.specs.Automata.{clocks, locations, invariant_of};
-ghost use Rattle.witness.specs.Told.{step_of};
-ghost use Rattle.run_writer.specs.Crossing.{Leaves, Crossed, zone_in, guarded_by, back_along, landing_along};
+ghost use Rattle.run_writer.specs.Crossing.{Leaves};
 
 use automata::opened::Automaton;
 use search::successor::narrow;
@@ -61,9 +60,12 @@ fn arrived(automaton: &Automaton, l: usize, w: Work, resets: [bool; 9]) -> Reduc
 }
 
 impl<'a> Jump<'a> {
+    ghost use Rattle.witness.specs.Told.{step_of};
+    ghost use Rattle.run_writer.specs.Jumps.{guarded_over, CrossedOver, back_over, landing_over};
+
     // The zone meets the guard.
     fn guarded(self) -> Reduced
-        ensures { result ≡ guarded_by self.entry.automaton.bytes.now self.entry.edge (zone_in self.entry.automaton.bytes.now self.entry.slot.now) }
+        ensures { result ≡ guarded_over self.entry }
     {
         let w = Work {
             zone: decode(self.slot, self.automaton.clocks + 1),
@@ -74,7 +76,7 @@ impl<'a> Jump<'a> {
 
     // The zone on its way along the edge.
     fn cross(self) -> Crossing
-        ensures { Crossed self.entry.automaton.bytes.now self.entry.edge (zone_in self.entry.automaton.bytes.now self.entry.slot.now) result }
+        ensures { CrossedOver self.entry result }
     {
         let size = self.automaton.clocks + 1;
         let edge = self.automaton.edge(self.edge);
@@ -94,16 +96,14 @@ impl<'a> Jump<'a> {
 
     // The step back over it, from the state v of the zone's successor.
     pub(crate) fn back(self, v: State) -> Back
-        ensures { step_of result
-            ≡ back_along self.entry.automaton.bytes.now self.entry.edge (zone_in self.entry.automaton.bytes.now self.entry.slot.now) v.clocks }
+        ensures { step_of result ≡ back_over self.entry v.clocks }
     {
         self.cross().step_back(v)
     }
 
     // A state in which it arrives.
     pub(crate) fn landing(self) -> State
-        ensures { result.clocks
-            ≡ landing_along self.entry.automaton.bytes.now self.entry.edge (zone_in self.entry.automaton.bytes.now self.entry.slot.now) }
+        ensures { result.clocks ≡ landing_over self.entry }
     {
         self.cross().arrived.landing()
     }

@@ -18,8 +18,9 @@ use Rattle.witness.specs.Witnesses.{StepBack}
 use Rattle.run_writer.specs.declared.branch.Branch.{Branch}
 use Rattle.run_writer.specs.declared.crossing.Jump.{Jump}
 use Rattle.run_writer.specs.Branch.{kept_of}
-use Rattle.run_writer.specs.Crossing.{witnesses_of, back_along}
-use Rattle.run_writer.specs.Walks.{Goes, zone_left, jumps_left}
+use Rattle.run_writer.specs.Crossing.{witnesses_of}
+use Rattle.run_writer.specs.Jumps.{back_over}
+use Rattle.run_writer.specs.Walks.{Goes, jumps_left}
 use Rattle.run_writer.proofs.branch.Filling.{fill_none, fill_turn, fill_all}
 use Rattle.run_writer.proofs.branch.Stepping.{no_jumps}
 use Rattle.run_writer.proofs.branch.Branch.write_back.Goals as goal
@@ -30,7 +31,7 @@ two_set l i j x y = length-set (set l i x) j y ∙ length-set l i x
 
 -- a jump back, as a step of the definition
 stepped : {x y : Branch} {j : Jump} → Goes x j y → {A : Automaton} {S : Bor (List ℤ)} → x.automaton ≡ A → x.store ≡ S → (v : List ℕ) {r : StepBack}
-    → r ≡ back_along j.automaton.bytes.now j.edge (zone_left j) v → (m : ℕ) (xs : List Step)
+    → r ≡ back_over j v → (m : ℕ) (xs : List Step)
     → back_to (witnesses_of A.bytes.now) (suc m) (kept_of A.bytes.now (length S.now)) (came_of x.origin) v xs
     ≡ back_to (witnesses_of A.bytes.now) m (kept_of A.bytes.now (length S.now)) (came_of y.origin) r.state (jump j.edge ∷ wait r.wait ∷ xs)
 stepped g ea es v e m xs = rw (← ea, ← es, e) (g.step m v xs)
