@@ -1,4 +1,5 @@
-// The zone of a slot on its way along an edge, in whole time units with no loosening, and a step back.
+// The zone of a slot on its way along an edge, in whole time units with no loosening, and a step back. Squares and sets of clocks are
+// document 01's fixed arrays, passed by value.
 ghost use Rattle.std.specs.Prelude.{◌≡◌, suc, ◌*◌, ◌≤◌, ◌<◌};
 ghost use Rattle.std.proofs.Props.{props};
 ghost use Rattle.zones.specs.Ranges.{Sized, counts};
