@@ -40,17 +40,25 @@ use Rattle.run_writer.specs.Crossing.{witnesses_of}
 use Rattle.run_writer.specs.Told.{Tells}
 use Rattle.run_writer.specs.Writing.{run_of, outcome_numbers, run_numbers, run_findings, run_buffer}
 use Rattle.run_writer.proofs.Witnessing.{witness_laws}
-use Rattle.run_writer.proofs.branch.Stepping.{jumps_most}
+use Rattle.run_writer.proofs.branch.Walking.{jumps_most}
 
--- ---- where there is nothing to write
-module _ (b : List ℕ) (amount : ℕ) (none : run_numbers b amount ≡ []) where
-  pub none_findings : (room : ℕ) → search_findings b amount ≡ run_findings b amount room
+-- ---- by the numbers to be written: there is room for them, or there is none
+module _ (b : List ℕ) (amount : ℕ) {ns : List ℤ} (n : run_numbers b amount ≡ ns) where
+  pub room_findings : (room : ℕ) → length ns ≤ room → search_findings b amount ≡ run_findings b amount room
   unfolding run_findings
-  none_findings room = rw (run_findings, none, le-ltb room 0 (omega arith)) refl
+  room_findings room l = rw (run_findings, n, le-ltb room (length ns) l) refl
 
-  pub none_buffer : (r : List ℤ) → r ≡ run_buffer b amount r
+  pub room_buffer : (r : List ℤ) → length ns ≤ length r → ns ++ drop (length ns) r ≡ run_buffer b amount r
   unfolding run_buffer
-  none_buffer r = rw (run_buffer, none, le-ltb (length r) 0 (omega arith)) refl
+  room_buffer r l = rw (run_buffer, n, le-ltb (length r) (length ns) l) refl
+
+  pub short_findings : (room : ℕ) → room < length ns → Err RunTooLong ≡ run_findings b amount room
+  unfolding run_findings
+  short_findings room l = rw (run_findings, n, lt-ltb room (length ns) l) refl
+
+  pub short_buffer : (r : List ℤ) → length r < length ns → r ≡ run_buffer b amount r
+  unfolding run_buffer
+  short_buffer r l = rw (run_buffer, n, lt-ltb (length r) (length ns) l) refl
 
 -- refused at reading
 pub refused_none : (b : List ℕ) (amount : ℕ) (k : Refusal) → number k ≡ refusal_of b → run_numbers b amount ≡ []
@@ -137,36 +145,20 @@ module _ (b : List ℕ) (ok : refusal_of b ≡ 0) (s s' : List ℤ) (t : Turn) (
     abbrev whole : List ℤ
     whole = written (run_of b (state_of b (length s)) (came_of o))
 
-    numbers_here : run_numbers b (length s) ≡ written (run_of b (state_of b (length s)) (came_of o))
+    pub numbers_here : run_numbers b (length s) ≡ written (run_of b (state_of b (length s)) (came_of o))
     unfolding outcome_numbers
     numbers_here = numbers_are met
 
-    long : length (written (run_of b (state_of b (length s)) (came_of o))) ≡ 2 * jumps_before b (length s) o + 2
-    long = written-length along.turns ∙ ap (λ (p : List ℕ). 2 * length p + 2) along.takes
-
     module _ {k : ℕ} (ek : k ≡ jumps_before b (length s) o) where
-      -- there is no room for it
-      pub short_findings : (room : ℕ) → room < 2 * k + 2 → Err RunTooLong ≡ run_findings b (length s) room
-      unfolding run_findings
-      short_findings room l = rw (run_findings, numbers_here, lt-ltb room (length whole) (omega (arith, long, ek))) refl
-
-      pub short_buffer : (r : List ℤ) → length r < 2 * k + 2 → r ≡ run_buffer b (length s) r
-      unfolding run_buffer
-      short_buffer r l = rw (run_buffer, numbers_here, lt-ltb (length r) (length whole) (omega (arith, long, ek))) refl
-
-      -- there is
-      pub room_findings : (room : ℕ) → 2 * k + 2 ≤ room → search_findings b (length s) ≡ run_findings b (length s) room
-      unfolding run_findings
-      room_findings room l = rw (run_findings, numbers_here, le-ltb room (length whole) (omega (arith, long, ek))) refl
+      -- as many numbers as the code counts
+      pub long : length (written (run_of b (state_of b (length s)) (came_of o))) ≡ 2 * k + 2
+      long = written-length along.turns ∙ ap (λ (p : List ℕ). 2 * length p + 2) along.takes ∙ ap (λ (j : ℕ). 2 * j + 2) (sym ek)
 
       module _ (r : List ℤ) {r' : List ℤ} (l : 2 * k + 2 ≤ length r)
           (w : r' ≡ written (run_of b (state_of b (length s)) (came_of o)) ++ drop (2 * k + 2) r) where
-        pub room_buffer : r' ≡ run_buffer b (length s) r
-        unfolding run_buffer
-        room_buffer =
-            let n : 2 * k + 2 ≡ length whole = omega (arith, long, ek) in
-            rw (run_buffer, numbers_here, le-ltb (length r) (length whole) (omega (arith, n)))
-            (w ∙ ap (λ (i : ℕ). whole ++ drop i r) n)
+        pub filled_buffer : r' ≡ run_buffer b (length s) r
+        filled_buffer =
+            w ∙ ap (λ (i : ℕ). whole ++ drop i r) (sym long) ∙ room_buffer b (length s) numbers_here r (omega (arith, long, l))
 
         passes : Passes b r'
         passes = record {
@@ -185,7 +177,7 @@ module _ (b : List ℕ) (ok : refusal_of b ≡ 0) (s s' : List ℤ) (t : Turn) (
           came = came_of o;
           met = met;
           few = jumps_most stored stands;
-          count = long;
+          count = long ∙ ap (λ (j : ℕ). 2 * j + 2) ek;
           rest = drop (2 * k + 2) r;
           begins = w;
           along = along;

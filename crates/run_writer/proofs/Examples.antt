@@ -10,7 +10,7 @@ use Rattle.reachability.specs.Witnesses.{back_to, last_state}
 use Rattle.search.specs.Answers.{findings_of, search_findings, state_findings}
 use Rattle.search.specs.Instance.{entering, following, overcounted, result_of}
 use Rattle.search.specs.Store.{capacity_of}
-use Rattle.witness.specs.Witnesses.{places_of, wait_to, least_to, back_of, landing_of}
+use Rattle.witness.specs.Witnesses.{places_of, wait_to, least_to, back_of}
 use Rattle.zones.specs.Containment.{count_to, larger}
 use Rattle.zones.specs.Fractions.{lowered_by, euclid, gcd_of, lowest_terms}
 use Rattle.zones.specs.Pairs.{sum_of, is_less, threshold_of, smaller_of}
@@ -26,7 +26,7 @@ unfolding edge_in firsts guard_of in_byte invariant_in invariant_of limits_at re
     path_of
     find judge offer follow expand take_from search back_to last_state findings_of search_findings state_findings entering following overcounted
     result_of
-    capacity_of places_of wait_to least_to back_of landing_of count_to larger lowered_by euclid gcd_of lowest_terms sum_of is_less
+    capacity_of places_of wait_to least_to back_of count_to larger lowered_by euclid gcd_of lowest_terms sum_of is_less
     threshold_of
     smaller_of relaxed row_steps round_steps empty_in empty_below after_middle reduce_steps and_then meet_of enter_of follow_of
     pair_at first_work lower_at meet_upper meet_clock meet_limits raise_limits home reset_places reset_of

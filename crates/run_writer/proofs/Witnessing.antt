@@ -25,9 +25,8 @@ use Rattle.reachability.specs.Witnesses.{WitnessLaws, Leads}
 use Rattle.search.specs.Exploring.{SoundZone}
 use Rattle.search.specs.Instance.{Fractions, work_of, following, zones_of, meaning_of, Inside}
 use Rattle.search.proofs.instance.Obeys.{came_from, Jumped, jumped, laws}
-use Rattle.witness.specs.declared.Back.{Back}
 use Rattle.witness.specs.Laws.{SteppedBack, Reached}
-use Rattle.witness.specs.Witnesses.{clocks_of, places_of, less_bound, wait_to, earlier_of, state_before, back_of}
+use Rattle.witness.specs.Witnesses.{StepBack, clocks_of, places_of, less_bound, wait_to, earlier_of, state_before, back_of}
 use Rattle.witness.proofs.Steps.{live_law, step_back_law, landing_law}
 use Rattle.run_writer.specs.Crossing.{Crosses, arrived_by, guarded_by, back_along, landing_along, witnesses_of}
 
@@ -166,7 +165,7 @@ module _ (b : List ℕ) (a : Accepted b) where
           step_back_law c n≤ (work_of y no_limit) shape fit (omega arith) G R (reset_zero b i) I v q.0 q.1 q.2
 
       -- from r's state to v, by the jump and r's wait
-      abbrev LeadsTo : Valuation → Back → Type 0
+      abbrev LeadsTo : Valuation → StepBack → Type 0
       LeadsTo v r =
           Leads (system_of b) (zones_of b) (meaning_of b) (witnesses_of b) 1 0 i y v (record { time = r.wait; state = r.state })
 

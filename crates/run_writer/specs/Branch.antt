@@ -1,5 +1,5 @@
 -- What the walk back over the slots asks: the store in which a search has ended, and an origin that one of its zones has.
-use Rattle.std.specs.Prelude.{ℕ, suc, ◌≤◌, List, [], ◌∷◌, ◌≡◌, ℤ, length, drop}
+use Rattle.std.specs.Prelude.{ℕ, suc, ◌≤◌, List, ◌≡◌, ℤ, length}
 use Rattle.automata.specs.Accepted.{Accepted}
 use Rattle.automata.specs.Automata.{clocks}
 use Rattle.automata.specs.Semantics.{system_of}
@@ -10,12 +10,13 @@ use Rattle.search.specs.Instance.{ZoneNode, zones_of, meaning_of}
 use Rattle.search.specs.Outcomes.{came_of}
 use Rattle.search.specs.Store.{origin_of, store_of}
 use Rattle.slots.specs.declared.slot.Origin.{Origin}
-use Rattle.slots.specs.Slots.{no_origin}
-use Rattle.zones.specs.declared.pair.Pair.{Pair}
-use Rattle.zones.specs.Integers.{up}
 
 abbrev pub kept_of : List ℕ → ℕ → List ZoneNode
 kept_of b amount = (state_of b amount).kept
+
+-- the node k, kept at the place j or the one that met the target, came so
+abbrev pub CameBy : List ℕ → ℕ → ℕ → ZoneNode → Came → Type 0
+CameBy b amount j k c = Branch (system_of b) (zones_of b) (λ f. (meaning_of b).Exact f 1 0) (kept_of b amount) j k c
 
 -- the store s in which the search of b in `amount` numbers has ended
 pub record Ended (b : List ℕ) (amount : ℕ) (s : List ℤ) : Type 0 where
@@ -31,19 +32,12 @@ pub record Standing (b : List ℕ) (amount : ℕ) (o : Origin) : Type 0 where
   pub place : ℕ
   pub most : place ≤ length (kept_of b amount)
   pub node : ZoneNode
-  pub branch : Branch (system_of b) (zones_of b) (λ f. (meaning_of b).Exact f 1 0) (kept_of b amount) place node came
+  pub branch : CameBy b amount place node came
 
 -- both, where the store is as long as it was lent
 pub record Stands (b : List ℕ) (s : List ℤ) (o : Origin) : Type 0 where
   pub ended : Ended b (length s) s
   pub standing : Standing b (length s) o
-
--- the origin and the zone of the slot that an origin names
-unfoldable pub origin_before : List ℕ → ℕ → Origin → Origin
-origin_before b amount o = elim (drop (up o.parent) (kept_of b amount)) [ [] ↦ no_origin | k ∷ more ↦ origin_of k.came ]
-
-unfoldable pub zone_before : List ℕ → ℕ → Origin → List Pair
-zone_before b amount o = elim (drop (up o.parent) (kept_of b amount)) [ [] ↦ [] | k ∷ more ↦ k.zone ]
 
 -- how many jumps lead there
 abbrev pub jumps_before : List ℕ → ℕ → Origin → ℕ

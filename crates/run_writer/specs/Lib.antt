@@ -4,4 +4,5 @@ pub mod Writing
 pub mod Told
 pub mod Branch
 pub mod Examples
+pub mod Jumps
 pub mod Walks

@@ -1,16 +1,12 @@
 // The branch that led to a zone, walked from its end back over the slots of the store.
 ghost use Rattle.std.specs.Prelude.{◌≡◌, ◌++◌, ◌+◌, ◌*◌, ◌≤◌, ◌<◌, length, drop, set, pos};
 ghost use Rattle.runs.specs.Written.{written};
-ghost use Rattle.search.specs.Answers.{state_of};
-ghost use Rattle.search.specs.Outcomes.{came_of};
-ghost use Rattle.reachability.specs.Witnesses.{last_state};
-ghost use Rattle.run_writer.specs.Crossing.{witnesses_of};
-ghost use Rattle.run_writer.specs.Branch.{kept_of, Stands, jumps_before};
-ghost use Rattle.run_writer.specs.Writing.{run_of};
+ghost use Rattle.run_writer.specs.Branch.{Stands};
 
 use crate::crossing::Jump;
 use automata::opened::Automaton;
-use slots::slot::{Origin, decode, origin_of, slot_length};
+use slots::slot::{Origin, origin_of, slot_length};
+use witness::State;
 
 // The branch to a zone of this origin, in the store where a search has ended: its jumps, from the last one back.
 #[derive(Clone, Copy)]
@@ -36,18 +32,18 @@ impl<'a> Iterator for Branch<'a> {
         if !origin.is_along() {
             return None;
         }
-        let size = self.automaton.clocks + 1;
-        let slot = &self.store[origin.slot() * slot_length(size)..];
+        let stride = slot_length(self.automaton.clocks + 1);
+        let slot = &self.store[origin.slot() * stride..];
         self.origin = origin_of(slot);
         Some(Jump {
             automaton: self.automaton,
             edge: origin.edge(),
-            zone: decode(slot, size),
+            slot,
         })
     }
 }
 
-// Two numbers of the run become a and b.
+// Two numbers of the run become a and b. They are cast, here and where an edge or a count is handed in, as std has no From for these types.
 fn put_two(run: &mut [i64], at: usize, a: u64, b: u64)
     requires { (at + 2 ≤ length run.old) × (a < 9223372036854775808) × (b < 9223372036854775808) }
     ensures { run.new ≡ set (set run.old at (pos a)) (at + 1) (pos b) }
@@ -57,30 +53,29 @@ fn put_two(run: &mut [i64], at: usize, a: u64, b: u64)
 }
 
 impl<'a> Branch<'a> {
+    ghost use Rattle.run_writer.specs.Walks.{jumps_left, last_left, run_left};
+
     // How many jumps lead to the zone.
     pub(crate) fn jumps(self) -> usize
-        ensures { result ≡ jumps_before self.entry.automaton.bytes.now (length self.entry.store.now) self.entry.origin }
+        ensures { result ≡ jumps_left self.entry }
     {
         self.count()
     }
 
     // The last state of the run to the zone.
-    fn last_state(mut self) -> [u64; 9]
-        ensures { result ≡ last_state (witnesses_of self.entry.automaton.bytes.now)
-            (kept_of self.entry.automaton.bytes.now (length self.entry.store.now)) (came_of self.entry.origin) }
+    fn last_state(mut self) -> State
+        ensures { result.clocks ≡ last_left self.entry }
     {
         match self.next() {
             Some(jump) => jump.landing(),
-            None => [0; 9],
+            None => State::start(),
         }
     }
 
     // The run to the zone, to which k jumps lead, is written from its end back.
     pub(crate) fn write_back(self, run: &mut [i64], k: usize)
-        requires jumps_fit { (k ≡ jumps_before self.automaton.bytes.now (length self.store.now) self.origin)
-            × (2 * k + 2 ≤ length run.old) }
-        ensures { run.new ≡ written (run_of self.entry.automaton.bytes.now
-            (state_of self.entry.automaton.bytes.now (length self.entry.store.now)) (came_of self.entry.origin)) ++ drop (2 * k + 2) run.old }
+        requires jumps_fit { (k ≡ jumps_left self) × (2 * k + 2 ≤ length run.old) }
+        ensures { run.new ≡ written (run_left self.entry) ++ drop (2 * k + 2) run.old }
     {
         let mut v = self.last_state();
         for (left, jump) in (0..k).rev().zip(self) {
@@ -88,6 +83,6 @@ impl<'a> Branch<'a> {
             put_two(run, 2 * left + 2, jump.edge as u64, back.wait);
             v = back.state;
         }
-        put_two(run, 0, (2 * k + 2) as u64, v[1]);
+        put_two(run, 0, (2 * k + 2) as u64, v.clocks[1]);
     }
 }

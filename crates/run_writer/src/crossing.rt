@@ -1,38 +1,30 @@
-// The zone of a slot on its way along an edge, in whole time units with no loosening, and a step back.
+// The zone of a slot on its way along an edge, in whole time units with no loosening, and a step back. Squares and sets of clocks are
+// document 01's fixed arrays, passed by value.
 ghost use Rattle.std.specs.Prelude.{◌≡◌, suc, ◌*◌, ◌≤◌, ◌<◌};
 ghost use Rattle.std.proofs.Props.{props};
-ghost use Rattle.runs.specs.Limits.{scale};
 ghost use Rattle.zones.specs.Ranges.{Sized, counts};
 ghost use Rattle.zones.specs.Settled.{Settled};
 ghost use Rattle.zones.specs.Successors.{meet_of};
 ghost use Rattle.zones.specs.Zones.{set_of, home, reset_of};
 ghost use Rattle.automata.specs.Automata.{clocks, locations, invariant_of};
-ghost use Rattle.witness.specs.Sizes.{AllUpTo};
-ghost use Rattle.run_writer.specs.Crossing.{guarded_by, crossing_of, Crosses, back_along, landing_along};
+ghost use Rattle.run_writer.specs.Crossing.{Leaves};
 
 use automata::opened::Automaton;
 use search::successor::narrow;
-use witness::{Back, landing, step_back};
+use slots::slot::decode;
+use witness::{Back, Crossing, Square, State};
 use zones::fraction::Fraction;
 use zones::pair::Pair;
 use zones::reduction::Reduced;
 use zones::zone::Work;
 
-// A jump: its edge, and the kept zone from which it is made.
+// A jump: its edge, and the slot of the kept zone from which it is made.
 #[derive(Clone, Copy)]
 pub(crate) struct Jump<'a> {
     pub(crate) automaton: Automaton<'a>,
     pub(crate) edge: usize,
-    pub(crate) zone: [Pair; 81],
-    pub(crate) ghost crosses: { Crosses automaton.bytes.now edge zone } by { Prim.hlevel props },
-}
-
-// The squares of a zone that meets the guard and of what arrives after the reset, and the clocks that are reset.
-#[derive(Clone, Copy)]
-pub(crate) struct Crossing {
-    guarded: [Pair; 81],
-    arrived: [Pair; 81],
-    resets: [bool; 9],
+    pub(crate) slot: &'a [i32],
+    pub(crate) ghost leaves: { Leaves automaton.bytes.now edge slot.now } by { Prim.hlevel props },
 }
 
 // The index whose row and column a has after a reset.
@@ -50,13 +42,11 @@ fn cleared(w: Work, size: usize, marked: [bool; 9]) -> Work
     requires { size ≤ 9 }
     ensures { result ≡ reset_of size (set_of marked) w }
 {
-    let old = w.zone;
-    let fraction = w.fraction;
-    let mut zone = old;
+    let mut work = w;
     for k in 0..size * 9 {
-        zone[k] = old[home(marked, k / 9) * 9 + home(marked, k % 9)];
+        work.zone[k] = w.zone[home(marked, k / 9) * 9 + home(marked, k % 9)];
     }
-    Work { zone, fraction }
+    work
 }
 
 // A settled zone is reset, and meets the invariant of l.
@@ -66,33 +56,38 @@ fn arrived(automaton: &Automaton, l: usize, w: Work, resets: [bool; 9]) -> Reduc
     ensures { result ≡ meet_of (clocks automaton.now.bytes.now) (invariant_of automaton.now.bytes.now l)
         (reset_of (suc (clocks automaton.now.bytes.now)) (set_of resets) w) }
 {
-    let c = automaton.clocks;
-    let at = automaton.invariant_at(l);
-    narrow(automaton, at, c, cleared(w, c + 1, resets), true)
+    let cleared = cleared(w, automaton.clocks + 1, resets);
+    narrow(&automaton.invariant(l), cleared, true)
 }
 
 impl<'a> Jump<'a> {
+    ghost use Rattle.witness.specs.Told.{step_of};
+    ghost use Rattle.run_writer.specs.Jumps.{guarded_over, CrossedOver, back_over, landing_over};
+
     // The zone meets the guard.
     fn guarded(self) -> Reduced
-        ensures { result ≡ guarded_by self.entry.automaton.bytes.now self.entry.edge self.entry.zone }
+        ensures { result ≡ guarded_over self.entry }
     {
-        let at = self.automaton.edge_at(self.edge) + 3;
         let w = Work {
-            zone: self.zone,
+            zone: decode(self.slot, self.automaton.clocks + 1),
             fraction: Fraction::NO_LIMIT,
         };
-        narrow(&self.automaton, at, self.automaton.clocks, w, false)
+        narrow(&self.automaton.guard(self.edge), w, false)
     }
 
+    // The zone on its way along the edge.
     fn cross(self) -> Crossing
-        ensures { result ≡ crossing_of self.entry.automaton.bytes.now self.entry.edge self.entry.zone }
+        ensures { CrossedOver self.entry result }
     {
+        let size = self.automaton.clocks + 1;
         let edge = self.automaton.edge(self.edge);
         let resets = edge.resets;
         let before = self.guarded().work;
         let after = arrived(&self.automaton, edge.to, before, resets).work;
-        let guarded = before.zone;
-        let arrived = after.zone;
+        let pairs = before.zone;
+        let guarded = Square { pairs, size };
+        let pairs = after.zone;
+        let arrived = Square { pairs, size };
         Crossing {
             guarded,
             arrived,
@@ -101,18 +96,16 @@ impl<'a> Jump<'a> {
     }
 
     // The step back over it, from the state v of the zone's successor.
-    pub(crate) fn back(self, v: [u64; 9]) -> Back
-        requires { AllUpTo scale v }
-        ensures { result ≡ back_along self.entry.automaton.bytes.now self.entry.edge self.entry.zone v }
+    pub(crate) fn back(self, v: State) -> Back
+        ensures { step_of result ≡ back_over self.entry v.clocks }
     {
-        let x = self.cross();
-        step_back(v, x.arrived, x.guarded, x.resets, self.automaton.clocks + 1)
+        self.cross().step_back(v)
     }
 
     // A state in which it arrives.
-    pub(crate) fn landing(self) -> [u64; 9]
-        ensures { result ≡ landing_along self.entry.automaton.bytes.now self.entry.edge self.entry.zone }
+    pub(crate) fn landing(self) -> State
+        ensures { result.clocks ≡ landing_over self.entry }
     {
-        landing(self.cross().arrived, self.automaton.clocks + 1)
+        self.cross().arrived.landing()
     }
 }

@@ -42,8 +42,7 @@ fn write_found(
     ensures tells { Tells automaton.now.bytes.now (length store.old) run.new result }
 {
     let turn = explore(automaton, store);
-    let outcome = turn.outcome;
-    if let Outcome::Reached(origin) = outcome {
+    if let Outcome::Reached(origin) = turn.outcome {
         let branch = Branch {
             automaton: *automaton,
             store,

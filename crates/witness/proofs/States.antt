@@ -1,6 +1,6 @@
 -- The places of a state.
 -- Assumes nothing.
-use Prim.Native.Nat.{ℕ, zero, suc, ◌-◌, ◌≤◌, ◌<◌}
+use Prim.Native.Nat.{ℕ, zero, suc, ◌≤◌, ◌<◌}
 use mathlib.Core.Path.{◌≡◌, refl, ◌∙◌}
 use mathlib.Core.Bool.{Bool, true, false}
 use borrow.Author.Tests.{ltb-true, ltb-false}
@@ -10,7 +10,7 @@ use lib.Seq.{get_or-set_same, get_or-set_other}
 use native.Mathlib.Omega.{arith}
 use native.Mathlib.Nat.{not-suc-le-zero}
 use Rattle.witness.specs.Witnesses.{clocks_of, places_of}
-use Rattle.witness.specs.Sizes.{IsState}
+use Rattle.witness.specs.Sizes.{AllUpTo}
 use Rattle.zones.proofs.sets.Squares.{up_to}
 
 module _ (f : ℕ → ℕ) where
@@ -39,18 +39,13 @@ module _ (f : ℕ → ℕ) where
       get_or-set_other (places_of f k) (suc k) x (f (suc k)) 0 (λ e. let q = h (omega arith) in omega arith) ∙
       state_none k x (λ p. let q = h p in omega arith)
 
-  -- a state of n indices, whose clocks are f's
-  pub state_size : (C n : ℕ) → n ≤ 9 → ((x : ℕ) → 0 < x → x < n → f x ≤ C) → IsState C n (places_of f (n - 1))
-  state_size C n h m = record {
-    places = state-length (n - 1);
-    start = state_none (n - 1) 0 (λ p. absurd (not-suc-le-zero p));
-    past = λ x hx. state_none (n - 1) x (λ p. omega arith);
-    most = λ x. go x (ltb x n) refl;
-  }
+  -- none is above C if none of f's is
+  pub state_most : (C k : ℕ) → k ≤ 8 → ((x : ℕ) → 0 < x → x ≤ k → f x ≤ C) → AllUpTo C (places_of f k)
+  state_most C k h m x = go x (ltb k x) refl
     where
-      go : (x : ℕ) (t : Bool) → ltb x n ≡ t → clocks_of (places_of f (n - 1)) x ≤ C
-      go x false e = let q = ltb-false x n e in omega (arith, state_none (n - 1) x (λ p. omega arith))
-      go zero true e = omega (arith, state_none (n - 1) 0 (λ p. absurd (not-suc-le-zero p)))
-      go (suc x) true e =
-          let q = ltb-true (suc x) n e in
-          omega (arith, state_at (n - 1) (omega arith) (suc x) (omega arith) (omega arith), m (suc x) (omega arith) q)
+      go : (x : ℕ) (t : Bool) → ltb k x ≡ t → clocks_of (places_of f k) x ≤ C
+      go x true e = omega (arith, state_none k x (λ p. ltb-true k x e))
+      go zero false e = omega (arith, state_none k 0 (λ p. absurd (not-suc-le-zero p)))
+      go (suc x) false e =
+          let q = ltb-false k (suc x) e in
+          omega (arith, state_at k h (suc x) (omega arith) (omega arith), m (suc x) (omega arith) q)

@@ -41,7 +41,6 @@ module _ (u : List ℕ) (g : List Pair) (R : ℕ → Bool) (x : ℕ) where
 
 -- ---- c clocks
 pub landing_of_lem : (a : List Pair) (c : ℕ) → landing_of a (suc c) ≡ places_of (λ x. down (pair_at a 0 x).m) c
-unfolding landing_of
 landing_of_lem a c = rw (one_less c)
 
 pub back_of_lem : (v : List ℕ) (a g : List Pair) (R : ℕ → Bool) (c : ℕ) →

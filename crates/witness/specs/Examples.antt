@@ -3,9 +3,8 @@ use Rattle.std.specs.Prelude.{ℕ, suc, ◌-◌, Bool, true, false, List, [], �
 use Rattle.runs.specs.Limits.{Limits}
 use Rattle.zones.specs.Successors.{start_of}
 use Rattle.zones.specs.Zones.{set_of}
-use Rattle.witness.specs.declared.Back.{Back}
 use Rattle.witness.specs.Laws.{guard_met, arrived}
-use Rattle.witness.specs.Witnesses.{back_of, landing_of}
+use Rattle.witness.specs.Witnesses.{StepBack, back_of, landing_of}
 
 -- limits: the lower ones by clock, and the upper ones
 abbrev no_upper : ℕ
@@ -23,7 +22,7 @@ record Edge : Type 0 where
   target : Limits
 
 -- the step back along it from v, and its landing
-abbrev back_from : Edge → List ℕ → Back
+abbrev back_from : Edge → List ℕ → StepBack
 back_from e v =
     let R = set_of e.resets in
     let w = (start_of e.clocks e.first).work in

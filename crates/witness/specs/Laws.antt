@@ -8,8 +8,7 @@ use Rattle.zones.specs.declared.zone.Work.{Work}
 use Rattle.zones.specs.Sets.{Has, Put, Waits, Follows}
 use Rattle.zones.specs.Successors.{meet_of}
 use Rattle.zones.specs.Zones.{reset_of}
-use Rattle.witness.specs.declared.Back.{Back}
-use Rattle.witness.specs.Witnesses.{clocks_of}
+use Rattle.witness.specs.Witnesses.{clocks_of, StepBack}
 
 -- the zone that meets the guard, and the one that meets the invariant after the reset
 abbrev pub guard_met : ℕ → Limits → Work → Reduced
@@ -24,7 +23,7 @@ pub record BothLive (c : ℕ) (G : Limits) (R : ℕ → Bool) (I : Limits) (w : 
   pub entered : is_empty (arrived c G R I w) ≡ false
 
 -- r is a step back from the state s: its state is in w and within the guard, reset it is within the invariant, and waiting makes it s
-pub record SteppedBack (c : ℕ) (G : Limits) (R : ℕ → Bool) (I : Limits) (w : Work) (s : List ℕ) (r : Back) : Type 0 where
+pub record SteppedBack (c : ℕ) (G : Limits) (R : ℕ → Bool) (I : Limits) (w : Work) (s : List ℕ) (r : StepBack) : Type 0 where
   pub inside : Has 1 0 c w (clocks_of r.state)
   pub guard : Within 1 0 c G (clocks_of r.state)
   pub after : ℕ → ℕ

@@ -6,7 +6,6 @@ use Rattle.std.specs.Prelude.{ℕ, zero, suc, ◌+◌, ◌-◌, min, max, Bool, 
 use Rattle.zones.specs.declared.pair.Pair.{Pair}
 use Rattle.zones.specs.Integers.{up, down}
 use Rattle.zones.specs.Zones.{pair_at}
-use Rattle.witness.specs.declared.Back.{Back}
 
 -- a state as a valuation
 abbrev pub clocks_of : List ℕ → ℕ → ℕ
@@ -41,12 +40,16 @@ least_to u g R x (suc b) = cond (R (suc b)) (least_to u g R x b) (min (least_to 
 abbrev pub state_before : List ℕ → List Pair → (ℕ → Bool) → ℕ → List ℕ
 state_before u g R c = places_of (λ x. least_to u g R x c) c
 
--- the whole step back from v
-unfoldable pub back_of : List ℕ → List Pair → List Pair → (ℕ → Bool) → ℕ → Back
+-- the whole step back from v: the wait before it, and the state before the jump that the wait follows
+pub record StepBack : Type 0 where
+  pub wait : ℕ
+  pub state : List ℕ
+
+unfoldable pub back_of : List ℕ → List Pair → List Pair → (ℕ → Bool) → ℕ → StepBack
 back_of v a g R size =
     let t = wait_to v a (size - 1) in
     record { wait = t; state = state_before (earlier_of v t (size - 1)) g R (size - 1) }
 
 -- a state to begin with: v x = −a(0, x), each clock at its least
-unfoldable pub landing_of : List Pair → ℕ → List ℕ
+abbrev pub landing_of : List Pair → ℕ → List ℕ
 landing_of a size = places_of (λ x. down (pair_at a 0 x).m) (size - 1)

@@ -1,7 +1,8 @@
 // The step back through zones: from a state of a successor, the wait before it and a state before the jump.
+// States, squares and sets of clocks are document 01's fixed arrays, passed by value.
 #![tactic(auto)]
 
-ghost use Rattle.std.specs.Prelude.{◌≡◌, ◌-◌, ◌<◌, ◌≤◌};
+ghost use Rattle.std.specs.Prelude.{◌≡◌, ◌-◌, ◌*◌, ◌<◌, ◌≤◌, replicate};
 ghost use Rattle.runs.specs.Limits.{scale};
 ghost use Rattle.zones.specs.Zones.{set_of};
 ghost use Rattle.witness.specs.Sizes.{AllUpTo, Spans};
@@ -9,83 +10,126 @@ ghost use Rattle.witness.specs.Witnesses.{wait_to, earlier_of, least_to, state_b
 
 use zones::pair::Pair;
 
+// A state, clock x at place x: none is above the scale.
+#[derive(Clone, Copy)]
+pub struct State {
+    pub clocks: [u64; 9],
+    pub ghost up_to: { AllUpTo scale clocks },
+}
+
+// The square of a zone of `size` indices, on the scale.
+#[derive(Clone, Copy)]
+pub struct Square {
+    pub pairs: [Pair; 81],
+    pub size: usize,
+    pub ghost few: { size ≤ 9 },
+    pub ghost spans: { Spans scale size pairs },
+}
+
+// A zone on its way along an edge: the square that met the guard, the one that met the invariant after the reset, and the clocks
+// that are reset.
+#[derive(Clone, Copy)]
+pub struct Crossing {
+    pub guarded: Square,
+    pub arrived: Square,
+    pub resets: [bool; 9],
+    pub ghost same: { guarded.size ≡ arrived.size },
+}
+
 // The wait before a state, and the state before the jump that the wait follows.
 #[derive(Clone, Copy)]
 pub struct Back {
     pub wait: u64,
-    pub state: [u64; 9],
+    pub state: State,
+    pub ghost short: { wait ≤ 2 * scale },
 }
 
-// A state of the square a: each clock at its least.
-pub fn landing(a: [Pair; 81], size: usize) -> [u64; 9]
-    requires { (size ≤ 9) × Spans scale size a }
-    ensures { result ≡ landing_of a size }
-{
-    let mut v = [0; 9];
-    for x in 1..size {
-        v[x] = 0_u64.saturating_sub_signed(a[x].m);
+impl State {
+    // All clocks at 0.
+    pub fn start() -> State
+        ensures { result.clocks ≡ replicate 9 0 }
+    {
+        State { clocks: [0; 9] }
     }
-    v
-}
 
-// One step back from the state v of a successor: g is the zone that met the guard, a the one that met the invariant
-// after the reset.
-pub fn step_back(v: [u64; 9], a: [Pair; 81], g: [Pair; 81], resets: [bool; 9], size: usize) -> Back
-    requires { (size ≤ 9) × AllUpTo scale v × Spans scale size a × Spans scale size g }
-    ensures { result ≡ back_of v a g (set_of resets) size }
-{
-    let wait = wait_before(v, a, size);
-    let u = earlier(v, wait, size);
-    let state = state_before(u, g, resets, size);
-    Back { wait, state }
-}
-
-// The most by which a clock of v is above its bound in a: the shortest wait that may have led there.
-fn wait_before(v: [u64; 9], a: [Pair; 81], size: usize) -> u64
-    requires { (size ≤ 9) × AllUpTo scale v × Spans scale size a }
-    ensures { result ≡ wait_to v a (size - 1) }
-{
-    let mut wait: u64 = 0;
-    for x in 1..size {
-        wait = wait.max(v[x].saturating_sub_signed(a[x * 9].m));
-    }
-    wait
-}
-
-// The state v before the wait.
-fn earlier(v: [u64; 9], wait: u64, size: usize) -> [u64; 9]
-    requires { size ≤ 9 }
-    ensures { result ≡ earlier_of v wait (size - 1) }
-{
-    let mut u = [0; 9];
-    for x in 1..size {
-        u[x] = v[x].saturating_sub(wait);
-    }
-    u
-}
-
-// The state before the jump that resets and leaves u.
-fn state_before(u: [u64; 9], g: [Pair; 81], resets: [bool; 9], size: usize) -> [u64; 9]
-    requires { (size ≤ 9) × AllUpTo scale u × Spans scale size g }
-    ensures { result ≡ state_before u g (set_of resets) (size - 1) }
-{
-    let mut old = [0; 9];
-    for x in 1..size {
-        old[x] = clock_before(u, g, resets, size, x);
-    }
-    old
-}
-
-// Clock x of it.
-fn clock_before(u: [u64; 9], g: [Pair; 81], resets: [bool; 9], size: usize, x: usize) -> u64
-    requires { (size ≤ 9) × (x < size) × AllUpTo scale u × Spans scale size g }
-    ensures { result ≡ least_to u g (set_of resets) x (size - 1) }
-{
-    let mut least = 0_u64.saturating_add_signed(g[x * 9].m);
-    for b in 1..size {
-        if !resets[b] {
-            least = least.min(u[b].saturating_add_signed(g[x * 9 + b].m));
+    // The state before the wait.
+    #[tactic(auto, unfolding(crate::specs::Witnesses::places_of), using(crate::proofs::Turns::state_next))]
+    fn earlier(self, wait: u64, size: usize) -> State
+        requires { size ≤ 9 }
+        ensures { result.clocks ≡ earlier_of self.clocks wait (size - 1) }
+    {
+        let mut clocks = [0; 9];
+        for x in 1..size {
+            clocks[x] = self.clocks[x].saturating_sub(wait);
         }
+        State { clocks }
     }
-    least
+}
+
+impl Square {
+    // A state of it: each clock at its least.
+    #[tactic(auto, unfolding(crate::specs::Witnesses::places_of), using(crate::proofs::Parts::row_less, crate::proofs::Turns::state_next))]
+    pub fn landing(self) -> State
+        ensures { result.clocks ≡ landing_of self.pairs self.size }
+    {
+        let mut clocks = [0; 9];
+        for x in 1..self.size {
+            clocks[x] = 0_u64.saturating_sub_signed(self.pairs[x].m);
+        }
+        State { clocks }
+    }
+
+    // The most by which a clock of v is above its bound: the shortest wait that may have led there.
+    #[tactic(auto, unfolding(crate::specs::Witnesses::wait_to), using(crate::proofs::Parts::column_less, crate::proofs::Turns::wait_next))]
+    fn wait_before(self, v: State) -> u64
+        ensures { result ≡ wait_to v.clocks self.pairs (self.size - 1) }
+    {
+        let mut wait: u64 = 0;
+        for x in 1..self.size {
+            wait = wait.max(v.clocks[x].saturating_sub_signed(self.pairs[x * 9].m));
+        }
+        wait
+    }
+
+    // The state before the jump that resets and leaves u.
+    #[tactic(auto, unfolding(crate::specs::Witnesses::places_of), using(crate::proofs::Turns::state_next))]
+    fn state_before(self, u: State, resets: [bool; 9]) -> State
+        ensures { result.clocks ≡ state_before u.clocks self.pairs (set_of resets) (self.size - 1) }
+    {
+        let mut clocks = [0; 9];
+        for x in 1..self.size {
+            clocks[x] = self.clock_before(u, resets, x);
+        }
+        State { clocks }
+    }
+
+    // Clock x of it.
+    #[tactic(auto, unfolding(crate::specs::Witnesses::least_to), using(crate::proofs::Parts::column_plus))]
+    fn clock_before(self, u: State, resets: [bool; 9], x: usize) -> u64
+        requires { x < self.size }
+        ensures { result ≡ least_to u.clocks self.pairs (set_of resets) x (self.size - 1) }
+    {
+        let mut least = 0_u64.saturating_add_signed(self.pairs[x * 9].m);
+        for b in 1..self.size {
+            if !resets[b] {
+                least = least.min(u.clocks[b].saturating_add_signed(self.pairs[x * 9 + b].m));
+            }
+        }
+        least
+    }
+}
+
+impl Crossing {
+    ghost use Rattle.witness.specs.Told.{step_of};
+
+    // One step back from the state v of the successor.
+    #[tactic(auto, unfolding(crate::specs::Witnesses::back_of))]
+    pub fn step_back(self, v: State) -> Back
+        ensures { step_of result ≡ back_of v.clocks self.arrived.pairs self.guarded.pairs (set_of self.resets) self.arrived.size }
+    {
+        let wait = self.arrived.wait_before(v);
+        let u = v.earlier(wait, self.arrived.size);
+        let state = self.guarded.state_before(u, self.resets);
+        Back { wait, state }
+    }
 }

@@ -1,12 +1,11 @@
 -- The run written from its end back: what stands in the buffer after each turn, and how the definition goes on from there.
-use Prim.Native.Nat.{ℕ, suc, ◌+◌, ◌*◌, ◌≤◌, ◌<◌}
-use mathlib.Core.Bool.{Bool, true, false}
+use Prim.Native.Nat.{ℕ, suc, ◌+◌, ◌-◌, ◌*◌, ◌≤◌}
+use mathlib.Core.Bool.{true}
 use mathlib.Core.List.{List, [], ◌∷◌, ◌++◌, append_assoc}
-use mathlib.Core.Path.{◌≡◌, refl, sym, ap, ◌∙◌}
+use mathlib.Core.Path.{◌≡◌, sym, ap, ◌∙◌}
 use lib.IntN.{ℤ, pos}
-use lib.ListN.{length, get_or, drop, take, set, replicate, take-append-drop, length-append, length-replicate, get_or-replicate, get_or-eq_default}
+use lib.ListN.{length, get_or, drop, take, set, take-append-drop, length-append}
 use lib.Seq.{take-suc, set_at, length-take-le, append_snoc}
-use native.Mathlib.Decide.{dec_lt}
 use native.Mathlib.Omega.{arith}
 use Rattle.automata.specs.Automata.{clocks}
 use Rattle.automata.specs.Semantics.{system_of}
@@ -14,29 +13,26 @@ use Rattle.reachability.specs.Witnesses.{back_to, last_state}
 use Rattle.reachability.proofs.Lists.{All, nth_tail}
 use Rattle.reachability.proofs.Robust.{exact_there}
 use Rattle.reachability.proofs.Same.{Tight, all_tight}
-use Rattle.runs.specs.Limits.{scale}
 use Rattle.runs.specs.Runs.{Step, wait, jump, jumps}
 use Rattle.runs.specs.Written.{numbers, written}
 use Rattle.search.specs.Answers.{state_of}
 use Rattle.search.specs.Instance.{ZoneNode, zones_of, meaning_of}
 use Rattle.search.specs.Outcomes.{came_of}
-use Rattle.search.specs.Store.{capacity_of}
+use Rattle.search.specs.Store.{origin_of, capacity_of}
 use Rattle.search.proofs.exploration.Judging.{came_back}
 use Rattle.search.proofs.instance.Obeys.{laws}
 use Rattle.slots.specs.declared.slot.Origin.{Origin}
-use Rattle.slots.specs.Slots.{is_along}
-use Rattle.witness.specs.declared.Back.{Back}
-use Rattle.witness.specs.Sizes.{AllUpTo}
+use Rattle.slots.specs.Slots.{slot_length, is_along}
+use Rattle.witness.specs.Witnesses.{StepBack}
 use Rattle.witness.specs.Witnesses.{clocks_of}
 use Rattle.zones.specs.declared.pair.Pair.{Pair}
 use Rattle.zones.specs.Integers.{up}
-use Rattle.run_writer.specs.Branch.{kept_of, Ended, Standing, origin_before, zone_before, jumps_before}
-use Rattle.run_writer.specs.Crossing.{witnesses_of, Crosses, back_along, landing_along}
+use Rattle.run_writer.specs.Branch.{kept_of, Ended, Standing, jumps_before}
+use Rattle.run_writer.specs.Crossing.{witnesses_of, Crosses, Leaves, back_along, landing_along}
 use Rattle.run_writer.specs.Writing.{run_of}
 use Rattle.run_writer.proofs.Witnessing.{crosses}
-use Rattle.run_writer.proofs.branch.Stepping.{source, zone_is, sound_zone, origin_is}
-use Rattle.run_writer.proofs.branch.Walking.{Along, along, first, edge_is}
-use Rattle.run_writer.proofs.crossing.Along.{landing_state}
+use Rattle.run_writer.proofs.branch.Stepping.{source, sound_zone, asks_slot, reads_counts, reads_zone}
+use Rattle.run_writer.proofs.branch.Walking.{Along, along, edge_is}
 
 module _ {b : List ℕ} {amount : ℕ} {s : List ℤ} (e : Ended b amount s) {o : Origin} (st : Standing b amount o) where
   abbrev ks : List ZoneNode
@@ -54,57 +50,46 @@ module _ {b : List ℕ} {amount : ℕ} {s : List ℤ} (e : Ended b amount s) {o 
     abbrev a : Along st
     a = along st h
 
-    pub crosses_back : {i : ℕ} {z : List Pair} → i ≡ up o.edge → z ≡ zone_before b amount o → Crosses b i z
+    pub crosses_back : {i : ℕ} {z : List Pair} → i ≡ up o.edge → z ≡ (source e st h).zone → Crosses b i z
     crosses_back f g =
         let k = source e st h in
         let j = a.jumps in
         let t = tights a.parent k j.kept in
-        rw (f ∙ edge_is st a, g ∙ zone_is e st h)
+        rw (f ∙ edge_is st a, g)
         (crosses b e.accepted a.edge k.zone st.node.zone j.before j.after j.edge (sound_zone e st h) t.shape t.fit
         j.made j.fine.1)
 
+    -- its slot, as the code reads it
+    pub leaves_back : {i slot stride : ℕ} → i ≡ up o.edge → slot ≡ up o.parent → stride ≡ slot_length (suc (clocks b)) →
+        Leaves b i (take (length s - slot * stride) (drop (slot * stride) s))
+    leaves_back f es ed = record {
+      long = asks_slot e st h es ed;
+      natural = reads_counts e st h es ed;
+      crosses = crosses_back f (reads_zone e st h es ed);
+    }
+
     -- the last state of the run to it
-    pub last_along : {i : ℕ} {z : List Pair} {r : List ℕ} → i ≡ up o.edge → z ≡ zone_before b amount o → r ≡ landing_along b i z
+    pub last_along : {i : ℕ} {z : List Pair} {r : List ℕ} → i ≡ up o.edge → z ≡ (source e st h).zone → r ≡ landing_along b i z
         → r ≡ last_state (witnesses_of b) (kept_of b amount) (came_of o)
     unfolding last_state
     last_along f g r =
         let k = source e st h in
-        r ∙ (λ x. landing_along b ((f ∙ edge_is st a) x) ((g ∙ zone_is e st h) x))
+        r ∙ (λ x. landing_along b ((f ∙ edge_is st a) x) (g x))
         ∙ sym (rw (a.came, last_state, nth_tail ks a.parent k a.jumps.kept))
 
     -- one step of the definition
-    pub back_step : (m : ℕ) (v : List ℕ) (xs : List Step) {i : ℕ} {z : List Pair} {r : Back} {o' : Origin} → i ≡ up o.edge
-        → z ≡ zone_before b amount o → r ≡ back_along b i z v → o' ≡ origin_before b amount o
+    pub back_step : (m : ℕ) (v : List ℕ) (xs : List Step) {i : ℕ} {z : List Pair} {r : StepBack} {o' : Origin} → i ≡ up o.edge
+        → z ≡ (source e st h).zone → r ≡ back_along b i z v → o' ≡ origin_of (source e st h).came
         → back_to (witnesses_of b) (suc m) (kept_of b amount) (came_of o) v xs
         ≡ back_to (witnesses_of b) m (kept_of b amount) (came_of o') r.state (jump i ∷ wait r.wait ∷ xs)
     unfolding back_to
     back_step m v xs {r = w} f g r p =
         let k = source e st h in
         let i≡ = f ∙ edge_is st a in
-        let w≡ = r ∙ (λ x. back_along b (i≡ x) ((g ∙ zone_is e st h) x) v) in
-        let c≡ = ap came_of (p ∙ origin_is e st h) ∙ came_back k.came in
+        let w≡ = r ∙ (λ x. back_along b (i≡ x) (g x) v) in
+        let c≡ = ap came_of p ∙ came_back k.came in
         rw (a.came, back_to, nth_tail ks a.parent k a.jumps.kept)
         (λ x. back_to (witnesses_of b) m ks (sym c≡ x) (sym w≡ x).state (jump (sym i≡ x) ∷ wait (sym w≡ x).wait ∷ xs))
-
-  -- ---- the first zone
-  pub last_first : is_along o ≡ false → replicate 9 0 ≡ last_state (witnesses_of b) (kept_of b amount) (came_of o)
-  unfolding last_state
-  last_first h = ap (last_state (witnesses_of b) ks) (sym (first st h))
-
-  -- no clock of the last state is above the scale
-  zeros : (y : ℕ) → clocks_of (replicate 9 0) y ≤ scale
-  zeros y = go (dec_lt y 9)
-    where
-      go : Dec (y < 9) → clocks_of (replicate 9 0) y ≤ scale
-      go (yes h) = omega (arith, get_or-replicate {A = ℕ} 9 y 0 0 h)
-      go (no h) = omega (arith, get_or-eq_default {A = ℕ} (replicate 9 0) 0 {n = y} (omega (arith, length-replicate {A = ℕ} 9 0)))
-
-  pub last_small : {v : List ℕ} → v ≡ last_state (witnesses_of b) (kept_of b amount) (came_of o) → AllUpTo scale v
-  last_small {v} f y = go (is_along o) refl
-    where
-      go : (t : Bool) → is_along o ≡ t → clocks_of v y ≤ scale
-      go true h = rw (f ∙ sym (last_along h refl refl refl)) ((landing_state b e.accepted _ _ (crosses_back h refl refl)).most y)
-      go false h = rw (f ∙ sym (last_first h)) (zeros y)
 
 -- ---- the buffer: two numbers become x and y
 two_more : (r R : List ℤ) (n : ℕ) (x y : ℤ) → n + 2 ≤ length r → set (set (take (n + 2) r ++ R) n x) (n + 1) y ≡ take n r ++ (x ∷ y ∷ R)
@@ -139,7 +124,7 @@ fill_none {b} {amount} {o} {k} r e f = record {
 
 module _ {b : List ℕ} {amount : ℕ} {r₀ run : List ℤ} {k : ℕ} {o₀ o : Origin} {v : List ℕ} where
   -- one jump more
-  pub fill_turn : {left' left : ℕ} (i : ℕ) (r : Back) {o' : Origin} → left' ≡ left + 1 → 2 * left' + 2 ≤ length r₀
+  pub fill_turn : {left' left : ℕ} (i : ℕ) (r : StepBack) {o' : Origin} → left' ≡ left + 1 → 2 * left' + 2 ≤ length r₀
       → Filled b amount r₀ run k o₀ o v left'
       → ((m : ℕ) (xs : List Step) → back_to (witnesses_of b) (suc m) (kept_of b amount) (came_of o) v xs
       ≡ back_to (witnesses_of b) m (kept_of b amount) (came_of o') r.state (jump i ∷ wait r.wait ∷ xs))

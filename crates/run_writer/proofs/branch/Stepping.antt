@@ -1,14 +1,13 @@
 -- One turn of the walk: the slot that an origin names is in the store, and its own origin is one jump nearer to the start.
-use Prim.Native.Nat.{ℕ, zero, suc, ◌+◌, ◌-◌, ◌*◌, ◌≤◌, ◌<◌}
-use mathlib.Core.Bool.{Bool, true, false}
-use mathlib.Core.List.{List, ◌∷◌}
-use mathlib.Core.Path.{◌≡◌, refl, sym, ap, ◌∙◌, subst}
+use Prim.Native.Nat.{ℕ, suc, ◌+◌, ◌-◌, ◌*◌, ◌≤◌, ◌<◌}
+use mathlib.Core.Bool.{true}
+use mathlib.Core.List.{List}
+use mathlib.Core.Path.{◌≡◌, sym, ap, ◌∙◌, subst}
 use lib.IntN.{ℤ, pos}
 use lib.ListN.{length, get_or, drop, take}
 use lib.Signed.{◌≤ℤ◌}
 use native.Mathlib.Omega.{arith}
 use Rattle.automata.specs.Automata.{clocks}
-use Rattle.reachability.proofs.Lists.{nth_tail}
 use Rattle.reachability.specs.Branches.{path_of}
 use Rattle.reachability.specs.Search.{Came, first_zone}
 use Rattle.search.specs.Outcomes.{came_of}
@@ -17,15 +16,15 @@ use Rattle.run_writer.specs.Walks.{jumps_left}
 use Rattle.search.specs.Exploring.{SoundNode, SoundZone}
 use Rattle.search.specs.Instance.{ZoneNode}
 use Rattle.search.specs.Store.{origin_of, most_slots}
-use Rattle.search.proofs.exploration.Judging.{n≤, read_counts, read_zone}
+use Rattle.search.proofs.exploration.Judging.{read_counts, read_zone}
 use Rattle.search.proofs.exploration.Stores.{lent_length}
 use Rattle.slots.specs.declared.slot.Origin.{Origin}
-use Rattle.slots.specs.Slots.{slot_length, p_at, is_along, slot_origin, zone_of}
-use Rattle.zones.specs.declared.pair.Pair.{Pair}
+use Rattle.slots.specs.Slots.{slot_length, p_at, is_along, slot_origin}
 use Rattle.zones.specs.Integers.{up}
-use Rattle.run_writer.specs.Branch.{kept_of, Ended, Standing, origin_before, zone_before, jumps_before}
-use Rattle.run_writer.proofs.branch.Walking.{left_of, sound, slot_of, slot_inside, origin_at, standing, left_at, Along, along, left_is}
-use Rattle.run_writer.proofs.branch.Walking.{few, none_left, left_most, parent_is, one_more}
+use Rattle.run_writer.specs.Crossing.{zone_in}
+use Rattle.run_writer.specs.Branch.{kept_of, Ended, Standing, jumps_before}
+use Rattle.run_writer.proofs.branch.Walking.{sound, slot_of, slot_inside, origin_at, standing, Along, along}
+use Rattle.run_writer.proofs.branch.Walking.{few, parent_is, one_more, jumps_most}
 
 module _ {b : List ℕ} {amount : ℕ} {s : List ℤ} (e : Ended b amount s) {o : Origin} (st : Standing b amount o) (h : is_along o ≡ true) where
   abbrev a : Along st
@@ -35,31 +34,17 @@ module _ {b : List ℕ} {amount : ℕ} {s : List ℤ} (e : Ended b amount s) {o 
   abbrev pub source : ZoneNode
   source = (along st h).jumps.parent
 
-  there : drop (up o.parent) (kept_of b amount) ≡ source ∷ drop (suc a.parent) (kept_of b amount)
-  there = ap (λ (i : ℕ). drop i (kept_of b amount)) (parent_is st a) ∙ nth_tail (kept_of b amount) a.parent source a.jumps.kept
-
   -- ---- its origin
-  pub origin_is : origin_before b amount o ≡ origin_of source.came
-  unfolding origin_before
-  origin_is = rw (origin_before, there)
-
-  module _ {o' : Origin} (eo : o' ≡ origin_before b amount o) where
+  module _ {o' : Origin} (eo : o' ≡ origin_of source.came) where
     pub next : Standing b amount o'
-    next = subst (Standing b amount) (sym (eo ∙ origin_is)) (standing e a.parent source a.jumps.kept)
-
-    pub nearer : left_of o' < left_of o
-    nearer = omega (arith, left_is st a, ap left_of (eo ∙ origin_is), left_at e a.parent source a.jumps.kept)
+    next = subst (Standing b amount) (sym eo) (standing e a.parent source a.jumps.kept)
 
     pub fewer : jumps_before b amount o ≡ suc (jumps_before b amount o')
-    fewer = one_more st a e ∙ ap (λ x. suc (jumps_before b amount x)) (sym (eo ∙ origin_is))
+    fewer = one_more st a e ∙ ap (λ x. suc (jumps_before b amount x)) (sym eo)
 
   -- ---- its zone
   source_sound : SoundNode b source
   source_sound = (sound e).nodes a.parent source a.jumps.kept
-
-  pub zone_is : zone_before b amount o ≡ source.zone
-  unfolding zone_before
-  zone_is = rw (zone_before, there)
 
   pub sound_zone : SoundZone b source.zone
   sound_zone = record { ranged = source_sound.ranged; framed = source_sound.framed }
@@ -78,43 +63,20 @@ module _ {b : List ℕ} {amount : ℕ} {s : List ℤ} (e : Ended b amount s) {o 
     pub asks_slot : slot_length (suc (clocks b)) ≤ length (take (length s - slot * stride) (drop (slot * stride) s))
     asks_slot = omega (arith, lent_length s (slot * stride), inside)
 
-    pub reads_origin : {r : Origin} → r ≡ slot_origin (take (length s - slot * stride) (drop (slot * stride) s)) → r ≡ origin_before b amount o
-    reads_origin f = f ∙ origin_at e a.parent source a.jumps.kept at≡ ∙ sym origin_is
+    pub reads_origin : {r : Origin} → r ≡ slot_origin (take (length s - slot * stride) (drop (slot * stride) s)) → r ≡ origin_of source.came
+    reads_origin f = f ∙ origin_at e a.parent source a.jumps.kept at≡
 
-    module _ {size : ℕ} (ez : size ≡ suc (clocks b)) where
-      pub asks_decode : ((size ≤ 9) × (slot_length size ≤ length (take (length s - slot * stride) (drop (slot * stride) s)))) ×
-          ((i : ℕ) → i < size * size → pos 0 ≤ℤ get_or (take (length s - slot * stride) (drop (slot * stride) s)) (p_at i) (pos 0))
-      asks_decode = rw ez (
-        (n≤ b e.accepted, asks_slot),
-        read_counts b e.accepted s a.parent (slot * stride) source at≡ (slot_of e a.parent source a.jumps.kept),
-      )
+    pub reads_counts : (t : ℕ) → t < suc (clocks b) * suc (clocks b) →
+        pos 0 ≤ℤ get_or (take (length s - slot * stride) (drop (slot * stride) s)) (p_at t) (pos 0)
+    reads_counts = read_counts b e.accepted s a.parent (slot * stride) source at≡ (slot_of e a.parent source a.jumps.kept)
 
-      pub reads_zone : {z : List Pair} → z ≡ zone_of size (take (length s - slot * stride) (drop (slot * stride) s)) → z ≡ zone_before b amount o
-      reads_zone f =
-          f ∙ ap (λ (i : ℕ). zone_of i lent) ez
-          ∙ read_zone b e.accepted s a.parent (slot * stride) source at≡ (slot_of e a.parent source a.jumps.kept) source_sound
-          ∙ sym zone_is
+    pub reads_zone : zone_in b (take (length s - slot * stride) (drop (slot * stride) s)) ≡ source.zone
+    reads_zone =
+        read_zone b e.accepted s a.parent (slot * stride) source at≡ (slot_of e a.parent source a.jumps.kept) source_sound
 
--- ---- so there are no more jumps than slots
-module _ {b : List ℕ} {amount : ℕ} {s : List ℤ} (e : Ended b amount s) where
-  jumps-left : (m : ℕ) (o : Origin) → Standing b amount o → left_of o ≤ m → jumps_before b amount o ≤ m
-  jumps-left zero o st l = go (is_along o) refl
-    where
-      go : (t : Bool) → is_along o ≡ t → jumps_before b amount o ≤ 0
-      go true h = absurd (omega (arith, left_is st (along st h)))
-      go false h = omega (arith, none_left st h)
-  jumps-left (suc m) o st l = go (is_along o) refl (λ o' st' l'. jumps-left m o' st' l')
-    where
-      go : (t : Bool) → is_along o ≡ t → ((o' : Origin) → Standing b amount o' → left_of o' ≤ m → jumps_before b amount o' ≤ m)
-          → jumps_before b amount o ≤ suc m
-      go true h ih = omega (arith, fewer e st h refl, ih (origin_before b amount o) (next e st h refl) (omega (arith, nearer e st h refl)))
-      go false h ih = omega (arith, none_left st h)
-
-  pub jumps_most : {o : Origin} → Standing b amount o → jumps_before b amount o ≤ length (kept_of b amount)
-  jumps_most {o} st = omega (arith, jumps-left st.place o st (left_most st), st.most)
-
-  pub jumps_few : {o : Origin} → Standing b amount o → jumps_before b amount o ≤ most_slots
-  jumps_few st = omega (arith, jumps_most st, few e)
+pub jumps_few : {b : List ℕ} {amount : ℕ} {s : List ℤ} → Ended b amount s → {o : Origin} → Standing b amount o →
+    jumps_before b amount o ≤ most_slots
+jumps_few e st = omega (arith, jumps_most e st, few e)
 
 -- none lead to the first zone
 pub no_jumps : (x : Branch) → came_of x.origin ≡ first_zone → jumps_left x ≡ 0

@@ -1,4 +1,4 @@
--- A kept zone on its way along an edge that it crosses: it stays in range, and the states that a step back gives are on the scale.
+-- A kept zone on its way along an edge that it crosses: it stays in range.
 -- Assumes nothing.
 use Rattle.zones.specs.Reductions.{is_empty}
 use Prim.Native.Nat.{ℕ, suc, ◌*◌, ◌<◌, ◌≤◌}
@@ -23,12 +23,10 @@ use Rattle.search.specs.Exploring.{SoundZone}
 use Rattle.search.specs.Instance.{work_of}
 use Rattle.search.proofs.exploration.Arriving.{taken_sized, arrives, arrives_at}
 use Rattle.search.proofs.successor.Stepping.{met_sized, reset_enters, invariant_scale, resets_are}
-use Rattle.witness.specs.declared.Back.{Back}
-use Rattle.witness.specs.Sizes.{AllUpTo, Spans, IsState}
+use Rattle.witness.specs.declared.Crossing.{Crossing}
+use Rattle.witness.specs.Sizes.{Spans}
 use Rattle.witness.specs.Witnesses.{back_of, landing_of}
-use Rattle.witness.proofs.Sizes.{back_size, back_wait, landing_size}
-use Rattle.run_writer.specs.declared.crossing.Crossing.{Crossing}
-use Rattle.run_writer.specs.Crossing.{guarded_by, arrived_by, crossing_of, Crosses, back_along, landing_along}
+use Rattle.run_writer.specs.Crossing.{guarded_by, arrived_by, Crossed, Crosses, back_along, landing_along}
 
 whole_fits : Fits32 no_limit
 whole_fits = record { n = omega arith; d = omega arith }
@@ -73,43 +71,34 @@ module _ (b : List ℕ) (a : Accepted b) (i : ℕ) (z : List Pair) (x : Crosses 
       arrives b a i x.edge (work_of z no_limit) x.sound whole_fits e live,
     )
 
-    pub crossed : {m : Reduced} →
-        m ≡ meet_of (clocks b) (invariant_of b edge.to) (reset_of (suc (clocks b)) (set_of edge.resets) r.work) →
-        record { guarded = r.work.zone; arrived = m.work.zone; resets = edge.resets } ≡ crossing_of b i z
-    crossed {m} g =
-        let R = resets_are b a i x.edge (ap (λ (y : Edge). y.resets) f) in
-        let h : m ≡ arrived_by b i z = g ∙ (λ k. meet_of (clocks b) (invariant_of b (f k).to) (reset_of (suc (clocks b)) (R k) (e k).work)) in
-        λ k. record { guarded = (e k).work.zone; arrived = (h k).work.zone; resets = (f k).resets }
+    -- and with k indices what arrives
+    module _ {m : Reduced}
+        (g : m ≡ meet_of (clocks b) (invariant_of b edge.to) (reset_of (suc (clocks b)) (set_of edge.resets) r.work)) {k : ℕ}
+        (s : k ≡ suc (clocks b)) where
+      resets≡ : set_of edge.resets ≡ resets_of b i
+      resets≡ = resets_are b a i x.edge (ap (λ (y : Edge). y.resets) f)
 
-  -- ---- the two squares as they were fetched, with k indices
-  module _ {y : Crossing} (e : y ≡ crossing_of b i z) {k : ℕ} (s : k ≡ suc (clocks b)) where
-    pub landing_asks : (k ≤ 9) × Spans scale k y.arrived
-    landing_asks = rw (s, e) (n≤, arrived_spans)
+      arrived≡ : m ≡ arrived_by b i z
+      arrived≡ = g ∙ (λ j. meet_of (clocks b) (invariant_of b (f j).to) (reset_of (suc (clocks b)) (resets≡ j) (e j).work))
 
-    pub back_asks : (v : List ℕ) → AllUpTo scale v → (k ≤ 9) × AllUpTo scale v × Spans scale k y.arrived × Spans scale k y.guarded
-    back_asks v h = rw (s, e) (n≤, h, arrived_spans, guarded_spans)
+      pub squares : (k ≤ 9) × Spans scale k r.work.zone × Spans scale k m.work.zone
+      squares = rw (s, e, arrived≡) (n≤, guarded_spans, arrived_spans)
 
-    pub landing_is : {v : List ℕ} → v ≡ landing_of y.arrived k → v ≡ landing_along b i z
-    unfolding landing_along
-    landing_is f = f ∙ (λ j. landing_of (e j).arrived (s j))
+      pub crossed : {y : Crossing} → y.guarded.pairs ≡ r.work.zone → y.arrived.pairs ≡ m.work.zone → y.resets ≡ edge.resets →
+          y.arrived.size ≡ k → Crossed b i z y
+      crossed p q t n = record {
+        guarded = p ∙ ap (λ (v : Reduced). v.work.zone) e;
+        arrived = q ∙ ap (λ (v : Reduced). v.work.zone) arrived≡;
+        resets = ap set_of t ∙ resets≡;
+        size = n ∙ s;
+      }
 
-    pub back_is : (v : List ℕ) {r : Back} → r ≡ back_of v y.arrived y.guarded (set_of y.resets) k → r ≡ back_along b i z v
-    unfolding back_along
-    back_is v f =
-        let R = resets_are b a i x.edge (ap (λ (q : Crossing). q.resets) e) in
-        f ∙ (λ j. back_of v (e j).arrived (e j).guarded (R j) (s j))
-
-  -- ---- the states and the wait that they give are on the scale
-  pub landing_state : IsState scale (suc (clocks b)) (landing_along b i z)
+-- ---- through the crossing as it was made
+module _ {b : List ℕ} {i : ℕ} {z : List Pair} {y : Crossing} (e : Crossed b i z y) where
+  pub landing_is : landing_of y.arrived.pairs y.arrived.size ≡ landing_along b i z
   unfolding landing_along
-  landing_state = landing_size scale (suc (clocks b)) n≤ (arrived_by b i z).work.zone arrived_spans
+  landing_is = λ j. landing_of (e.arrived j) (e.size j)
 
-  pub back-state : (v : List ℕ) → IsState scale (suc (clocks b)) (back_along b i z v).state
+  pub back_is : (v : List ℕ) → back_of v y.arrived.pairs y.guarded.pairs (set_of y.resets) y.arrived.size ≡ back_along b i z v
   unfolding back_along
-  back-state v =
-      back_size scale (suc (clocks b)) n≤ v (arrived_by b i z).work.zone (guarded_by b i z).work.zone (resets_of b i) guarded_spans
-
-  pub back_most : (v : List ℕ) → AllUpTo scale v → (back_along b i z v).wait ≤ 2 * scale
-  unfolding back_along
-  back_most v h =
-      back_wait scale (suc (clocks b)) n≤ v (arrived_by b i z).work.zone (guarded_by b i z).work.zone (resets_of b i) h arrived_spans
+  back_is v = λ j. back_of v (e.arrived j) (e.guarded j) (e.resets j) (e.size j)

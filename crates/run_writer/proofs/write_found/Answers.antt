@@ -16,8 +16,8 @@ use Rattle.run_writer.specs.Branch.{jumps_before}
 use Rattle.run_writer.specs.Writing.{run_of}
 use Rattle.run_writer.specs.Told.{Tells}
 use Rattle.run_writer.proofs.branch.Stepping.{jumps_few}
-use Rattle.run_writer.proofs.Answering.{stored, stands, stands_there, short_findings, short_buffer, room_findings, room_buffer, room_tells}
-use Rattle.run_writer.proofs.Answering.{refused_tells, none_findings, none_buffer, missed_none, missed_tells}
+use Rattle.run_writer.proofs.Answering.{stored, stands, stands_there, numbers_here, long, filled_buffer, room_tells}
+use Rattle.run_writer.proofs.Answering.{room_findings, room_buffer, short_findings, short_buffer, refused_tells, missed_none, missed_tells}
 use Rattle.run_writer.proofs.write_found.Goals as goal
 use Rattle.run_writer.proofs.write_found.Goals.{Start, After-jumps-k, in-Reached+else-run-k, in_default}
 
@@ -55,10 +55,11 @@ returns-then-run-k c =
     let g = c.in-Reached.is in
     let k = counted (goal.at.returns-then-run-k c).After-jumps-k in
     let o = ok (goal.at.returns-then-run-k c).Start in
+    let ns = numbers_here _ o _ _ _ h g in
     record {
-      value = short_findings _ o _ _ _ h g k _ c.if-run-k.true;
+      value = short_findings _ _ ns _ (omega (arith, long _ o _ _ _ h g k, c.if-run-k.true));
       store_after = searched_store _ o _ _ _ h;
-      run_after = short_buffer _ o _ _ _ h g k _ c.if-run-k.true;
+      run_after = short_buffer _ _ ns _ (omega (arith, long _ o _ _ _ h g k, c.if-run-k.true));
       tells = refused_tells _ _ _ _;
     }
 
@@ -73,7 +74,7 @@ returns c =
     let b = c.args.automaton.now.bytes.now in
     let same = c.explore-turn.auto.store in
     let found = searched_findings _ o _ _ _ h c.findings.ensures in
-    elim c.match-outcome.branch [
+    elim c.match-turn.branch [
       | in-Reached+else-run-k w ↦
           let g = w.in-Reached.is in
           let k = w.jumps-k.ensures ∙ ap (λ (n : ℕ). jumps_before b n w.in-Reached.origin) same in
@@ -81,17 +82,17 @@ returns c =
           let run = w.run-is ∙ w.write_back.ensures
           ∙ ap (λ (n : ℕ). written (run_of b (state_of b n) (came_of w.in-Reached.origin)) ++ drop (2 * w.jumps-k.result + 2) c.args.run.now) same in
           record {
-            value = found ∙ room_findings _ o _ _ _ h g k _ room;
+            value = found ∙ room_findings _ _ (numbers_here _ o _ _ _ h g) _ (omega (arith, long _ o _ _ _ h g k, room));
             store_after = searched_store _ o _ _ _ h;
-            run_after = room_buffer _ o _ _ _ h g k _ room run;
+            run_after = filled_buffer _ o _ _ _ h g k _ room run;
             tells = subst (Tells _ _ _) (sym found) (room_tells _ o _ _ _ h g k _ room run);
           }
       | in_default w ↦
           let none = missed_none _ o _ _ _ h w.in_default.not-Reached in
           record {
-            value = found ∙ none_findings _ _ none _;
+            value = found ∙ room_findings _ _ none _ (omega arith);
             store_after = searched_store _ o _ _ _ h;
-            run_after = w.run-is ∙ none_buffer _ _ none _;
+            run_after = w.run-is ∙ room_buffer _ _ none _ (omega arith);
             tells = subst (Tells _ _ _) (sym found) (missed_tells _ o _ _ _ h w.in_default.not-Reached _);
           }
     ]

@@ -14,4 +14,4 @@ pub returns-in-None : goal.returns-in-None
 unfolding last_state
 returns-in-None c =
     let b = c.args.self.automaton.bytes.now in
-    ap (last_state (witnesses_of b) (kept_of b (length c.args.self.store.now))) (sym c.in-None.ensures.steps.0)
+    c.start.ensures ∙ ap (last_state (witnesses_of b) (kept_of b (length c.args.self.store.now))) (sym c.in-None.ensures.steps.0)

@@ -1,8 +1,8 @@
 -- Each turn of the loop writes a jump and the wait after it, before what was written; last come the count and the first wait.
 -- Assumes nothing.
-use Prim.Native.Nat.{ℕ, suc, ◌*◌, ◌≤◌, ◌<◌}
+use Prim.Native.Nat.{ℕ, suc}
 use mathlib.Core.List.{List, ◌∷◌}
-use mathlib.Core.Logic.{∥∥₁_elim, ⊎_elim}
+use mathlib.Core.Logic.{⊎_elim}
 use mathlib.Core.Path.{◌≡◌, refl, sym, ap, ◌∙◌}
 use denote.Ref.{Bor}
 use lib.IntN.{ℤ}
@@ -10,31 +10,28 @@ use lib.ListN.{length, set, length-set}
 use native.Mathlib.Omega.{arith}
 use Rattle.automata.specs.declared.opened.Automaton.{Automaton}
 use Rattle.reachability.specs.Witnesses.{back_to}
-use Rattle.runs.specs.Limits.{scale}
 use Rattle.runs.specs.Runs.{Step, wait, jump}
 use Rattle.search.specs.Outcomes.{came_of}
-use Rattle.std.proofs.Props.{props}
 use Rattle.std.specs.declared.ops.Range.{Range}
 use Rattle.std.specs.Iterator.Adapters.{rev_source, zip_first, zip_second}
-use Rattle.witness.specs.declared.Back.{Back}
-use Rattle.witness.specs.Sizes.{AllUpTo}
+use Rattle.witness.specs.Witnesses.{StepBack}
 use Rattle.run_writer.specs.declared.branch.Branch.{Branch}
 use Rattle.run_writer.specs.declared.crossing.Jump.{Jump}
 use Rattle.run_writer.specs.Branch.{kept_of}
-use Rattle.run_writer.specs.Crossing.{witnesses_of, back_along}
+use Rattle.run_writer.specs.Crossing.{witnesses_of}
+use Rattle.run_writer.specs.Jumps.{back_over}
 use Rattle.run_writer.specs.Walks.{Goes, jumps_left}
-use Rattle.run_writer.proofs.branch.Filling.{fill_none, fill_turn, fill_all, last_small}
+use Rattle.run_writer.proofs.branch.Filling.{fill_none, fill_turn, fill_all}
 use Rattle.run_writer.proofs.branch.Stepping.{no_jumps}
-use Rattle.run_writer.proofs.crossing.Along.{back-state, back_most}
 use Rattle.run_writer.proofs.branch.Branch.write_back.Goals as goal
-use Rattle.run_writer.proofs.branch.Branch.write_back.Goals.{After-into_iter-left-iterator, After-back-back}
+use Rattle.run_writer.proofs.branch.Branch.write_back.Goals.{After-into_iter-left-iterator}
 
 two_set : (l : List ℤ) (i j : ℕ) (x y : ℤ) → length (set (set l i x) j y) ≡ length l
 two_set l i j x y = length-set (set l i x) j y ∙ length-set l i x
 
 -- a jump back, as a step of the definition
-stepped : {x y : Branch} {j : Jump} → Goes x j y → {A : Automaton} {S : Bor (List ℤ)} → x.automaton ≡ A → x.store ≡ S → (v : List ℕ) {r : Back}
-    → r ≡ back_along j.automaton.bytes.now j.edge j.zone v → (m : ℕ) (xs : List Step)
+stepped : {x y : Branch} {j : Jump} → Goes x j y → {A : Automaton} {S : Bor (List ℤ)} → x.automaton ≡ A → x.store ≡ S → (v : List ℕ) {r : StepBack}
+    → r ≡ back_over j v → (m : ℕ) (xs : List Step)
     → back_to (witnesses_of A.bytes.now) (suc m) (kept_of A.bytes.now (length S.now)) (came_of x.origin) v xs
     ≡ back_to (witnesses_of A.bytes.now) m (kept_of A.bytes.now (length S.now)) (came_of y.origin) r.state (jump j.edge ∷ wait r.wait ∷ xs)
 stepped g ea es v e m xs = rw (← ea, ← es, e) (g.step m v xs)
@@ -60,28 +57,18 @@ loop-left-init c =
       store = ap (λ (x : Branch). x.store) back;
       jumps = end ∙ many ∙ sym (ap jumps_left back);
       long = refl;
-      small = ∥∥₁_elim c.args.self.stands (Prim.hlevel props) (λ s. last_small s.ended s.standing c.last_state-v.ensures);
       filled = rw (end, back) (fill_none c.args.run.now many c.last_state-v.ensures);
     }
 
--- ---- with the step back
-module _ (c : After-back-back) where
-  few : (c.in-Some.jump.edge < 256) × (c.back-back.result.wait ≤ 2 * scale) × AllUpTo scale c.back-back.result.state
-  few =
-      let j = c.in-Some.jump in
-      let v = c.loop-left.v in
-      let a = j.automaton.accepted in (
-        omega (arith, j.crosses.edge, a.complete.edges≤),
-        rw c.back-back.ensures (back_most _ a _ _ j.crosses v c.loop-left.invariant.small),
-        λ y. rw c.back-back.ensures ((back-state _ a _ _ j.crosses v).most y),
-      )
-
 pub put_two-requires : goal.put_two-requires
 put_two-requires c =
-    let few = few (goal.at.put_two-requires c).After-back-back in
     let inv = c.loop-left.invariant in
     let turn = c.in-Some.ensures.steps.0 in
-    (omega (arith, inv.most, inv.long, turn.1.1, turn.1.2, c.requires.jumps_fit.1), omega (arith, few.0), omega (arith, few.1))
+    let j = c.in-Some.jump in (
+      omega (arith, inv.most, inv.long, turn.1.1, turn.1.2, c.requires.jumps_fit.1),
+      omega (arith, j.leaves.crosses.edge, j.automaton.accepted.complete.edges≤),
+      omega (arith, c.back-back.result.short),
+    )
 
 pub loop-left-preserved : goal.loop-left-preserved
 loop-left-preserved c =
@@ -95,7 +82,6 @@ loop-left-preserved c =
       store = g.store ∙ inv.store;
       jumps = omega (arith, inv.jumps, turn.1.2, g.fewer);
       long = ap length c.put_two.ensures ∙ two_set c.loop-left.run _ _ _ _ ∙ inv.long;
-      small = (few (goal.at.loop-left-preserved c).After-back-back).2;
       filled = rw (c.put_two.ensures, turn.1.1)
           (fill_turn _ _ turn.1.2 (omega (arith, inv.most, c.requires.jumps_fit.1)) inv.filled
           (stepped g inv.automaton inv.store _ c.back-back.ensures));

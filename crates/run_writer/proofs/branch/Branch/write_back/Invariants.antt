@@ -3,8 +3,6 @@ use Prim.Native.Nat.{◌≤◌}
 use mathlib.Core.Path.{◌≡◌}
 use lib.ListN.{length}
 use Rattle.std.specs.Iterator.Adapters.{rev_source, zip_first, zip_second}
-use Rattle.runs.specs.Limits.{scale}
-use Rattle.witness.specs.Sizes.{AllUpTo}
 use Rattle.run_writer.specs.Walks.{jumps_left}
 use Rattle.run_writer.proofs.branch.Filling.{Filled}
 use Rattle.run_writer.proofs.branch.Branch.write_back.Given as goal
@@ -20,6 +18,5 @@ invariant-loop-left l =
       store : x.store ≡ l.fn.self.store;
       jumps : left ≡ jumps_left x;
       long : length l.run ≡ length l.initial.run;
-      small : AllUpTo scale l.v;
-      filled : Filled l.fn.self.automaton.bytes.now (length l.fn.self.store.now) l.initial.run l.run l.k l.fn.self.origin x.origin l.v left;
+      filled : Filled l.fn.self.automaton.bytes.now (length l.fn.self.store.now) l.initial.run l.run l.k l.fn.self.origin x.origin l.v.clocks left;
     }

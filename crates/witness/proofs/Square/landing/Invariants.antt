@@ -4,7 +4,7 @@ use mathlib.Core.Path.{◌≡◌}
 use Rattle.zones.specs.Integers.{down}
 use Rattle.zones.specs.Zones.{pair_at}
 use Rattle.witness.specs.Witnesses.{places_of}
-use Rattle.witness.proofs.landing.Given as goal
+use Rattle.witness.proofs.Square.landing.Given as goal
 
 abbrev pub invariant-loop-x : goal.invariant-loop-x
-invariant-loop-x l = (l.x - 1 ≤ l.size - 1) × (l.v ≡ places_of (λ y. down (pair_at l.a 0 y).m) (l.x - 1))
+invariant-loop-x l = (l.x - 1 ≤ l.self.size - 1) × (l.clocks ≡ places_of (λ y. down (pair_at l.self.pairs 0 y).m) (l.x - 1))
