@@ -9,7 +9,7 @@ ghost use Rattle.std.specs.Prelude.{◌≡◌, ◌+◌, ◌≤◌, false, length
 ghost use Rattle.canonical.specs.Writing.{form_buffer};
 ghost use Rattle.cache.specs.Layouts.{header_length};
 ghost use Rattle.cache.specs.Versions.{version1};
-ghost use Rattle.cache.specs.Records.{answer_record, AnswerFits};
+ghost use Rattle.cache.specs.Entries.{entry_length, entry_record};
 ghost use Rattle.cache.specs.Caches.{used_of, sound_as, sound};
 ghost use Rattle.cache.specs.Walks.{Opened};
 ghost use Rattle.cache.specs.Consulting.{Room, Searches, appended, make_empty_reply, make_empty_cache};
@@ -21,7 +21,7 @@ use automata::refusals::Refusal;
 use canonical::write_canonical;
 use encoding::{be32, bytes_of, put};
 use layout::{HEADER, LONGEST, Layout, VERSION_AT};
-use record::write;
+use record::Entry;
 use records::Records;
 use search::search;
 use search::verdict::Answer;
@@ -94,15 +94,13 @@ pub fn look_up(cache: &[u8], automaton: &[u8], form: &mut [u8]) -> Result<Option
 
 // ---- filing
 // A record behind those that are there: the free part is lent to its writer, then the used length follows.
-// Cache and layout stay two parameters here: in a struct the cache would be a `&mut` field, which these contracts would follow to its end.
-fn append(cache: &mut [u8], layout: Layout, answer: Answer, automaton: &[u8])
-    requires room { Room cache.old (layout.head + length automaton.now) }
-    requires fits { AnswerFits layout answer automaton.now }
-    ensures { cache.new ≡ appended cache.old (answer_record layout answer automaton.now) }
+fn append(cache: &mut [u8], entry: &Entry<'_>)
+    requires { Room cache.old (entry_length entry.now) }
+    ensures { cache.new ≡ appended cache.old (entry_record entry.now) }
 {
     let used = be32(cache, 0) as usize;
-    let next = used + (layout.head + automaton.len());
-    write(&mut cache[used..], layout, answer, automaton);
+    let next = used + entry.length();
+    entry.write(&mut cache[used..]);
     put(cache, 0, &bytes_of(next as u32));
 }
 
@@ -123,7 +121,12 @@ fn search_and_file(
         return Err(Refusal::CacheFull);
     }
     let answer = search(automaton, store)?.answer;
-    append(cache, layout, answer, automaton);
+    let entry = Entry {
+        layout,
+        answer,
+        automaton,
+    };
+    append(cache, &entry);
     Ok(answer)
 }
 

@@ -1,6 +1,6 @@
 // The records of a cache, one after another.
 use crate::layout::Layout;
-use crate::record::{Record, measure};
+use crate::record::Record;
 use encoding::same;
 use search::verdict::Answer;
 
@@ -23,7 +23,7 @@ impl<'a> Iterator for Records<'a> {
 
     #[tactic(auto, using(crate::proofs::records::Splitting::records_none))]
     fn next(&mut self) -> Option<Record<'a>> {
-        let length = measure(self.bytes, self.layout)?;
+        let length = self.layout.measure(self.bytes)?;
         let (bytes, rest) = self.bytes.split_at(length);
         self.bytes = rest;
         Some(Record {

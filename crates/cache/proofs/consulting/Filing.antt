@@ -28,7 +28,7 @@ use Rattle.cache.specs.Lookups.{look_up, is_absent}
 use Rattle.cache.specs.Caches.{records_of, sound_as}
 use Rattle.cache.specs.Consulting.{empty_header, make_empty_as, look_up_as, full, Room, appended, consult_answer_as, consult_cache_as}
 use Rattle.cache.specs.Consulting.{consult_store_as}
-use Rattle.cache.proofs.layouts.Written.{written-length, written_automaton, written-measured, given_fits, filed-back, record_sound}
+use Rattle.cache.proofs.layouts.Written.{written_length, written_automaton, written-measured, given_fits, filed-back, record_sound}
 use Rattle.cache.proofs.records.Splitting.{no_records}
 use Rattle.cache.proofs.records.Looking.{look_append}
 use Rattle.cache.proofs.caches.Sounding.{Sound, sound_facts}
@@ -91,7 +91,7 @@ module _ (L : Layout) (c b : List ℕ) (amount : ℕ) (a : Answer)
   facts = sound_facts L c t.sound
 
   size : length new ≡ L.head + length b
-  size = written-length L _ _ b
+  size = written_length L _ _ b
 
   room : Room c (length new)
   room = has_room c (length new) facts.least (ap (full c) size ∙ f)
