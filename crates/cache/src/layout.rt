@@ -41,7 +41,7 @@ impl Layout {
         }
     }
 
-    // The length of the record that the bytes begin with, none where they begin with none.
+    // The length of the record that the bytes begin with, none where they begin with none. It is cast, since usize has no `From` for u32.
     #[tactic(auto, unfolding(crate::specs::Records::measured))]
     pub(crate) fn measure(self, bytes: &[u8]) -> Option<usize>
         ensures { MatchOption result (measured self bytes.now ≡ 0) (Begins self bytes.now) }

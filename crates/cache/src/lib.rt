@@ -1,4 +1,5 @@
 // The cache of verdicts, document 01's shelf: asked first, and filled by the search.
+// The used length is u32 in the bytes and usize in the code, which have no `From` for each other: it is cast.
 #![tactic(auto)]
 
 mod layout;
@@ -42,6 +43,7 @@ pub fn make_empty(cache: &mut [u8]) -> Result<(), Refusal>
 }
 
 // ---- asking
+// Cache, automaton, form and store are buffers that a caller lends, as the C interface has them, so they stay parameters side by side.
 // The records of a sound cache, none where it isn't sound.
 #[tactic(auto, unfolding(crate::specs::Caches::sound_as, crate::specs::Caches::sound_header))]
 fn open_as(cache: &[u8], layout: Layout) -> Option<Records<'_>>

@@ -1,4 +1,4 @@
-// One record of a cache.
+// One record of a cache. Its numbers are cast to the u32 that their bytes hold, since no wider type has a `From` to it; `fits` says that they fit.
 ghost use Rattle.std.specs.Prelude.{◌≡◌, ◌≤◌, length};
 ghost use Rattle.encoding.specs.Placing.{placed};
 ghost use Rattle.cache.specs.Records.{record_numbers, record_automaton, sound_record, filed_as, number_bytes, AnswerFits};
