@@ -122,6 +122,7 @@ fn tell_lookup(
     number_of(&found)
 }
 
+// ---- what C calls: each buffer that it lends is a parameter, as include/robustness.h declares them
 // 0, or the number by which the automaton is turned down.
 #[unsafe(no_mangle)]
 pub extern "C" fn robustness_refusal(automaton: &[u8]) -> u32
