@@ -85,7 +85,7 @@ fn look_up_form(cache: &[u8], form: &[u8]) -> Result<Option<Answer>, Refusal>
 }
 
 // What a cache says of an automaton, whose form is written first. It only reads the cache.
-#[tactic(auto, using(crate::proofs::consulting::Meeting::form_within))]
+#[tactic(auto, using(crate::proofs::consulting::Meeting::form_within, crate::proofs::consulting::Meeting::form_taken))]
 pub fn look_up(cache: &[u8], automaton: &[u8], form: &mut [u8]) -> Result<Option<Answer>, Refusal>
     ensures value { result ≡ look_up_in cache.now automaton.now (length form.old) }
     ensures form_after { form.new ≡ form_buffer automaton.now form.old }

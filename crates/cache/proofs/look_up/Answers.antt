@@ -20,11 +20,6 @@ returns-in_err-length-clause-value c =
     (ap Err (sym (named_number _))
     ∙ of_refused _ _ c.write_canonical.ensures.value (look_up_as version1 c.args.cache.now) (λ (k : ℕ). Err (named k)) c.in_err-length.was)
 
-pub slice_bounds-look_up_form-end-2 : goal.slice_bounds-look_up_form-end-2
-slice_bounds-look_up_form-end-2 c =
-    let wrote = c.write_canonical in
-    sym (length-take-le _ _ (form_within _ _ wrote.ensures.value c.in_ok-length.was wrote.auto.form))
-
 pub returns-clause-value : goal.returns-clause-value
 unfolding look_up_in
 returns-clause-value c =

@@ -18,11 +18,7 @@ passes true u e = (refl, e)
 passes false u e = absurd (false≢true e)
 
 miss_both : (a b : List ℕ) → same_bytes a b ≡ false → same_bytes b a ≡ false
-miss_both a b e = go (same_bytes b a) refl
-  where
-    go : (t : Bool) → same_bytes b a ≡ t → t ≡ false
-    go true f = absurd (false≢true (sym e ∙ ap (λ (x : List ℕ). same_bytes a x) (same_equal b a f) ∙ equal_same a))
-    go false f = refl
+miss_both a b e = grind (arith, common_steps, same_equal b a, equal_same a)
 
 module _ (L : Layout) where
   -- ---- the first one counts
@@ -50,12 +46,10 @@ module _ (L : Layout) where
   unfolding distinct look_up
   distinct_append [] r h g = refl
   distinct_append (x ∷ rs) r h g =
-      let p = passes (is_absent (look_up L rs (record_automaton L x))) (distinct L rs) h in
-      let q = absent_rest x rs (record_automaton L r) g in
-      let differ = miss_both (record_automaton L x) (record_automaton L r) q.0 in
-      rw (absent_append rs r (record_automaton L x) p.0 differ) (distinct_append rs r p.1 q.1)
+      let differ = miss_both (record_automaton L x) (record_automaton L r) (absent_rest x rs (record_automaton L r) g).0 in
+      grind (arith, common_steps, absent_append rs r (record_automaton L x), distinct_append rs r, differ)
 
   pub sound-append : (rs : List (List ℕ)) (r : List ℕ) → all_sound L rs ≡ true → sound_record L r ≡ true → all_sound L (rs ++ (r ∷ [])) ≡ true
   unfolding all_sound
   sound-append [] r h g = rw g
-  sound-append (x ∷ rs) r h g = let p = passes (sound_record L x) (all_sound L rs) h in rw p.0 (sound-append rs r p.1 g)
+  sound-append (x ∷ rs) r h g = grind (arith, common_steps, sound-append rs r)

@@ -8,6 +8,7 @@ use lib.ListN.{length, take, drop, length-drop}
 use lib.Seq.{length-take-le, take-length, drop-length, take-append-le, drop-append-le}
 use native.Mathlib.Nat.{eq-zero-or-pos}
 use native.Mathlib.Omega.{arith}
+use Rattle.std.proofs.lemmas.Grind.{common_steps}
 use Rattle.cache.specs.declared.layout.Layout.{Layout}
 use Rattle.cache.specs.Records.{measured, Begins}
 use Rattle.cache.specs.Caches.{split, records_in, total}
@@ -17,16 +18,11 @@ module _ (L : Layout) where
   -- ---- fuel beyond the length alters nothing
   split_none : (left : ℕ) (s : List ℕ) → measured L s ≡ 0 → split L left s ≡ []
   unfolding split
-  split_none zero s e = refl
-  split_none (suc left) s e = rw (split, e)
+  split_none left s e = grind (arith, common_steps)
 
   split_more : (left : ℕ) (s : List ℕ) → 0 < measured L s → split L (suc left) s ≡ take (measured L s) s ∷ split L left (drop (measured L s) s)
   unfolding split
-  split_more left s h = go (measured L s) refl
-    where
-      go : (k : ℕ) → measured L s ≡ k → split L (suc left) s ≡ take (measured L s) s ∷ split L left (drop (measured L s) s)
-      go zero e = absurd (omega arith)
-      go (suc k) e = rw (split, e)
+  split_more left s h = grind (arith, common_steps)
 
   split_same : (left left' : ℕ) (s : List ℕ) → length s ≤ left → length s ≤ left' → split L left s ≡ split L left' s
   split_same zero left' s h h' = let z = measured-le L s in split_none zero s (omega arith) ∙ sym (split_none left' s (omega arith))
