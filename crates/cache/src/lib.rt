@@ -146,7 +146,7 @@ fn consult_form(cache: &mut [u8], form: &[u8], store: &mut [i32]) -> Result<Answ
 }
 
 // The verdict of an automaton: that of its form, which is written first.
-#[tactic(auto, using(crate::proofs::consulting::Meeting::form_within))]
+#[tactic(auto, using(crate::proofs::consulting::Meeting::form_within, crate::proofs::consulting::Meeting::form_taken))]
 pub fn consult(
     cache: &mut [u8],
     automaton: &[u8],

@@ -1,7 +1,6 @@
 -- `look_up` meets its contract: what is said of the form that was written, or the writer's refusal.
 use Prim.Native.Nat.{ℕ}
 use mathlib.Core.Path.{sym, ap, ◌∙◌}
-use lib.Seq.{length-take-le}
 use Rattle.std.specs.Prelude.{Err}
 use Rattle.std.proofs.lemmas.Result.{err_from_is_err_and}
 use Rattle.automata.specs.Numbers.{named}
@@ -9,7 +8,7 @@ use Rattle.automata.proofs.accepting.Numbering.{named_number}
 use Rattle.cache.specs.Versions.{version1}
 use Rattle.cache.specs.Consulting.{look_up_as}
 use Rattle.cache.specs.Drawn.{look_up_in}
-use Rattle.cache.proofs.consulting.Meeting.{form_within, of_written, of_refused}
+use Rattle.cache.proofs.consulting.Meeting.{of_written, of_refused}
 use Rattle.cache.proofs.look_up.Goals as goal
 
 pub returns-in_err-length-clause-value : goal.returns-in_err-length-clause-value
