@@ -16,6 +16,8 @@ from collections import defaultdict
 from pathlib import Path
 
 ROOT = Path(__file__).resolve().parent.parent
+BY_HAND = re.compile(r'\bfn (is_below|is_equal|is_at_most|compare\w*|\w*less\w*|same\w*|wide|\w+_numbers|numbers_of|verdict_of|limit|with_\w+|'
+                     r'copy|two_bytes_of|bytes_of|larger|smaller|gcd)\b')
 WORDS = {'fn', 'let', 'mut', 'if', 'else', 'while', 'for', 'in', 'return', 'match', 'as', 'self', 'true', 'false', 'loop', 'break'}
 
 
@@ -128,7 +130,7 @@ def places(crate, files):
             yield '3 loops with no end in their head', f'{path}: loop'
         for m in re.finditer(r'\bwhile ([^{]*)\{', plain):
             yield '3 while loops', f'{path}: while {" ".join(m.group(1).split())}'
-        for m in re.finditer(r'\bfn (is_below|is_equal|is_at_most|compare\w*|\w*less\w*|same\w*|wide|\w+_numbers|numbers_of|verdict_of|limit|with_\w+|copy|two_bytes_of|bytes_of|larger|smaller|gcd)\b', plain):
+        for m in re.finditer(BY_HAND, plain):
             yield '4 order, equality, copying, conversion, printing by hand', f'{path}: {m.group(1)}'
         for m in re.finditer(r'\bas (usize|u8|u32|u64|i32|i64)\b', plain):
             yield '4 casts', f'{path}: {m.group(0)}'
