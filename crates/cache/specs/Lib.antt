@@ -6,6 +6,7 @@ pub mod Records
 pub mod Lookups
 pub mod Caches
 pub mod Walks
+pub mod Entries
 pub mod Consulting
 pub mod Drawn
 pub mod Growing

@@ -1,6 +1,8 @@
 // Where everything stands in a cache: its header, and the fields of a record, as a value for each version.
 ghost use Rattle.cache.specs.Layouts.{Laid};
 
+use encoding::be32;
+
 // The header: four bytes of used length, then the version.
 pub const VERSION_AT: usize = 4;
 
@@ -22,8 +24,9 @@ pub struct Layout {
 }
 
 impl Layout {
-    ghost use Rattle.std.specs.Prelude.{◌≡◌};
+    ghost use Rattle.std.specs.Prelude.{◌≡◌, MatchOption};
     ghost use Rattle.cache.specs.Versions.{version1};
+    ghost use Rattle.cache.specs.Records.{measured, Begins};
 
     pub(crate) fn version_1() -> Layout
         ensures { result ≡ version1 }
@@ -36,5 +39,20 @@ impl Layout {
             zones: 13,
             head: 17,
         }
+    }
+
+    // The length of the record that the bytes begin with, none where they begin with none. It is cast, since usize has no `From` for u32.
+    #[tactic(auto, unfolding(crate::specs::Records::measured))]
+    pub(crate) fn measure(self, bytes: &[u8]) -> Option<usize>
+        ensures { MatchOption result (measured self bytes.now ≡ 0) (Begins self bytes.now) }
+    {
+        if bytes.len() < self.head {
+            return None;
+        }
+        let length = be32(bytes, 0) as usize;
+        if length < self.head || bytes.len() < length {
+            return None;
+        }
+        Some(length)
     }
 }

@@ -1,4 +1,5 @@
 // The cache of verdicts, document 01's shelf: asked first, and filled by the search.
+// The used length is u32 in the bytes and usize in the code, which have no `From` for each other: it is cast.
 #![tactic(auto)]
 
 mod layout;
@@ -9,7 +10,7 @@ ghost use Rattle.std.specs.Prelude.{◌≡◌, ◌+◌, ◌≤◌, false, length
 ghost use Rattle.canonical.specs.Writing.{form_buffer};
 ghost use Rattle.cache.specs.Layouts.{header_length};
 ghost use Rattle.cache.specs.Versions.{version1};
-ghost use Rattle.cache.specs.Records.{answer_record, AnswerFits};
+ghost use Rattle.cache.specs.Entries.{entry_length, entry_record};
 ghost use Rattle.cache.specs.Caches.{used_of, sound_as, sound};
 ghost use Rattle.cache.specs.Walks.{Opened};
 ghost use Rattle.cache.specs.Consulting.{Room, Searches, appended, make_empty_reply, make_empty_cache};
@@ -21,7 +22,7 @@ use automata::refusals::Refusal;
 use canonical::write_canonical;
 use encoding::{be32, bytes_of, put};
 use layout::{HEADER, LONGEST, Layout, VERSION_AT};
-use record::write;
+use record::Entry;
 use records::Records;
 use search::search;
 use search::verdict::Answer;
@@ -42,6 +43,7 @@ pub fn make_empty(cache: &mut [u8]) -> Result<(), Refusal>
 }
 
 // ---- asking
+// Cache, automaton, form and store are buffers that a caller lends, as the C interface has them, so they stay parameters side by side.
 // The records of a sound cache, none where it isn't sound.
 #[tactic(auto, unfolding(crate::specs::Caches::sound_as, crate::specs::Caches::sound_header))]
 fn open_as(cache: &[u8], layout: Layout) -> Option<Records<'_>>
@@ -83,7 +85,7 @@ fn look_up_form(cache: &[u8], form: &[u8]) -> Result<Option<Answer>, Refusal>
 }
 
 // What a cache says of an automaton, whose form is written first. It only reads the cache.
-#[tactic(auto, using(crate::proofs::consulting::Meeting::form_within))]
+#[tactic(auto, using(crate::proofs::consulting::Meeting::form_within, crate::proofs::consulting::Meeting::form_taken))]
 pub fn look_up(cache: &[u8], automaton: &[u8], form: &mut [u8]) -> Result<Option<Answer>, Refusal>
     ensures value { result ≡ look_up_in cache.now automaton.now (length form.old) }
     ensures form_after { form.new ≡ form_buffer automaton.now form.old }
@@ -94,15 +96,13 @@ pub fn look_up(cache: &[u8], automaton: &[u8], form: &mut [u8]) -> Result<Option
 
 // ---- filing
 // A record behind those that are there: the free part is lent to its writer, then the used length follows.
-// Cache and layout stay two parameters here: in a struct the cache would be a `&mut` field, which these contracts would follow to its end.
-fn append(cache: &mut [u8], layout: Layout, answer: Answer, automaton: &[u8])
-    requires room { Room cache.old (layout.head + length automaton.now) }
-    requires fits { AnswerFits layout answer automaton.now }
-    ensures { cache.new ≡ appended cache.old (answer_record layout answer automaton.now) }
+fn append(cache: &mut [u8], entry: &Entry<'_>)
+    requires { Room cache.old (entry_length entry.now) }
+    ensures { cache.new ≡ appended cache.old (entry_record entry.now) }
 {
     let used = be32(cache, 0) as usize;
-    let next = used + (layout.head + automaton.len());
-    write(&mut cache[used..], layout, answer, automaton);
+    let next = used + entry.length();
+    entry.write(&mut cache[used..]);
     put(cache, 0, &bytes_of(next as u32));
 }
 
@@ -123,7 +123,12 @@ fn search_and_file(
         return Err(Refusal::CacheFull);
     }
     let answer = search(automaton, store)?.answer;
-    append(cache, layout, answer, automaton);
+    let entry = Entry {
+        layout,
+        answer,
+        automaton,
+    };
+    append(cache, &entry);
     Ok(answer)
 }
 
@@ -141,7 +146,7 @@ fn consult_form(cache: &mut [u8], form: &[u8], store: &mut [i32]) -> Result<Answ
 }
 
 // The verdict of an automaton: that of its form, which is written first.
-#[tactic(auto, using(crate::proofs::consulting::Meeting::form_within))]
+#[tactic(auto, using(crate::proofs::consulting::Meeting::form_within, crate::proofs::consulting::Meeting::form_taken))]
 pub fn consult(
     cache: &mut [u8],
     automaton: &[u8],

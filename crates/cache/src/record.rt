@@ -1,28 +1,12 @@
-// One record of a cache.
-ghost use Rattle.std.specs.Prelude.{◌≡◌, ◌+◌, ◌≤◌, length, MatchOption};
+// One record of a cache. Its numbers are cast to the u32 that their bytes hold, since no wider type has a `From` to it; `fits` says that they fit.
+ghost use Rattle.std.specs.Prelude.{◌≡◌, ◌≤◌, length};
 ghost use Rattle.encoding.specs.Placing.{placed};
-ghost use Rattle.cache.specs.Records.{record_numbers, record_automaton, measured, Begins, sound_record, filed_as};
-ghost use Rattle.cache.specs.Records.{number_bytes, answer_record, NumbersFit, AnswerFits};
+ghost use Rattle.cache.specs.Records.{record_numbers, record_automaton, sound_record, filed_as, number_bytes, AnswerFits};
 
 use crate::layout::Layout;
 use canonical::is_canonical;
 use encoding::{be32, bytes_of, put};
 use search::verdict::{Answer, Numbers, Verdict};
-
-// The length of the record that the bytes begin with, none where they begin with none.
-#[tactic(auto, unfolding(crate::specs::Records::measured))]
-pub(crate) fn measure(bytes: &[u8], layout: Layout) -> Option<usize>
-    ensures { MatchOption result (measured layout bytes.now ≡ 0) (Begins layout bytes.now) }
-{
-    if bytes.len() < layout.head {
-        return None;
-    }
-    let length = be32(bytes, 0) as usize;
-    if length < layout.head || bytes.len() < length {
-        return None;
-    }
-    Some(length)
-}
 
 // ---- what it says
 // The bytes of a record, all of them and no more, and the layout in which they are read.
@@ -70,25 +54,42 @@ impl<'a> Record<'a> {
 }
 
 // ---- its bytes
-fn write_numbers(free: &mut [u8], layout: Layout, x: Numbers)
-    requires head_in_bounds { layout.head ≤ length free.old }
-    requires numbers_fit { NumbersFit x }
-    ensures { free.new ≡ placed layout.kind (number_bytes x) free.old }
-{
-    put(free, layout.kind, &[x.kind]);
-    put(free, layout.n, &bytes_of(x.n as u32));
-    put(free, layout.d, &bytes_of(x.d as u32));
+// A record that is filed: an answer and its automaton, and the layout whose fields hold their numbers.
+#[derive(Clone, Copy)]
+pub(crate) struct Entry<'a> {
+    pub(crate) layout: Layout,
+    pub(crate) answer: Answer,
+    pub(crate) automaton: &'a [u8],
+    pub(crate) ghost fits: { AnswerFits layout answer automaton.now },
 }
 
-// The free part of a cache begins with a record: field after field, then the automaton.
-pub(crate) fn write(free: &mut [u8], layout: Layout, answer: Answer, automaton: &[u8])
-    requires automaton_in_bounds { layout.head + length automaton.now ≤ length free.old }
-    requires fits { AnswerFits layout answer automaton.now }
-    ensures { free.new ≡ placed 0 (answer_record layout answer automaton.now) free.old }
-{
-    let head = layout.head;
-    put(free, 0, &bytes_of((head + automaton.len()) as u32));
-    write_numbers(free, layout, Numbers::from(answer.verdict));
-    put(free, layout.zones, &bytes_of(answer.zones));
-    put(free, head, automaton);
+impl Entry<'_> {
+    ghost use Rattle.cache.specs.Entries.{entry_length, entry_numbers, entry_record};
+
+    pub(crate) fn length(&self) -> usize
+        ensures { result ≡ entry_length self.now }
+    {
+        self.layout.head + self.automaton.len()
+    }
+
+    fn write_numbers(&self, free: &mut [u8])
+        requires { self.now.layout.head ≤ length free.old }
+        ensures { free.new ≡ placed self.now.layout.kind (number_bytes (entry_numbers self.now)) free.old }
+    {
+        let x = Numbers::from(self.answer.verdict);
+        put(free, self.layout.kind, &[x.kind]);
+        put(free, self.layout.n, &bytes_of(x.n as u32));
+        put(free, self.layout.d, &bytes_of(x.d as u32));
+    }
+
+    // The free part of a cache begins with it: field after field, then the automaton.
+    pub(crate) fn write(&self, free: &mut [u8])
+        requires { entry_length self.now ≤ length free.old }
+        ensures { free.new ≡ placed 0 (entry_record self.now) free.old }
+    {
+        put(free, 0, &bytes_of(self.length() as u32));
+        self.write_numbers(free);
+        put(free, self.layout.zones, &bytes_of(self.answer.zones));
+        put(free, self.layout.head, self.automaton);
+    }
 }

@@ -1,6 +1,6 @@
 // The records of a cache, one after another.
 use crate::layout::Layout;
-use crate::record::{Record, measure};
+use crate::record::Record;
 use encoding::same;
 use search::verdict::Answer;
 
@@ -23,7 +23,7 @@ impl<'a> Iterator for Records<'a> {
 
     #[tactic(auto, using(crate::proofs::records::Splitting::records_none))]
     fn next(&mut self) -> Option<Record<'a>> {
-        let length = measure(self.bytes, self.layout)?;
+        let length = self.layout.measure(self.bytes)?;
         let (bytes, rest) = self.bytes.split_at(length);
         self.bytes = rest;
         Some(Record {
@@ -39,7 +39,7 @@ impl<'a> Records<'a> {
     ghost use Rattle.cache.specs.Lookups.{look_up, neither_filed, both_new};
     ghost use Rattle.cache.specs.Walks.{left};
 
-    // Whether sound records fill the bytes exactly.
+    // Whether sound records fill the bytes exactly. The walk is by `while let`: after a `for` over `&mut self` no fact says what is left in `self`.
     #[tactic(auto, unfolding(crate::specs::Caches::sound_records, crate::specs::Caches::total, crate::specs::Caches::all_sound))]
     pub(crate) fn are_sound(mut self) -> bool
         ensures { result ≡ sound_records self.entry.layout self.entry.bytes.now }
@@ -86,7 +86,7 @@ impl<'a> Records<'a> {
         !same(b, a) && self.neither_filed(a, b)
     }
 
-    // Whether no automaton stands in two of the records: two of them against all that follow, at each turn.
+    // Whether no automaton stands in two of the records: two of them against all that follow, at each turn, so it is no `for`.
     #[tactic(auto, unfolding(crate::specs::Caches::distinct, crate::specs::Lookups::look_up))]
     pub(crate) fn all_distinct(mut self) -> bool
         ensures { result ≡ distinct self.entry.layout (left self.entry) }

@@ -7,6 +7,7 @@ ghost use Rattle.encoding.specs.Placing.{placed};
 ghost use Rattle.encoding.specs.Bytes.{same_bytes, Four};
 
 // ---- numbers, by std's conversions: they are methods of each width, so one function for both would need a trait with these as its impls
+// A slice and a place stay two parameters: places are counted from an automaton's or a record's first byte, as the documents give them.
 // The number of the two bytes at `at`.
 #[tactic(auto, unfolding(crate::specs::Numbers::be16_at))]
 pub fn be16(s: &[u8], at: usize) -> u16
@@ -42,8 +43,9 @@ pub fn bytes_of(x: u32) -> [u8; 4]
     x.to_be_bytes()
 }
 
-// ---- strings of bytes compared
-// The little-endian number of four bytes, and that they are bytes. It is one load, and serves where only equality is asked.
+// ---- strings of bytes compared: two of one kind, so a type for both would only name them again
+// The little-endian number of four bytes, and that they are bytes. It is one load, and serves where only equality is asked. std has a method for each
+// order of bytes, so one function with `be32` would only choose between the two.
 #[tactic(auto, unfolding(crate::specs::Numbers::le32_at))]
 fn le32(s: &[u8], at: usize) -> u32
     requires { at + 4 ≤ length s.now }

@@ -60,11 +60,21 @@ fn numbers(found: Findings) -> [u64; 8]
 }
 
 // As many of the numbers as are lent.
+#[tactic(auto, using(crate::proofs::Telling::over_front))]
 fn write_over(numbers: [u64; 8], answer: &mut [u64])
     ensures { answer.new ≡ over numbers answer.old }
 {
-    for i in 0..answer.len().min(8) {
-        answer[i] = numbers[i];
+    let n = answer.len().min(8);
+    answer[..n].copy_from_slice(&numbers[..n]);
+}
+
+// What C gets of a reply: 0, or the refusal's number.
+fn number_of<T>(reply: &Result<T, Refusal>) -> u32
+    ensures { result ≡ number_in reply.now }
+{
+    match reply {
+        Ok(_) => 0,
+        Err(refusal) => refusal.number(),
     }
 }
 
@@ -74,13 +84,10 @@ fn tell(found: Result<Findings, Refusal>, answer: &mut [u64]) -> u32
     ensures value { result ≡ number_in found }
     ensures answer_after { answer.new ≡ findings_told found answer.old }
 {
-    match found {
-        Ok(x) => {
-            write_over(numbers(x), answer);
-            0
-        }
-        Err(refusal) => refusal.number(),
+    if let Ok(x) = found {
+        write_over(numbers(x), answer);
     }
+    number_of(&found)
 }
 
 // A number: 0 with it, or the refusal's number alone.
@@ -89,13 +96,10 @@ fn tell_number(reply: Result<u64, Refusal>, to: &mut u64) -> u32
     ensures value { result ≡ number_in reply }
     ensures to_after { to.new ≡ number_told reply to.old }
 {
-    match reply {
-        Ok(n) => {
-            *to = n;
-            0
-        }
-        Err(k) => k.number(),
+    if let Ok(n) = reply {
+        *to = n;
     }
+    number_of(&reply)
 }
 
 // A lookup: 0 with whether the automaton is filed, and then its numbers, or the refusal's number alone.
@@ -109,32 +113,25 @@ fn tell_lookup(
     ensures filed_after { is_filed.new ≡ filed_told found is_filed.old }
     ensures answer_after { answer.new ≡ lookup_told found answer.old }
 {
-    match found {
-        Ok(Some(x)) => {
-            *is_filed = 1;
+    if let Ok(on_file) = found {
+        *is_filed = u64::from(on_file.is_some());
+        if let Some(x) = on_file {
             write_over(numbers(filed(x)), answer);
-            0
         }
-        Ok(None) => {
-            *is_filed = 0;
-            0
-        }
-        Err(k) => k.number(),
     }
+    number_of(&found)
 }
 
+// ---- what C calls: each buffer that it lends is a parameter, as include/robustness.h declares them
 // 0, or the number by which the automaton is turned down.
 #[unsafe(no_mangle)]
 pub extern "C" fn robustness_refusal(automaton: &[u8]) -> u32
     ensures { result ≡ refusal_of automaton.now }
 {
-    match Automaton::open(automaton) {
-        Ok(_) => 0,
-        Err(k) => k.number(),
-    }
+    number_of(&Automaton::open(automaton))
 }
 
-// The form of an automaton, its edges in order and each once; and its length.
+// The form of an automaton, its edges in order and each once; and its length, by a cast, since u64 has no `From` for usize.
 #[unsafe(no_mangle)]
 pub extern "C" fn robustness_canonical(automaton: &[u8], form: &mut [u8], written: &mut u64) -> u32
     ensures value { result ≡ number_in (form_answer automaton.now (length form.old)) }
@@ -191,10 +188,7 @@ pub extern "C" fn robustness_make_empty(cache: &mut [u8]) -> u32
     ensures value { result ≡ number_in (make_empty_reply cache.old) }
     ensures cache_after { cache.new ≡ make_empty_cache cache.old }
 {
-    match make_empty(cache) {
-        Ok(()) => 0,
-        Err(k) => k.number(),
-    }
+    number_of(&make_empty(cache))
 }
 
 // 0 for a sound cache, else 11.

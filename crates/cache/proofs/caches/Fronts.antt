@@ -99,9 +99,9 @@ with_fine : (L : Layout) {s : List ℕ} → Fine L s → (r : List ℕ) → meas
 with_fine L {s} k r e h g a =
     let more : records_in L (s ++ r) ≡ records_in L s ++ (r ∷ []) = records_append L r e h s k.filled in
     record {
-      filled = ap total more ∙ total-append (records_in L s) r ∙ ap (λ (n : ℕ). n + length r) k.filled ∙ sym (length-append s r);
-      each = ap (all_sound L) more ∙ sound-append L (records_in L s) r k.each g;
-      once = ap (distinct L) more ∙ distinct_append L (records_in L s) r k.once a;
+      filled = rw more (omega (arith, total-append (records_in L s) r, k.filled, length-append s r));
+      each = rw more (sound-append L (records_in L s) r k.each g);
+      once = rw more (distinct_append L (records_in L s) r k.once a);
     }
 
 -- ---- what is appended to a sound cache
@@ -109,12 +109,10 @@ module _ {L : Layout} (c r : List ℕ) (k : Sound L c) (room : Room c (length r)
   appended_front : appended c r ≡ with (take (used_of c) c) r ++ drop (used_of c + length r) c
   unfolding appended placed be32
   appended_front =
-      let size : length (take (used_of c) c) ≡ used_of c = length-take-le (used_of c) c k.most in
       let p = take (used_of c) c in
+      let size : length p ≡ used_of c = length-take-le (used_of c) c k.most in
       let rest = drop (used_of c + length r) c in
-      ap (λ (t : List ℕ). be32 (used_of c + length r) ++ t)
-      (drop-append-le version_at p (r ++ rest) (omega (arith, size, k.least)) ∙ sym (append_assoc (drop version_at p) r rest))
-      ∙ ap (λ (n : ℕ). be32 (n + length r) ++ ((drop version_at p ++ r) ++ rest)) (sym size)
+      rw (size, append_assoc (drop version_at p) r rest, drop-append-le version_at p (r ++ rest) (omega (arith, size, k.least))) refl
 
   appended_is : Front L (with (take (used_of c) c) r) (record_bytes c ++ r)
   appended_is = with_front (sound_front L c k) r (omega (arith, length-take-le (used_of c) c k.most, room.bytes))

@@ -2,7 +2,6 @@
 use Prim.Native.Nat.{ℕ}
 use mathlib.Core.Path.{sym, ap, ◌∙◌}
 use lib.ListN.{length}
-use lib.Seq.{length-take-le}
 use Rattle.std.specs.Prelude.{Err}
 use Rattle.std.proofs.lemmas.Result.{err_from_is_err_and}
 use Rattle.automata.specs.Numbers.{named}
@@ -10,7 +9,7 @@ use Rattle.automata.proofs.accepting.Numbering.{named_number}
 use Rattle.cache.specs.Versions.{version1}
 use Rattle.cache.specs.Consulting.{consult_answer_as, consult_cache_as, consult_store_as}
 use Rattle.cache.specs.Drawn.{consult_answer, consult_cache, consult_store}
-use Rattle.cache.proofs.consulting.Meeting.{form_within, of_written, of_refused}
+use Rattle.cache.proofs.consulting.Meeting.{of_written, of_refused}
 use Rattle.cache.proofs.growing.Carried.{carried_by}
 use Rattle.cache.proofs.consult.Goals as goal
 
@@ -33,11 +32,6 @@ returns-in_err-length c =
       store_after = store;
       carried = carried_by _ _ _ _ answer cache store;
     })
-
-pub slice_bounds-consult_form-end-2 : goal.slice_bounds-consult_form-end-2
-slice_bounds-consult_form-end-2 c =
-    let wrote = c.write_canonical in
-    sym (length-take-le _ _ (form_within _ _ wrote.ensures.value c.in_ok-length.was wrote.auto.form))
 
 pub returns : goal.returns
 unfolding consult_answer consult_cache consult_store

@@ -18,6 +18,7 @@ use Rattle.automata.specs.declared.refusals.Refusal.{Refusal}
 use Rattle.automata.specs.declared.refusals.Refusal.TheVariants.{ErrorCountTooLarge, StoreFull}
 use Rattle.search.specs.declared.verdict.Answer.{Answer}
 use Rattle.search.specs.Given.{Given}
+use Rattle.search.specs.Verdicts.{numbers_of}
 use Rattle.search.specs.Answers.{search_answer}
 use Rattle.search.proofs.answers.Given.{promised}
 use Rattle.cache.specs.declared.layout.Layout.{Layout}
@@ -28,7 +29,7 @@ use Rattle.cache.specs.Lookups.{look_up, is_absent}
 use Rattle.cache.specs.Caches.{records_of, sound_as}
 use Rattle.cache.specs.Consulting.{empty_header, make_empty_as, look_up_as, full, Room, appended, consult_answer_as, consult_cache_as}
 use Rattle.cache.specs.Consulting.{consult_store_as}
-use Rattle.cache.proofs.layouts.Written.{written-length, written_automaton, written-measured, given_fits, filed-back, record_sound}
+use Rattle.cache.proofs.layouts.Written.{written_length, written_automaton, written-measured, given_fits, filed-back, record_sound}
 use Rattle.cache.proofs.records.Splitting.{no_records}
 use Rattle.cache.proofs.records.Looking.{look_append}
 use Rattle.cache.proofs.caches.Sounding.{Sound, sound_facts}
@@ -91,7 +92,7 @@ module _ (L : Layout) (c b : List ℕ) (amount : ℕ) (a : Answer)
   facts = sound_facts L c t.sound
 
   size : length new ≡ L.head + length b
-  size = written-length L _ _ b
+  size = written_length L _ _ b
 
   room : Room c (length new)
   room = has_room c (length new) facts.least (ap (full c) size ∙ f)
@@ -108,17 +109,15 @@ module _ (L : Layout) (c b : List ℕ) (amount : ℕ) (a : Answer)
   pub filed-sound : is_canonical b ≡ true → sound_as L (appended c new) ≡ true
   filed-sound ok =
       appended-sound c new facts room measured_all (omega (arith, size, L.laid)) (record_sound L b a given short ok)
-      (ap (λ (x : List ℕ). is_absent (look_up L (records_of L c) x)) (written_automaton L _ _ b) ∙ ap is_absent t.there)
+      (rw (written_automaton L _ _ b, t.there) refl)
 
   -- what is looked up there: what was there, else the new verdict of b
   pub filed_there : (x : List ℕ) → look_up L (records_of L (appended c new)) x
       ≡ cond (is_absent (look_up L (records_of L c) x)) (cond (same_bytes b x) (Some a) None) (look_up L (records_of L c) x)
   unfolding look_up
   filed_there x =
-      let old = look_up L (records_of L c) x in
-      let own = written_automaton L _ _ b in
-      ap (λ (rs : List (List ℕ)). look_up L rs x) filed_records ∙ look_append L (records_of L c) new x
-      ∙ (λ i. cond (is_absent old) (cond (same_bytes (own i) x) (Some (filed-back L b a given short i)) None) old)
+      let own = written_automaton L (numbers_of a.verdict) a.zones b in
+      rw (filed_records, look_append L (records_of L c) new x, own, filed-back L b a given short) refl
 
 pub sound_stays : (L : Layout) (c b : List ℕ) (amount : ℕ) → is_canonical b ≡ true → sound_as L c ≡ true
     → sound_as L (consult_cache_as L c b amount) ≡ true

@@ -1,13 +1,12 @@
 -- The length of the record that bytes begin with, in any layout.
 -- Assumes nothing.
 use Prim.Native.Nat.{ℕ, ◌≤◌, ◌<◌}
-use mathlib.Core.Bool.{Bool, true, false, cond, ◌&&◌}
 use mathlib.Core.List.{List, [], ◌∷◌, ◌++◌}
 use mathlib.Core.Path.{◌≡◌, refl, sym, ◌∙◌}
-use borrow.Author.Tests.{leb-true, le-leb}
-use lib.Dec.{leb}
+use borrow.Author.Tests.{le-leb}
 use lib.ListN.{length, length-append}
 use native.Mathlib.Omega.{arith}
+use Rattle.std.proofs.lemmas.Grind.{common_steps}
 use Rattle.encoding.specs.Numbers.{be16_at, be32_at}
 use Rattle.cache.specs.declared.layout.Layout.{Layout}
 use Rattle.cache.specs.Records.{measured}
@@ -26,13 +25,7 @@ module _ (L : Layout) (s : List ℕ) where
 
   whole : Whole (be32_at s 0) (length s) (measured L s)
   unfolding measured
-  whole = go (leb L.head (be32_at s 0)) (leb (be32_at s 0) (length s)) refl refl
-    where
-      go : (t u : Bool) → leb L.head (be32_at s 0) ≡ t → leb (be32_at s 0) (length s) ≡ u
-          → Whole (be32_at s 0) (length s) (cond (t && u) (be32_at s 0) 0)
-      go true true e f = record { short = leb-true _ _ f; least = λ h. leb-true L.head _ e; field = λ h. refl }
-      go true false e f = record { short = omega arith; least = λ h. absurd (omega arith); field = λ h. absurd (omega arith) }
-      go false u e f = record { short = omega arith; least = λ h. absurd (omega arith); field = λ h. absurd (omega arith) }
+  whole = record { short = grind (arith, common_steps); least = λ h. grind (arith, common_steps); field = λ h. grind (arith, common_steps) }
 
   pub measured-le : measured L s ≤ length s
   measured-le = whole.short

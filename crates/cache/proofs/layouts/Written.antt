@@ -40,9 +40,9 @@ module _ (L : Layout) (x : Numbers) (zones : ℕ) (b : List ℕ) where
   abbrev size : List ℕ
   size = be32 (L.head + length b)
 
-  pub written-length : length whole ≡ L.head + length b
+  pub written_length : length whole ≡ L.head + length b
   unfolding record_of number_bytes be32
-  written-length = omega (arith, L.laid)
+  written_length = omega (arith, L.laid)
 
   pub written_automaton : record_automaton L whole ≡ b
   unfolding record_of number_bytes be32
@@ -52,8 +52,8 @@ module _ (L : Layout) (x : Numbers) (zones : ℕ) (b : List ℕ) where
     pub written-measured : measured L whole ≡ length whole
     unfolding record_of
     written-measured = measured_field L whole (length whole)
-        (be32-back (L.head + length b) (number_bytes x ++ (be32 zones ++ b)) (omega (arith, fits.size_fits)) ∙ sym written-length)
-        (omega (arith, written-length)) (omega arith)
+        (be32-back (L.head + length b) (number_bytes x ++ (be32 zones ++ b)) (omega (arith, fits.size_fits)) ∙ sym written_length)
+        (omega (arith, written_length)) (omega arith)
 
     written-numbers : record_numbers L whole ≡ x
     unfolding record_of number_bytes be32

@@ -1,7 +1,6 @@
 -- `look_up` meets its contract: what is said of the form that was written, or the writer's refusal.
 use Prim.Native.Nat.{ℕ}
 use mathlib.Core.Path.{sym, ap, ◌∙◌}
-use lib.Seq.{length-take-le}
 use Rattle.std.specs.Prelude.{Err}
 use Rattle.std.proofs.lemmas.Result.{err_from_is_err_and}
 use Rattle.automata.specs.Numbers.{named}
@@ -9,7 +8,7 @@ use Rattle.automata.proofs.accepting.Numbering.{named_number}
 use Rattle.cache.specs.Versions.{version1}
 use Rattle.cache.specs.Consulting.{look_up_as}
 use Rattle.cache.specs.Drawn.{look_up_in}
-use Rattle.cache.proofs.consulting.Meeting.{form_within, of_written, of_refused}
+use Rattle.cache.proofs.consulting.Meeting.{of_written, of_refused}
 use Rattle.cache.proofs.look_up.Goals as goal
 
 pub returns-in_err-length-clause-value : goal.returns-in_err-length-clause-value
@@ -19,11 +18,6 @@ returns-in_err-length-clause-value c =
     rw (p.1, p.2)
     (ap Err (sym (named_number _))
     ∙ of_refused _ _ c.write_canonical.ensures.value (look_up_as version1 c.args.cache.now) (λ (k : ℕ). Err (named k)) c.in_err-length.was)
-
-pub slice_bounds-look_up_form-end-2 : goal.slice_bounds-look_up_form-end-2
-slice_bounds-look_up_form-end-2 c =
-    let wrote = c.write_canonical in
-    sym (length-take-le _ _ (form_within _ _ wrote.ensures.value c.in_ok-length.was wrote.auto.form))
 
 pub returns-clause-value : goal.returns-clause-value
 unfolding look_up_in

@@ -1,9 +1,9 @@
 -- What a lookup finds when one record more stands at the end.
 -- Assumes nothing.
 use Prim.Native.Nat.{ℕ}
-use mathlib.Core.Bool.{Bool, true, false, cond, false≢true}
+use mathlib.Core.Bool.{true, false, cond}
 use mathlib.Core.List.{List, [], ◌∷◌, ◌++◌}
-use mathlib.Core.Path.{◌≡◌, refl, sym, ap, ◌∙◌}
+use mathlib.Core.Path.{◌≡◌, refl}
 use native.Mathlib.Omega.{arith}
 use Rattle.std.proofs.lemmas.Grind.{common_steps}
 use Rattle.encoding.specs.Bytes.{same_bytes}
@@ -13,16 +13,8 @@ use Rattle.cache.specs.Records.{record_automaton, sound_record}
 use Rattle.cache.specs.Lookups.{look_up, is_absent}
 use Rattle.cache.specs.Caches.{all_sound, distinct}
 
-passes : (t u : Bool) → cond t u false ≡ true → (t ≡ true) × (u ≡ true)
-passes true u e = (refl, e)
-passes false u e = absurd (false≢true e)
-
 miss_both : (a b : List ℕ) → same_bytes a b ≡ false → same_bytes b a ≡ false
-miss_both a b e = go (same_bytes b a) refl
-  where
-    go : (t : Bool) → same_bytes b a ≡ t → t ≡ false
-    go true f = absurd (false≢true (sym e ∙ ap (λ (x : List ℕ). same_bytes a x) (same_equal b a f) ∙ equal_same a))
-    go false f = refl
+miss_both a b e = grind (arith, common_steps, same_equal b a, equal_same a)
 
 module _ (L : Layout) where
   -- ---- the first one counts
@@ -35,11 +27,6 @@ module _ (L : Layout) where
   look_append (x ∷ rs) r b = grind (arith, common_steps, look_append rs r b)
 
   -- ---- so a new automaton at the end leaves the records distinct
-  absent_rest : (x : List ℕ) (rs : List (List ℕ)) (b : List ℕ) → is_absent (look_up L (x ∷ rs) b) ≡ true
-      → (same_bytes (record_automaton L x) b ≡ false) × (is_absent (look_up L rs b) ≡ true)
-  unfolding look_up
-  absent_rest x rs b h = grind (arith, common_steps)
-
   absent_append : (rs : List (List ℕ)) (r b : List ℕ) → is_absent (look_up L rs b) ≡ true → same_bytes (record_automaton L r) b ≡ false
       → is_absent (look_up L (rs ++ (r ∷ [])) b) ≡ true
   unfolding look_up
@@ -50,12 +37,10 @@ module _ (L : Layout) where
   unfolding distinct look_up
   distinct_append [] r h g = refl
   distinct_append (x ∷ rs) r h g =
-      let p = passes (is_absent (look_up L rs (record_automaton L x))) (distinct L rs) h in
-      let q = absent_rest x rs (record_automaton L r) g in
-      let differ = miss_both (record_automaton L x) (record_automaton L r) q.0 in
-      rw (absent_append rs r (record_automaton L x) p.0 differ) (distinct_append rs r p.1 q.1)
+      let differ = miss_both (record_automaton L x) (record_automaton L r) in
+      grind (arith, common_steps, absent_append rs r (record_automaton L x), distinct_append rs r, differ)
 
   pub sound-append : (rs : List (List ℕ)) (r : List ℕ) → all_sound L rs ≡ true → sound_record L r ≡ true → all_sound L (rs ++ (r ∷ [])) ≡ true
   unfolding all_sound
   sound-append [] r h g = rw g
-  sound-append (x ∷ rs) r h g = let p = passes (sound_record L x) (all_sound L rs) h in rw p.0 (sound-append rs r p.1 g)
+  sound-append (x ∷ rs) r h g = grind (arith, common_steps, sound-append rs r)

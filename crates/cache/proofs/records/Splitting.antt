@@ -8,6 +8,7 @@ use lib.ListN.{length, take, drop, length-drop}
 use lib.Seq.{length-take-le, take-length, drop-length, take-append-le, drop-append-le}
 use native.Mathlib.Nat.{eq-zero-or-pos}
 use native.Mathlib.Omega.{arith}
+use Rattle.std.proofs.lemmas.Grind.{common_steps}
 use Rattle.cache.specs.declared.layout.Layout.{Layout}
 use Rattle.cache.specs.Records.{measured, Begins}
 use Rattle.cache.specs.Caches.{split, records_in, total}
@@ -17,16 +18,11 @@ module _ (L : Layout) where
   -- ---- fuel beyond the length alters nothing
   split_none : (left : ℕ) (s : List ℕ) → measured L s ≡ 0 → split L left s ≡ []
   unfolding split
-  split_none zero s e = refl
-  split_none (suc left) s e = rw (split, e)
+  split_none left s e = grind (arith, common_steps)
 
   split_more : (left : ℕ) (s : List ℕ) → 0 < measured L s → split L (suc left) s ≡ take (measured L s) s ∷ split L left (drop (measured L s) s)
   unfolding split
-  split_more left s h = go (measured L s) refl
-    where
-      go : (k : ℕ) → measured L s ≡ k → split L (suc left) s ≡ take (measured L s) s ∷ split L left (drop (measured L s) s)
-      go zero e = absurd (omega arith)
-      go (suc k) e = rw (split, e)
+  split_more left s h = grind (arith, common_steps)
 
   split_same : (left left' : ℕ) (s : List ℕ) → length s ≤ left → length s ≤ left' → split L left s ≡ split L left' s
   split_same zero left' s h h' = let z = measured-le L s in split_none zero s (omega arith) ∙ sym (split_none left' s (omega arith))
@@ -70,11 +66,7 @@ module _ (L : Layout) where
 -- ---- one more at the end: of bytes that records fill
 module _ (L : Layout) (r : List ℕ) (e : measured L r ≡ length r) (h : 0 < length r) where
   records_one : records_in L r ≡ r ∷ []
-  records_one =
-      records_more L r (omega arith)
-      ∙ (λ i. take (e i) r ∷ records_in L (drop (e i) r))
-      ∙ (λ i. take-length r i ∷ records_in L (drop-length r i))
-      ∙ ap (λ (rs : List (List ℕ)). r ∷ rs) (no_records L)
+  records_one = grind (arith, common_steps, records_more L r, no_records L, take-length r, drop-length r)
 
   empty : (s : List ℕ) → length s ≡ 0 → s ≡ []
   empty [] z = refl
@@ -82,19 +74,23 @@ module _ (L : Layout) (r : List ℕ) (e : measured L r ≡ length r) (h : 0 < le
 
   append_none : (s : List ℕ) → measured L s ≡ 0 → total (records_in L s) ≡ length s → records_in L (s ++ r) ≡ records_in L s ++ (r ∷ [])
   unfolding total
-  append_none s z t =
-      let n : records_in L s ≡ [] = records_none L s z in
-      ap (λ (u : List ℕ). records_in L (u ++ r)) (empty s (sym t ∙ ap total n)) ∙ records_one ∙ ap (λ (rs : List (List ℕ)). rs ++ (r ∷ [])) (sym n)
+  append_none s z t = grind (arith, common_steps, records_none L s z, empty s, records_one)
 
   append_more : (s : List ℕ) → 0 < measured L s → records_in L (drop (measured L s) s ++ r) ≡ records_in L (drop (measured L s) s) ++ (r ∷ [])
       → records_in L (s ++ r) ≡ records_in L s ++ (r ∷ [])
   append_more s p rest =
-      let k : measured L (s ++ r) ≡ measured L s = measured-append L s r p in
-      records_more L (s ++ r) (omega arith)
-      ∙ (λ i. take (k i) (s ++ r) ∷ records_in L (drop (k i) (s ++ r)))
-      ∙ (λ i. take-append-le (measured L s) s r (measured-le L s) i ∷ records_in L (drop-append-le (measured L s) s r (measured-le L s) i))
-      ∙ ap (λ (rs : List (List ℕ)). take (measured L s) s ∷ rs) rest
-      ∙ ap (λ (rs : List (List ℕ)). rs ++ (r ∷ [])) (sym (records_more L s p))
+      let k = measured-append L s r p in
+      let most = measured-le L s in
+      grind (
+        arith,
+        common_steps,
+        k,
+        records_more L (s ++ r),
+        take-append-le (measured L s) s r most,
+        drop-append-le (measured L s) s r most,
+        rest,
+        records_more L s p,
+      )
 
   append-within : (left : ℕ) (s : List ℕ) → length s ≤ left → total (records_in L s) ≡ length s → records_in L (s ++ r) ≡ records_in L s ++ (r ∷ [])
   append-within zero s l t = append_none s (omega (arith, measured-le L s)) t

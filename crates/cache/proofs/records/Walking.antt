@@ -4,7 +4,6 @@ use Prim.Native.Nat.{ℕ, ◌+◌, ◌<◌}
 use mathlib.Core.Bool.{Bool, true, false, cond, ◌&&◌}
 use mathlib.Core.List.{List, ◌∷◌}
 use mathlib.Core.Path.{◌≡◌, refl}
-use borrow.Author.Tests.{eqb-true, eqb-false, eq-eqb, ne_eqb}
 use lib.Dec.{eqb}
 use lib.ListN.{length, take, drop, length-drop}
 use lib.Seq.{length-take-le}
@@ -21,16 +20,7 @@ use Rattle.cache.proofs.records.Splitting.{records_none, records_more}
 
 -- ---- of any list of records
 sound_more : (n a b : ℕ) (s x : Bool) → (eqb (n + a) (n + b) && cond s x false) ≡ cond s (eqb a b && x) false
-sound_more n a b true x = go (eqb a b) refl
-  where
-    go : (t : Bool) → eqb a b ≡ t → (eqb (n + a) (n + b) && x) ≡ (t && x)
-    go true e = rw (eq-eqb (n + a) (n + b) (omega (arith, eqb-true a b e))) refl
-    go false e = rw (ne_eqb (n + a) (n + b) (λ g. eqb-false a b e (omega arith))) refl
-sound_more n a b false x = go (eqb (n + a) (n + b))
-  where
-    go : (t : Bool) → (t && false) ≡ false
-    go true = refl
-    go false = refl
+sound_more n a b s x = grind (arith, common_steps)
 
 neither_more : (L : Layout) (r : List ℕ) (rs : List (List ℕ)) (a b : List ℕ) → neither_filed L (r ∷ rs) a b
     ≡ cond (same_bytes (record_automaton L r) a) false (cond (same_bytes (record_automaton L r) b) false (neither_filed L rs a b))
@@ -54,7 +44,7 @@ module _ (L : Layout) (s : List ℕ) where
     pub look_turn : (b : List ℕ) → look_up L (records_in L s) b
         ≡ cond (same_bytes (record_automaton L first) b) (Some (filed_as L first)) (look_up L (records_in L rest) b)
     unfolding look_up
-    look_turn b = rw (records_more L s h) refl
+    look_turn b = grind (arith, records_more L s h)
 
     pub neither_turn : (a b : List ℕ) → neither_filed L (records_in L s) a b
         ≡ cond (same_bytes (record_automaton L first) a) false
@@ -84,11 +74,7 @@ module _ (L : Layout) (s : List ℕ) where
 
     pub sound_end : sound_records L s ≡ eqb 0 (length s)
     unfolding sound_records total all_sound
-    sound_end = rw (sound_records, records_none L s e) (go (eqb 0 (length s)))
-      where
-        go : (t : Bool) → (t && true) ≡ t
-        go true = refl
-        go false = refl
+    sound_end = grind (arith, common_steps, records_none L s e)
 
 -- ---- one record that s begins with, and no other
 pub distinct_last : (L : Layout) (s : List ℕ) → 0 < measured L s → measured L (rest L s) ≡ 0 → distinct L (records_in L s) ≡ true

@@ -4,6 +4,6 @@ use Rattle.search.specs.Answers.{answer_in}
 use Rattle.cache.proofs.layouts.Written.{given_fits}
 use Rattle.cache.proofs.search_and_file.Goals as goal
 
-pub append-requires-clause-fits : goal.append-requires-clause-fits
+pub invariant_of-entry : goal.invariant_of-entry
 unfolding answer_in
-append-requires-clause-fits c = given_fits _ _ (rw c.in_ok-answer.was at c.search.ensures.promised.given) (omega arith)
+invariant_of-entry c = record { fits = given_fits _ _ (rw c.in_ok-answer.was at c.search.ensures.promised.given) (omega arith) }

@@ -4,17 +4,18 @@ use native.Mathlib.Omega.{arith}
 use Rattle.encoding.specs.Numbers.{be32}
 use Rattle.cache.specs.Records.{number_bytes}
 use Rattle.encoding.proofs.Placed.{goes_on}
-use Rattle.cache.proofs.record.write_numbers.Goals as goal
+use Rattle.cache.proofs.record.Entry.write_numbers.Goals as goal
 
 pub returns : goal.returns
 unfolding number_bytes be32
 returns c =
-    let laid = c.args.layout.laid in
-    let room = c.requires.head_in_bounds in
-    let L = c.args.layout in
-    let x = c.args.x in
+    let e = c.args.self.now in
+    let L = e.layout in
+    let laid = L.laid in
+    let room = c.requires in
+    let x = c.from-x.result in
     let s = c.args.free.now in
     let kind-n = goes_on s (x.kind ∷ []) (be32 x.n) L.kind L.n (omega (arith, laid)) (omega (arith, laid))
     c.put.ensures c.bytes_of.ensures c.put-2.ensures in
-    goes_on s (x.kind ∷ be32 x.n) (be32 x.d) L.kind L.d (omega (arith, laid)) (omega (arith, laid))
-    kind-n c.bytes_of-2.ensures c.put-3.ensures
+    rw (← c.from-x.ensures) (goes_on s (x.kind ∷ be32 x.n) (be32 x.d) L.kind L.d (omega (arith, laid)) (omega (arith, laid))
+    kind-n c.bytes_of-2.ensures c.put-3.ensures)
