@@ -4,7 +4,6 @@ ghost use Rattle.std.specs.Prelude.{◌≡◌};
 ghost use Rattle.run_judge.specs.Judging.{begins};
 ghost use Rattle.run_judge.specs.Stretches.{waits, jumps, Handed};
 
-use crate::numbers::step;
 use crate::steps::Ready;
 use automata::opened::Automaton;
 use std::ops::ControlFlow;
@@ -31,7 +30,7 @@ fn wait_step<'a>(left: Left<'a>, further: usize) -> Stretch<'a>
     let Some((z, numbers)) = left.numbers.split_first() else {
         return Break(false);
     };
-    let Some(ready) = left.ready.wait(step(*z)) else {
+    let Some(ready) = left.ready.wait(*z) else {
         return Break(false);
     };
     jump_step(Left { ready, numbers }, further)
@@ -45,7 +44,7 @@ fn jump_step<'a>(left: Left<'a>, further: usize) -> Stretch<'a>
     let Some((z, numbers)) = left.numbers.split_first() else {
         return Break(left.ready.state.location == left.ready.automaton.target());
     };
-    let Some(ready) = left.ready.jump(step(*z) as usize) else {
+    let Some(ready) = left.ready.jump(*z) else {
         return Break(false);
     };
     let rest = Left { ready, numbers };

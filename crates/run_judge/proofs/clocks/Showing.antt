@@ -15,7 +15,7 @@ use lib.ListN.{length, get_or, set, length-set}
 use lib.Seq.{get_or-set_same, get_or-set_other}
 use Rattle.runs.proofs.Contradictions.{true_false}
 use Rattle.automata.specs.Automata.{lo_at, hi_at, no_upper}
-use Rattle.run_judge.specs.Clocks.{holds, EachHolds, within_at, waited, reset_by}
+use Rattle.run_judge.specs.Clocks.{holds, within_at, waited, reset_by}
 
 -- ---- one limit
 pub record Held (lo hi y : ℕ) : Type 0 where
@@ -69,10 +69,11 @@ module _ (b : List ℕ) (at : ℕ) (c : List ℕ) where
   shows_within (suc k) h = rw (shows_holds _ _ _ (h k (omega arith))) (shows_within k (λ x l. h x (omega arith)))
 
   -- so a test of them all is the definition's
-  pub all_within : (k : ℕ) {r : Bool} → (r ≡ true) ↔ EachHolds b at c k → r ≡ within_at b at c k
+  pub all_within : (k : ℕ) {r : Bool} →
+      (r ≡ true) ↔ ((x : ℕ) → x < k → holds (lo_at b at (x + 1)) (hi_at b at (x + 1)) (get_or c x 0) ≡ true) → r ≡ within_at b at c k
   all_within k {r} e = go r e (within_at b at c k) refl
     where
-      go : (r : Bool) → (r ≡ true) ↔ EachHolds b at c k → (t : Bool) → within_at b at c k ≡ t → r ≡ t
+      go : (r : Bool) → (r ≡ true) ↔ ((x : ℕ) → x < k → holds (lo_at b at (x + 1)) (hi_at b at (x + 1)) (get_or c x 0) ≡ true) → (t : Bool) → within_at b at c k ≡ t → r ≡ t
       go true e true w = refl
       go true e false w = true_false (sym (shows_within k (λ x h. holds_shows _ _ _ (rw add-one at (e.0 refl x h)))) ∙ w)
       go false e true w = e.1 (λ x h. let i = within_shows k w x h in rw add-one (shows_holds _ _ _ i))

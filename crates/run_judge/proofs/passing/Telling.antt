@@ -22,7 +22,7 @@ use Rattle.automata.specs.Semantics.{system_of}
 use Rattle.automata.proofs.fields.Resets.{resets_at}
 use Rattle.run_judge.specs.declared.state.State.{State}
 use Rattle.run_judge.specs.Clocks.{meets_invariant, meets_guard, waited, reset_by, marked_in}
-use Rattle.run_judge.specs.Moves.{wait_move, edge_move, jump_move}
+use Rattle.run_judge.specs.Moves.{arrived, wait_move, edge_move, jump_move}
 use Rattle.run_judge.specs.Numbers.{capped}
 use Rattle.run_judge.proofs.numbers.Numbers.{capped_same}
 use Rattle.run_judge.proofs.steps.Readying.{present, on_scale}
@@ -75,7 +75,7 @@ module _ (b : List ℕ) (a : Accepted b) where
     l = q.location
 
     pub wait_tells : (t : ℕ) {p : State} → wait_move b q t ≡ Some p → (t ≤ scale) × Made l v p (wait t)
-    unfolding wait_move
+    unfolding wait_move arrived
     wait_tells t {p} = go (ltb scale t) refl (meets_invariant b l (waited t (clocks b) q.clocks)) refl
       where
         go : (u : Bool) → ltb scale t ≡ u → (w : Bool) → meets_invariant b l (waited t (clocks b) q.clocks) ≡ w →
@@ -90,7 +90,7 @@ module _ (b : List ℕ) (a : Accepted b) where
             (ltb-false scale t f, subst (λ p. Made l v p (wait t)) (ap (λ o. unwrap_or o p) e) made)
 
     pub jump_tells : (i : ℕ) {p : State} → jump_move b q i ≡ Some p → (i < edges b) × Made l v p (jump i)
-    unfolding jump_move edge_move
+    unfolding jump_move edge_move arrived
     jump_tells i {p} =
         go (leb (edges b) i) refl (eqb (from b i) l) refl (meets_guard b i q.clocks) refl (meets_invariant b (to b i) (reset_of i q.clocks)) refl
       where
@@ -127,14 +127,14 @@ module _ (b : List ℕ) (a : Accepted b) where
 
     pub wait_made : (t : ℕ) → l < locations b → Can (system_of b) 1 0 (stand l v) (wait t) →
         (capped (pos t) ≡ t) × (wait_move b q t ≡ Some (record { location = l; clocks = waited t (clocks b) q.clocks }))
-    unfolding wait_move
+    unfolding wait_move arrived
     wait_made t h k =
         let s = wait_low t h k in
         (capped_same t s, rw (le-ltb scale t s) (rw (means_invariant _ _ (waits_agree q.clocks v y l t) l k)))
 
     pub jump_made : (i : ℕ) → Can (system_of b) 1 0 (stand l v) (jump i) →
         (capped (pos i) ≡ i) × (jump_move b q i ≡ Some (record { location = to b i; clocks = reset_of i q.clocks }))
-    unfolding jump_move edge_move
+    unfolding jump_move edge_move arrived
     jump_made i k = (
       capped_same i (omega (arith, k.0, a.complete.edges≤)),
       rw (lt-leb (edges b) i k.0) (rw (eq-eqb (from b i) l k.1) (rw (means_guard q.clocks v y i k.2)

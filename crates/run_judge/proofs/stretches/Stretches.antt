@@ -1,7 +1,7 @@
 -- One law for each way out of a wait and of a jump in a stretch.
 -- Assumes nothing.
 use Prim.Native.Nat.{ℕ}
-use mathlib.Core.Path.{◌≡◌, refl, sym, ap, ◌∙◌}
+use mathlib.Core.Path.{◌≡◌, refl, sym}
 use mathlib.Core.Bool.{Bool, false}
 use mathlib.Core.List.{List, [], ◌∷◌}
 use native.Mathlib.Omega.{arith}
@@ -41,35 +41,30 @@ module _ (l : Left) (h : length l.numbers.now ≡ 0) where
       go [] e = rw f refl
       go (z ∷ zs) e = absurd (omega (arith, e))
 
--- ---- with the number z, which the code holds as n
-held : {z : ℤ} {n : ℕ} → SFits w64 z → n ≡ capped (to_z w64 (of_z w64 z)) → n ≡ capped z
-held h e = e ∙ ap capped (to_z-of_z h)
+-- ---- with the number z, which the code holds as a word
+module _ (l : Left) {z : ℤ} {zs : List ℤ} (f : IsFirstAndRest l.numbers.now z zs) (h : SFits w64 z) where
+  pub wait_no : wait_move l.ready.automaton.now.bytes.now l.ready.state (capped (to_z w64 (of_z w64 z))) ≡ None → false ≡ waits l
+  wait_no e = rw f.0 (sym (waits_none l.ready.automaton.now.bytes.now z zs l.ready.state (rw (to_z-of_z h) at e)))
 
-module _ (l : Left) {z : ℤ} {zs : List ℤ} (f : IsFirstAndRest l.numbers.now z zs) (h : SFits w64 z) {n : ℕ}
-    (en : n ≡ capped (to_z w64 (of_z w64 z))) where
-  pub wait_no : wait_move l.ready.automaton.now.bytes.now l.ready.state n ≡ None → false ≡ waits l
-  wait_no e = rw f.0 (sym (waits_none l.ready.automaton.now.bytes.now z zs l.ready.state (rw (held h en) at e)))
-
-  pub jump_no : jump_move l.ready.automaton.now.bytes.now l.ready.state n ≡ None → false ≡ jumps l
-  jump_no e = rw f.0 (sym (jumps_none l.ready.automaton.now.bytes.now z zs l.ready.state (rw (held h en) at e)))
+  pub jump_no : jump_move l.ready.automaton.now.bytes.now l.ready.state (capped (to_z w64 (of_z w64 z))) ≡ None → false ≡ jumps l
+  jump_no e = rw f.0 (sym (jumps_none l.ready.automaton.now.bytes.now z zs l.ready.state (rw (to_z-of_z h) at e)))
 
 -- m is what is left after a step; what it hands on is shorter
-module _ (l m : Left) {z : ℤ} (f : IsFirstAndRest l.numbers.now z m.numbers.now) (h : SFits w64 z) {n : ℕ}
-    (en : n ≡ capped (to_z w64 (of_z w64 z))) where
+module _ (l m : Left) {z : ℤ} (f : IsFirstAndRest l.numbers.now z m.numbers.now) (h : SFits w64 z) where
   longer : (t : Bool) → m.ready.automaton.now.bytes.now ≡ l.ready.automaton.now.bytes.now → (s : ControlFlow Bool Left) → Handed m t s → Handed l t s
   longer t a (Continue r) k = (rw a at k.0, omega (arith, k.1, f.1))
   longer t a (Break u) k = k
 
-  module _ (k : Leads l.ready.automaton.now.bytes.now (wait_move l.ready.automaton.now.bytes.now l.ready.state n) (Some m.ready)) where
+  module _ (k : Leads l.ready.automaton.now.bytes.now (wait_move l.ready.automaton.now.bytes.now l.ready.state (capped (to_z w64 (of_z w64 z)))) (Some m.ready)) where
     pub wait_on : (s : ControlFlow Bool Left) → Handed m (jumps m) s → Handed l (waits l) s
     wait_on s d =
         let e : waits l ≡ jumps m =
-        rw f.0 (rw k.0 (waits_some l.ready.automaton.now.bytes.now z m.numbers.now l.ready.state (rw (held h en) at k.1))) in
+        rw f.0 (rw k.0 (waits_some l.ready.automaton.now.bytes.now z m.numbers.now l.ready.state (rw (to_z-of_z h) at k.1))) in
         rw e (longer _ k.0 s d)
 
-  module _ (k : Leads l.ready.automaton.now.bytes.now (jump_move l.ready.automaton.now.bytes.now l.ready.state n) (Some m.ready)) where
+  module _ (k : Leads l.ready.automaton.now.bytes.now (jump_move l.ready.automaton.now.bytes.now l.ready.state (capped (to_z w64 (of_z w64 z)))) (Some m.ready)) where
     follows : jumps l ≡ waits m
-    follows = rw f.0 (rw k.0 (jumps_some l.ready.automaton.now.bytes.now z m.numbers.now l.ready.state (rw (held h en) at k.1)))
+    follows = rw f.0 (rw k.0 (jumps_some l.ready.automaton.now.bytes.now z m.numbers.now l.ready.state (rw (to_z-of_z h) at k.1)))
 
     pub jump_on : (s : ControlFlow Bool Left) → Handed m (waits m) s → Handed l (jumps l) s
     jump_on s d = rw follows (longer _ k.0 s d)

@@ -2,6 +2,7 @@
 -- Assumes nothing.
 use mathlib.Core.Path.{refl}
 use native.Mathlib.Omega.{arith}
+use borrow.Author.Rules.{rules}
 use lib.ListN.{length-set}
 use Rattle.run_judge.specs.Clocks.{waited}
 use Rattle.run_judge.proofs.clocks.Showing.{waited_past}
@@ -10,14 +11,13 @@ use Rattle.run_judge.proofs.clocks.later.Goals as goal
 
 pub loop-x-init : goal.loop-x-init
 unfolding waited
-loop-x-init c = (c.requires.2.size, refl)
+loop-x-init c = (search rules, refl)
 
 pub overflow_add-clocks : goal.overflow_add-clocks
 overflow_add-clocks c =
-    let pre = c.requires in
     let x = c.loop-x.x in
     rw c.loop-x.invariant.1
-    (record { fits = omega (arith, waited_past c.args.t c.args.clocks x x (omega arith), pre.2.low x (omega arith)) })
+    (record { fits = omega (arith, waited_past c.args.t c.args.clocks x x (omega arith), c.requires.2 x (omega arith)) })
 
 pub loop-x-preserved : goal.loop-x-preserved
 loop-x-preserved c = (simp length-set c.loop-x.invariant.0, waited_next _ _ _ _ c.loop-x.invariant.1)
