@@ -45,9 +45,9 @@ impl<'a> Ready<'a> {
     }
 
     // The state after a wait of z time units. None is made that is below 0 or above every limit.
-    pub(crate) fn wait(self, z: i64) -> Option<Ready<'a>>
-        ensures { Leads self.entry.automaton.now.bytes.now
-            (wait_move self.entry.automaton.now.bytes.now self.entry.state (capped z)) result }
+    pub(crate) fn wait(&self, z: i64) -> Option<Ready<'a>>
+        ensures { Leads self.now.automaton.now.bytes.now
+            (wait_move self.now.automaton.now.bytes.now self.now.state (capped z)) result }
     {
         let t = u64::try_from(z).ok()?;
         if u64::from(SCALE) < t {
@@ -61,9 +61,9 @@ impl<'a> Ready<'a> {
     }
 
     // The state after a jump by edge z: the guard must hold before the reset, the invariant at arrival after it.
-    pub(crate) fn jump(self, z: i64) -> Option<Ready<'a>>
-        ensures { Leads self.entry.automaton.now.bytes.now
-            (jump_move self.entry.automaton.now.bytes.now self.entry.state (capped z)) result }
+    pub(crate) fn jump(&self, z: i64) -> Option<Ready<'a>>
+        ensures { Leads self.now.automaton.now.bytes.now
+            (jump_move self.now.automaton.now.bytes.now self.now.state (capped z)) result }
     {
         let automaton = self.automaton;
         let i = usize::try_from(z).ok()?;

@@ -12,8 +12,7 @@ use mir.Syntax.{w64}
 use mir.Val.{SFits, to_z, of_z}
 use mir.Facts.{to_z-of_z}
 use Rattle.std.specs.List.{IsFirstAndRest}
-use Rattle.std.specs.Prelude.{Some, None}
-use Rattle.std.proofs.Common.{ControlFlow, Break, Continue}
+use Rattle.std.specs.Prelude.{Option, Some, None}
 use Rattle.automata.specs.Automata.{target}
 use Rattle.run_judge.specs.declared.stretches.Left.{Left}
 use Rattle.run_judge.specs.Judging.{waits_from, jumps_from}
@@ -51,24 +50,27 @@ module _ (l : Left) {z : ℤ} {zs : List ℤ} (f : IsFirstAndRest l.numbers.now 
 
 -- m is what is left after a step; what it hands on is shorter
 module _ (l m : Left) {z : ℤ} (f : IsFirstAndRest l.numbers.now z m.numbers.now) (h : SFits w64 z) where
-  longer : (t : Bool) → m.ready.automaton.now.bytes.now ≡ l.ready.automaton.now.bytes.now → (s : ControlFlow Bool Left) → Handed m t s → Handed l t s
-  longer t a (Continue r) k = (rw a at k.0, omega (arith, k.1, f.1))
-  longer t a (Break u) k = k
+  longer : (t : Bool) → m.ready.automaton.now.bytes.now ≡ l.ready.automaton.now.bytes.now → (r : Left) (o : Option Bool) → Handed m t r o →
+      Handed l t r o
+  longer t a r None k = (rw a at k.0, omega (arith, k.1, f.1))
+  longer t a r (Some u) k = k
 
-  module _ (k : Leads l.ready.automaton.now.bytes.now (wait_move l.ready.automaton.now.bytes.now l.ready.state (capped (to_z w64 (of_z w64 z)))) (Some m.ready)) where
-    pub wait_on : (s : ControlFlow Bool Left) → Handed m (jumps m) s → Handed l (waits l) s
-    wait_on s d =
+  module _ (k : Leads l.ready.automaton.now.bytes.now (wait_move l.ready.automaton.now.bytes.now l.ready.state (capped (to_z w64 (of_z w64 z))))
+      (Some m.ready)) where
+    pub wait_on : (r : Left) (o : Option Bool) → Handed m (jumps m) r o → Handed l (waits l) r o
+    wait_on r o d =
         let e : waits l ≡ jumps m =
         rw f.0 (rw k.0 (waits_some l.ready.automaton.now.bytes.now z m.numbers.now l.ready.state (rw (to_z-of_z h) at k.1))) in
-        rw e (longer _ k.0 s d)
+        rw e (longer _ k.0 r o d)
 
-  module _ (k : Leads l.ready.automaton.now.bytes.now (jump_move l.ready.automaton.now.bytes.now l.ready.state (capped (to_z w64 (of_z w64 z)))) (Some m.ready)) where
+  module _ (k : Leads l.ready.automaton.now.bytes.now (jump_move l.ready.automaton.now.bytes.now l.ready.state (capped (to_z w64 (of_z w64 z))))
+      (Some m.ready)) where
     follows : jumps l ≡ waits m
     follows = rw f.0 (rw k.0 (jumps_some l.ready.automaton.now.bytes.now z m.numbers.now l.ready.state (rw (to_z-of_z h) at k.1)))
 
-    pub jump_on : (s : ControlFlow Bool Left) → Handed m (waits m) s → Handed l (jumps l) s
-    jump_on s d = rw follows (longer _ k.0 s d)
+    pub jump_on : (r : Left) (o : Option Bool) → Handed m (waits m) r o → Handed l (jumps l) r o
+    jump_on r o d = rw follows (longer _ k.0 r o d)
 
     -- the stretch is at its end
-    pub jump_back : Handed l (jumps l) (Continue m)
+    pub jump_back : Handed l (jumps l) m None
     jump_back = (record { automaton = k.0; same = sym follows }, omega (arith, f.1))

@@ -12,11 +12,11 @@ loop-passed-init c =
     let l = c.in-Some.ensures in
     record { automaton = l.0; same = rw l.0 (sym (begins_some _ _ l.1)) }
 
-pub returns-in-Break : goal.returns-in-Break
-returns-in-Break c = rest_over _ _ _ c.loop-passed.invariant c.in-Break.ensures
+pub returns-in-Some-wait_step : goal.returns-in-Some-wait_step
+returns-in-Some-wait_step c = rest_over _ _ _ c.loop-passed.invariant c.in-Some-wait_step.ensures
 
 pub loop-passed-smaller : goal.loop-passed-smaller
-loop-passed-smaller c = c.in-Continue.ensures.1
+loop-passed-smaller c = c.in_default-wait_step.ensures.1
 
 pub loop-passed-preserved : goal.loop-passed-preserved
-loop-passed-preserved c = rest_next _ _ _ c.loop-passed.invariant _ c.in-Continue.ensures.0
+loop-passed-preserved c = rest_next _ _ _ c.loop-passed.invariant _ c.in_default-wait_step.ensures.0
