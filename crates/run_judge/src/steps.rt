@@ -3,7 +3,7 @@ ghost use Rattle.std.specs.Prelude.{◌<◌};
 ghost use Rattle.automata.specs.Automata.{locations};
 ghost use Rattle.run_judge.specs.Clocks.{CanStep};
 
-use crate::clocks::{later, reset};
+use crate::clocks::{reset, wait};
 use crate::state::State;
 use automata::opened::Automaton;
 use automata::refusals::SCALE;
@@ -53,10 +53,8 @@ impl<'a> Ready<'a> {
         if u64::from(SCALE) < t {
             return None;
         }
-        let state = State {
-            location: self.state.location,
-            clocks: later(self.state.clocks, t, self.automaton.clocks),
-        };
+        let mut state = self.state;
+        wait(&mut state.clocks, t, self.automaton.clocks);
         Ready::at(self.automaton, state)
     }
 
@@ -74,10 +72,9 @@ impl<'a> Ready<'a> {
         if edge.from != self.state.location || !self.state.is_within(&automaton.guard(i)) {
             return None;
         }
-        let arrival = State {
-            location: edge.to,
-            clocks: reset(self.state.clocks, edge.resets, automaton.clocks),
-        };
+        let mut arrival = self.state;
+        arrival.location = edge.to;
+        reset(&mut arrival.clocks, edge.resets, automaton.clocks);
         Ready::at(automaton, arrival)
     }
 }
