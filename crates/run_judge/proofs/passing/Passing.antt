@@ -33,7 +33,7 @@ use Rattle.run_judge.specs.Passing.{Passes}
 use Rattle.run_judge.proofs.numbers.Numbers.{capped_fits, count_same}
 use Rattle.run_judge.proofs.steps.Moving.{first_is, arrived_is}
 use Rattle.run_judge.proofs.stretches.Ending.{begins_none, begins_some}
-use Rattle.run_judge.proofs.stretches.Following.{waits_some, jumps_some, waits_made, jumps_made}
+use Rattle.run_judge.proofs.stretches.Following.{waits_follow, jumps_follow, step_some, step_made}
 use Rattle.run_judge.proofs.passing.Agreeing.{Agrees, start_agrees}
 use Rattle.run_judge.proofs.passing.Telling.{reset_of, wait_tells, jump_tells, wait_made, jump_made, waits_agree, jumps_agree}
 use Rattle.run_judge.proofs.passing.Telling.{invariant_means, means_invariant}
@@ -79,7 +79,7 @@ module _ (b : List ℕ) (a : Accepted b) where
   unfolding waits_from
   told [] q v y e = true_false (sym e)
   told (z ∷ []) q v y e =
-      let s = waits_made b z [] q e in
+      let s = step_made waits_follow b z [] q e in
       let w = wait_tells b a q v y (capped z) s.1 in
       record {
         steps = wait (capped z) ∷ [];
@@ -90,9 +90,9 @@ module _ (b : List ℕ) (a : Accepted b) where
       }
   told (z ∷ u ∷ zs) q v y e =
       let i = capped u in
-      let s = waits_made b z (u ∷ zs) q e in
+      let s = step_made waits_follow b z (u ∷ zs) q e in
       let w = wait_tells b a q v y (capped z) s.1 in
-      let d = jumps_made b u zs s.0 s.2 in
+      let d = step_made jumps_follow b u zs s.0 s.2 in
       let x = later (capped z) v in
       let j = jump_tells b a s.0 x w.1.agrees i d.1 in
       let r = told zs d.0 (zeroed (resets_of b i) 1 x) j.1.agrees d.2 in
@@ -109,7 +109,7 @@ module _ (b : List ℕ) (a : Accepted b) where
       let w = wait_made b a q v y t h s.0 in
       let d : State = record { location = q.location; clocks = waited t (clocks b) q.clocks } in
       let m : wait_move b q (capped (pos t)) ≡ Some d = rw w.0 w.1 in
-      waits_some b (pos t) [] q m ∙ eq-eqb q.location (target b) e
+      step_some waits_follow b (pos t) [] q m ∙ eq-eqb q.location (target b) e
   untold q v (then t i {xs} k) y h s e =
       let w = wait_made b a q v y t h s.0 in
       let d : State = record { location = q.location; clocks = waited t (clocks b) q.clocks } in
@@ -119,7 +119,7 @@ module _ (b : List ℕ) (a : Accepted b) where
       let r = untold c (zeroed (resets_of b i) 1 (later t v)) k (jumps_agree b a d.clocks (later t v) z q.location i) (a.to< i s.1.0.0) s.1.1 e in
       let m : wait_move b q (capped (pos t)) ≡ Some d = rw w.0 w.1 in
       let o : jump_move b d (capped (pos i)) ≡ Some c = rw j.0 j.1 in
-      waits_some b (pos t) (pos i ∷ numbers xs) q m ∙ jumps_some b (pos i) (numbers xs) d o ∙ r
+      step_some waits_follow b (pos t) (pos i ∷ numbers xs) q m ∙ step_some jumps_follow b (pos i) (numbers xs) d o ∙ r
 
 -- ---- the whole buffer, of an automaton that is not turned down
 abbrev is_yes : Result Bool Refusal → Bool

@@ -5,7 +5,7 @@ use native.Mathlib.Numerals.{add-one}
 use borrow.Author.Rules.{rules}
 use lib.ListN.{length-set}
 use Rattle.run_judge.specs.Clocks.{reset_by}
-use Rattle.run_judge.proofs.clocks.Turns.{reset_put, reset_kept}
+use Rattle.run_judge.proofs.clocks.Showing.{reset_put, reset_kept}
 use Rattle.run_judge.proofs.clocks.reset.Goals as goal
 use Rattle.run_judge.proofs.clocks.reset.Goals.{then-resets-x, else-resets-x}
 
