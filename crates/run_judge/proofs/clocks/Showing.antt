@@ -71,13 +71,14 @@ module _ (b : List ℕ) (at : ℕ) (c : List ℕ) where
   -- so a test of them all is the definition's
   pub all_within : (k : ℕ) {r : Bool} →
       (r ≡ true) ↔ ((x : ℕ) → x < k → holds (lo_at b at (x + 1)) (hi_at b at (x + 1)) (get_or c x 0) ≡ true) → r ≡ within_at b at c k
-  all_within k {r} e = go r e (within_at b at c k) refl
+  all_within k {r} e = go r (within_at b at c k)
+      (λ f. shows_within k (λ x h. holds_shows _ _ _ (rw add-one at (e.0 f x h))))
+      (λ w. e.1 (λ x h. let i = within_shows k w x h in rw add-one (shows_holds _ _ _ i)))
     where
-      go : (r : Bool) → (r ≡ true) ↔ ((x : ℕ) → x < k → holds (lo_at b at (x + 1)) (hi_at b at (x + 1)) (get_or c x 0) ≡ true) → (t : Bool) → within_at b at c k ≡ t → r ≡ t
-      go true e true w = refl
-      go true e false w = true_false (sym (shows_within k (λ x h. holds_shows _ _ _ (rw add-one at (e.0 refl x h)))) ∙ w)
-      go false e true w = e.1 (λ x h. let i = within_shows k w x h in rw add-one (shows_holds _ _ _ i))
-      go false e false w = refl
+      go : (r t : Bool) → (r ≡ true → t ≡ true) → (t ≡ true → r ≡ true) → r ≡ t
+      go true t f g = sym (f refl)
+      go false true f g = g refl
+      go false false f g = refl
 
 -- ---- clocks that change upwards
 -- D k is c after its first k clocks have changed, clock x to v x

@@ -12,10 +12,11 @@ returns-in_err-t c =
 
 pub returns-then-from-t : goal.returns-then-from-t
 returns-then-from-t c =
-    wait_none _ _ _ (natural_is c.args.z (search rules) _ c.try_from.ensures c.in_ok-t.ensures.value) (omega (arith, c.from.ensures, c.if-from-t.true))
+    wait_none _ _ _ (natural_is c.args.z (search rules) _ c.try_from.ensures c.in_ok-t.ensures.value)
+    (omega (arith, c.from.ensures, c.if-from-t.true))
 
 pub returns : goal.returns
 returns c =
-    rw (wait_is _ c.args.self.now.state _ (natural_is c.args.z (search rules) _ c.try_from.ensures c.in_ok-t.ensures.value) (omega (arith, c.from.ensures, c.if-from-t.false))
-    c.args.self.now.automaton.now.counted.clocks≡ c.wait.ensures)
+    rw (wait_is _ c.args.self.now.state _ (natural_is c.args.z (search rules) _ c.try_from.ensures c.in_ok-t.ensures.value)
+    (omega (arith, c.from.ensures, c.if-from-t.false)) c.args.self.now.automaton.now.counted.clocks≡ c.wait.ensures)
     c.at.ensures
