@@ -72,10 +72,8 @@ impl<'a> Ready<'a> {
         if edge.from != self.state.location || !self.state.is_within(&automaton.guard(i)) {
             return None;
         }
-        let mut arrival = State {
-            location: edge.to,
-            ..self.state
-        };
+        let mut arrival = self.state;
+        arrival.location = edge.to;
         reset(&mut arrival.clocks, edge.resets, automaton.clocks);
         Ready::at(automaton, arrival)
     }
