@@ -15,6 +15,7 @@ pub(crate) fn holds(limits: Limits, y: u64) -> bool
 }
 
 // A wait adds its time units to the first n clocks.
+#[tactic(auto, unfolding(crate::specs::Clocks::waited), using(crate::proofs::clocks::Showing::waited_next))]
 pub(crate) fn wait(clocks: &mut [u64; 8], t: u64, n: usize)
     requires { (n ≤ 8) × (t ≤ scale) × LowClocks n clocks.old }
     ensures { clocks.new ≡ waited t n clocks.old }
@@ -25,6 +26,7 @@ pub(crate) fn wait(clocks: &mut [u64; 8], t: u64, n: usize)
 }
 
 // A jump puts those of the first n clocks to 0 that the edge resets, by clock from 1.
+#[tactic(auto, unfolding(crate::specs::Clocks::reset_by), using(crate::proofs::clocks::Showing::reset_turns))]
 pub(crate) fn reset(clocks: &mut [u64; 8], resets: [bool; 9], n: usize)
     requires { n ≤ 8 }
     ensures { clocks.new ≡ reset_by (marked_in resets) n clocks.old }

@@ -22,6 +22,7 @@ impl<'a> Ready<'a> {
     ghost use Rattle.run_judge.specs.Steps.{Leads};
 
     // The state, if the invariant of its location holds.
+    #[tactic(auto, unfolding(crate::specs::Moves::arrived), using(crate::proofs::steps::Moving::constrained, crate::proofs::steps::Readying::ready))]
     fn at(automaton: &'a Automaton<'a>, state: State) -> Option<Ready<'a>>
         requires { state.location < locations automaton.now.bytes.now }
         ensures { Leads automaton.now.bytes.now (arrived automaton.now.bytes.now state) result }
@@ -34,6 +35,7 @@ impl<'a> Ready<'a> {
     }
 
     // The first state of a run.
+    #[tactic(auto, unfolding(crate::specs::Moves::first_move))]
     pub(crate) fn first(automaton: &'a Automaton<'a>) -> Option<Ready<'a>>
         ensures { Leads automaton.now.bytes.now (first_move automaton.now.bytes.now) result }
     {
@@ -45,6 +47,7 @@ impl<'a> Ready<'a> {
     }
 
     // The state after a wait of z time units. None is made that is below 0 or above every limit.
+    #[tactic(auto, using(crate::proofs::steps::Moving::wait_ways))]
     pub(crate) fn wait(&self, z: i64) -> Option<Ready<'a>>
         ensures { Leads self.now.automaton.now.bytes.now
             (wait_move self.now.automaton.now.bytes.now self.now.state (capped z)) result }
@@ -59,6 +62,7 @@ impl<'a> Ready<'a> {
     }
 
     // The state after a jump by edge z: the guard must hold before the reset, the invariant at arrival after it.
+    #[tactic(auto, using(crate::proofs::steps::Moving::jump_ways))]
     pub(crate) fn jump(&self, z: i64) -> Option<Ready<'a>>
         ensures { Leads self.now.automaton.now.bytes.now
             (jump_move self.now.automaton.now.bytes.now self.now.state (capped z)) result }

@@ -19,6 +19,7 @@ pub(crate) struct Left<'a> {
 
 // A wait and then the jump after it. At most `further` pairs more are judged: the answer, if they came to one.
 #[cycle(jump_step_wait_step)]
+#[tactic(auto, using(crate::proofs::stretches::Stretches::ways))]
 fn wait_step<'a>(left: &mut Left<'a>, further: usize) -> Option<bool>
     ensures { Handed left.old (waits left.old) left.new result }
 {
@@ -34,6 +35,7 @@ fn wait_step<'a>(left: &mut Left<'a>, further: usize) -> Option<bool>
 
 // A jump and then the wait after it. At the end of the run the location decides.
 #[cycle(jump_step_wait_step)]
+#[tactic(auto, using(crate::proofs::stretches::Stretches::ways))]
 fn jump_step<'a>(left: &mut Left<'a>, further: usize) -> Option<bool>
     ensures { Handed left.old (jumps left.old) left.new result }
 {
@@ -51,6 +53,7 @@ fn jump_step<'a>(left: &mut Left<'a>, further: usize) -> Option<bool>
 }
 
 // Whether the numbers are those of a run that ends at the target.
+#[tactic(auto, unfolding(crate::specs::Judging::begins))]
 pub(crate) fn passes<'a>(automaton: &'a Automaton<'a>, numbers: &'a [i64]) -> bool
     ensures { result ≡ begins automaton.now.bytes.now numbers.now }
 {

@@ -133,3 +133,6 @@ module _ (R : ℕ → Bool) (k : ℕ) (c d : List ℕ) (e : d ≡ reset_by R k c
   pub reset_kept : R k ≡ false → d ≡ reset_by R (k + 1) c
   unfolding reset_by
   reset_kept h = rw add-one (rw (h, e))
+
+-- the ways through a turn of a reset
+pub ruleset reset_turns = (reset_put, reset_kept)

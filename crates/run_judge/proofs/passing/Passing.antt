@@ -27,11 +27,10 @@ use Rattle.automata.proofs.accepting.Numbering.{above, named_number}
 use Rattle.run_judge.specs.declared.state.State.{State}
 use Rattle.run_judge.specs.Clocks.{meets_invariant, waited}
 use Rattle.run_judge.specs.Judging.{waits_from, jumps_from, begins, passes_to, judgement_of}
-use Rattle.run_judge.specs.Moves.{first_move, wait_move, jump_move}
+use Rattle.run_judge.specs.Moves.{arrived, first_move, wait_move, jump_move}
 use Rattle.run_judge.specs.Numbers.{capped, count_of, announced, Announced}
 use Rattle.run_judge.specs.Passing.{Passes}
 use Rattle.run_judge.proofs.numbers.Numbers.{capped_fits, count_same}
-use Rattle.run_judge.proofs.steps.Moving.{first_is, arrived_is}
 use Rattle.run_judge.proofs.stretches.Ending.{begins_none, begins_some}
 use Rattle.run_judge.proofs.stretches.Following.{waits_follow, jumps_follow, step_some, step_made}
 use Rattle.run_judge.proofs.passing.Agreeing.{Agrees, start_agrees}
@@ -137,7 +136,8 @@ module _ (b : List ℕ) (free : refusal_of b ≡ 0) where
   zeros = record { location = start b; clocks = replicate 8 0 }
 
   started : {t : Bool} → meets_invariant b (start b) (replicate 8 0) ≡ t → first_move b ≡ cond t (Some zeros) None
-  started e = first_is b refl ∙ arrived_is b zeros (sym e)
+  unfolding first_move arrived
+  started e = rw e refl
 
   begins_yes : (zs : List ℤ) → begins b zs ≡ true → (meets_invariant b (start b) (replicate 8 0) ≡ true) × (waits_from b zs zeros ≡ true)
   begins_yes zs e = go (meets_invariant b (start b) (replicate 8 0)) refl

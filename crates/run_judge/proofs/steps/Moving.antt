@@ -7,34 +7,23 @@ use mathlib.Core.List.{List}
 use native.Mathlib.Omega.{arith}
 use borrow.Author.Tests.{lt-ltb, le-ltb, le-leb, lt-leb, eq-eqb, ne_eqb}
 use lib.IntN.{ℤ}
-use lib.ListN.{replicate}
 use Rattle.std.specs.Prelude.{⊤, Option, Some, None, MatchOption}
 use Rattle.runs.specs.Limits.{scale}
-use Rattle.automata.specs.Automata.{clocks, edges, start, from}
+use Rattle.automata.specs.Automata.{clocks, edges, from}
 use Rattle.automata.specs.Constraints.{Constrains}
 use Rattle.automata.specs.Opened.{edge_of}
 use Rattle.automata.specs.declared.constraint.Constraint.{Constraint}
 use Rattle.automata.specs.declared.fields.Edge.{Edge}
 use Rattle.run_judge.specs.declared.state.State.{State}
-use Rattle.run_judge.specs.Clocks.{within_at, meets_invariant, meets_guard, waited, reset_by, marked_in}
-use Rattle.run_judge.specs.Moves.{arrived, first_move, wait_move, edge_move, jump_move}
+use Rattle.run_judge.specs.Clocks.{within_at, meets_guard, waited, reset_by, marked_in}
+use Rattle.run_judge.specs.Moves.{arrived, wait_move, edge_move, jump_move}
 use Rattle.run_judge.specs.Numbers.{capped}
-use Rattle.run_judge.proofs.numbers.Numbers.{natural, capped_beyond, capped_natural}
-
--- ---- what is within its invariant
-pub arrived_is : (b : List ℕ) (q : State) {met : Bool} → met ≡ meets_invariant b q.location q.clocks → arrived b q ≡ cond met (Some q) None
-unfolding arrived
-arrived_is b q e = rw e refl
+use Rattle.run_judge.proofs.numbers.Numbers.{natural, natural_is, capped_beyond, capped_natural}
 
 -- an invariant or a guard, as it is fetched
 pub constrained : {b : List ℕ} {at : ℕ} (k : Constraint) → Constrains b at k → (c : List ℕ) {met : Bool} →
     met ≡ within_at k.bytes.now k.at c k.clocks → met ≡ within_at b at c (clocks b)
 constrained k e c f = f ∙ (λ j. within_at (e.bytes≡ j) (e.at≡ j) c (e.clocks≡ j))
-
--- ---- the first state
-pub first_is : (b : List ℕ) {l : ℕ} → l ≡ start b → first_move b ≡ arrived b (record { location = l; clocks = replicate 8 0 })
-unfolding first_move
-first_is b e = rw e refl
 
 module _ (b : List ℕ) (q : State) (z : ℤ) where
   -- ---- a wait
@@ -76,3 +65,8 @@ module _ (b : List ℕ) (q : State) (z : ℤ) where
         pub jump_taken : met ≡ true → {n : ℕ} {d : List ℕ} → n ≡ clocks b → d ≡ reset_by (marked_in g.resets) n q.clocks →
             jump_move b q (capped z) ≡ arrived b (record { location = g.to; clocks = d })
         jump_taken m en ed = rw ed (rw en (rw m at at_guard))
+
+-- ---- the ways out of a wait and of a jump
+pub ruleset wait_ways = (natural_is, wait_none)
+
+pub ruleset jump_ways = (natural_is, constrained, jump_none, jump_elsewhere, jump_unguarded, jump_taken)

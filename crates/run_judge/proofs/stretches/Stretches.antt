@@ -20,7 +20,7 @@ use Rattle.run_judge.specs.Judging.{waits_from, jumps_from}
 use Rattle.run_judge.specs.Numbers.{capped}
 use Rattle.run_judge.specs.Steps.{Leads}
 use Rattle.run_judge.specs.Stretches.{waits, jumps, Handed}
-use Rattle.run_judge.proofs.stretches.Following.{Follows, step_none, step_some}
+use Rattle.run_judge.proofs.stretches.Following.{Follows, waits_follow, jumps_follow, step_none, step_some}
 
 -- ---- at the end of the numbers
 module _ (l : Left) (h : length l.numbers.now ≡ 0) where
@@ -72,3 +72,6 @@ module _ {move : List ℕ → State → ℕ → Option State} {from next : List 
     -- the stretch is at its end, and a wait comes next
     pub step_back : waits m ≡ judged_by next m → Handed l (judged_by from l) m None
     step_back e = (record { automaton = k.0; same = e ∙ sym follows }, omega (arith, f.1))
+
+-- ---- the ways out of both
+pub ruleset ways = (waits_follow, jumps_follow, wait_over, jump_over, step_over, step_on, step_back)

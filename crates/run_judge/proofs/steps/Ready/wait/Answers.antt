@@ -3,17 +3,8 @@
 use native.Mathlib.Omega.{arith}
 use borrow.Author.Rules.{rules}
 use Rattle.run_judge.proofs.numbers.Numbers.{natural_is}
-use Rattle.run_judge.proofs.steps.Moving.{wait_none, wait_is}
+use Rattle.run_judge.proofs.steps.Moving.{wait_is}
 use Rattle.run_judge.proofs.steps.Ready.wait.Goals as goal
-
-pub returns-in_err-t : goal.returns-in_err-t
-returns-in_err-t c =
-    rw c.from_residual.ensures (wait_none _ _ _ (natural_is c.args.z (search rules) _ c.try_from.ensures c.in_err-t.ensures.value) tt)
-
-pub returns-then-from-t : goal.returns-then-from-t
-returns-then-from-t c =
-    wait_none _ _ _ (natural_is c.args.z (search rules) _ c.try_from.ensures c.in_ok-t.ensures.value)
-    (omega (arith, c.from.ensures, c.if-from-t.true))
 
 pub returns : goal.returns
 returns c =
