@@ -1,3 +1,2 @@
--- The clocks: the loops over them, and what they show clock by clock.
-pub mod Turns
+-- The clocks: what their tests, a wait and a reset show, clock by clock.
 pub mod Showing

@@ -1,5 +1,5 @@
 -- The clocks of a state in whole time units with no loosening: eight numbers, clock 1 first, of which those of the automaton count.
-use Rattle.std.specs.Prelude.{ℕ, zero, suc, ◌+◌, ◌≤◌, ◌<◌, ◌≡◌, Bool, true, false, cond, List, ltb, leb, eqb, length, get_or, set}
+use Rattle.std.specs.Prelude.{ℕ, zero, suc, ◌+◌, ◌≤◌, ◌<◌, Bool, true, false, cond, List, ltb, leb, eqb, get_or, set}
 use Rattle.runs.specs.Limits.{scale}
 use Rattle.automata.specs.Automata.{clocks, locations, invariant_at, edge_at, lo_at, hi_at, no_upper}
 
@@ -7,11 +7,7 @@ use Rattle.automata.specs.Automata.{clocks, locations, invariant_at, edge_at, lo
 unfoldable pub holds : ℕ → ℕ → ℕ → Bool
 holds lo hi y = cond (ltb y lo) false (cond (eqb hi no_upper) true (leb y hi))
 
--- each of the first n clocks is within its limits at `at`
-abbrev pub EachHolds : List ℕ → ℕ → List ℕ → ℕ → Type 0
-EachHolds b at c n = (x : ℕ) → x < n → holds (lo_at b at (x + 1)) (hi_at b at (x + 1)) (get_or c x 0) ≡ true
-
--- the same as a test of the first k clocks
+-- each of the first k clocks is within its limits at `at`
 unfoldable pub within_at : List ℕ → ℕ → List ℕ → ℕ → Bool
 within_at b at c zero = true
 within_at b at c (suc k) = cond (holds (lo_at b at (suc k)) (hi_at b at (suc k)) (get_or c k 0)) (within_at b at c k) false
@@ -36,11 +32,10 @@ reset_by R (suc k) c = cond (R k) (set (reset_by R k c) k 0) (reset_by R k c)
 abbrev pub marked_in : List Bool → ℕ → Bool
 marked_in marks x = get_or marks (suc x) false
 
--- ---- states from which the sums of a step fit
-pub record LowClocks (c : List ℕ) : Type 0 where
-  pub size : length c ≡ 8
-  pub low : (x : ℕ) → x < 8 → get_or c x 0 ≤ scale
+-- ---- states from which the sums of a step fit: so small are the first n clocks
+abbrev pub LowClocks : ℕ → List ℕ → Type 0
+LowClocks n c = (x : ℕ) → x < n → get_or c x 0 ≤ scale
 
 pub record CanStep (b : List ℕ) (l : ℕ) (c : List ℕ) : Type 0 where
   pub location : l < locations b
-  pub clocks : LowClocks c
+  pub low : LowClocks (clocks b) c

@@ -1,7 +1,5 @@
 -- A run judged in stretches: what holds where one ends.
-use Rattle.std.specs.Prelude.{ℕ, ◌<◌, ◌≡◌, Bool, List, length}
-use Rattle.std.specs.ControlFlow.{MatchControlFlow}
-use Rattle.std.specs.declared.ops.ControlFlow.{ControlFlow}
+use Rattle.std.specs.Prelude.{ℕ, ◌<◌, ◌≡◌, Bool, List, length, Option, MatchOption}
 use Rattle.run_judge.specs.declared.stretches.Left.{Left}
 use Rattle.run_judge.specs.Judging.{waits_from, jumps_from}
 
@@ -17,6 +15,6 @@ pub record Rest (b : List ℕ) (t : Bool) (l : Left) : Type 0 where
   pub automaton : l.ready.automaton.now.bytes.now ≡ b
   pub same : waits l ≡ t
 
--- a stretch over l that was to come to t: it comes to t, or what is left does, and that is fewer numbers
-abbrev pub Handed : Left → Bool → ControlFlow Bool Left → Type 0
-Handed l t f = MatchControlFlow f (λ m. Rest l.ready.automaton.now.bytes.now t m × (length m.numbers.now < length l.numbers.now)) (λ u. u ≡ t)
+-- a stretch over l that was to come to t and left m: it comes to t, or what is left does, and that is fewer numbers
+abbrev pub Handed : Left → Bool → Left → Option Bool → Type 0
+Handed l t m o = MatchOption o (Rest l.ready.automaton.now.bytes.now t m × (length m.numbers.now < length l.numbers.now)) (λ u. u ≡ t)

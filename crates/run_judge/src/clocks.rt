@@ -1,46 +1,39 @@
-// The clocks of a state in whole time units with no loosening: whether they are within limits, and what a wait and a reset leave.
-ghost use Rattle.std.specs.Prelude.{◌≡◌, ◌+◌, ◌*◌, ◌≤◌, ◌↔◌, IsTrue, length};
+// The clocks of a state in whole time units with no loosening: whether one is within its limits, and what a wait and a reset leave.
+ghost use Rattle.std.specs.Prelude.{◌≡◌, ◌≤◌};
 ghost use Rattle.runs.specs.Limits.{scale};
-ghost use Rattle.run_judge.specs.Clocks.{holds, EachHolds, waited, reset_by, marked_in, LowClocks};
+ghost use Rattle.run_judge.specs.Clocks.{holds, waited, reset_by, marked_in, LowClocks};
 
-use automata::fields::Limits;
-use automata::opened::Automaton;
+use automata::fields::{Limits, NO_UPPER};
 
 // Whether a clock is within its limits.
-fn holds(limits: Limits, y: u64) -> bool
+// By `upper`, whose Option is made anew for each limit of each step, the judging of a run with eight clocks takes a third longer.
+#[tactic(auto, unfolding(crate::specs::Clocks::holds))]
+pub(crate) fn holds(limits: Limits, y: u64) -> bool
     ensures { result ≡ holds limits.lo limits.hi y }
 {
-    u64::from(limits.lo) <= y && limits.upper().is_none_or(|hi| y <= u64::from(hi))
-}
-
-// Whether the automaton's clocks are within the limits at `at`.
-pub(crate) fn within(automaton: &Automaton, at: usize, clocks: [u64; 8]) -> bool
-    requires { at + 8 * automaton.now.clocks ≤ length automaton.now.bytes.now }
-    ensures { IsTrue result ↔ EachHolds automaton.now.bytes.now at clocks automaton.now.clocks }
-{
-    (0..automaton.clocks).all(|x| holds(automaton.limits(at, x + 1), clocks[x]))
+    u64::from(limits.lo) <= y && (limits.hi == NO_UPPER || y <= u64::from(limits.hi))
 }
 
 // A wait adds its time units to the first n clocks.
-pub(crate) fn later(mut clocks: [u64; 8], t: u64, n: usize) -> [u64; 8]
-    requires { (n ≤ 8) × (t ≤ scale) × LowClocks clocks }
-    ensures { result ≡ waited t n clocks }
+#[tactic(auto, unfolding(crate::specs::Clocks::waited), using(crate::proofs::clocks::Showing::waited_next))]
+pub(crate) fn wait(clocks: &mut [u64; 8], t: u64, n: usize)
+    requires { (n ≤ 8) × (t ≤ scale) × LowClocks n clocks.old }
+    ensures { clocks.new ≡ waited t n clocks.old }
 {
     for x in 0..n {
         clocks[x] += t;
     }
-    clocks
 }
 
 // A jump puts those of the first n clocks to 0 that the edge resets, by clock from 1.
-pub(crate) fn reset(mut clocks: [u64; 8], resets: [bool; 9], n: usize) -> [u64; 8]
+#[tactic(auto, unfolding(crate::specs::Clocks::reset_by), using(crate::proofs::clocks::Showing::reset_turns))]
+pub(crate) fn reset(clocks: &mut [u64; 8], resets: [bool; 9], n: usize)
     requires { n ≤ 8 }
-    ensures { result ≡ reset_by (marked_in resets) n clocks }
+    ensures { clocks.new ≡ reset_by (marked_in resets) n clocks.old }
 {
     for x in 0..n {
         if resets[x + 1] {
             clocks[x] = 0;
         }
     }
-    clocks
 }

@@ -1,11 +1,10 @@
 // One step of a run from a state: a wait, a jump.
 ghost use Rattle.std.specs.Prelude.{◌<◌};
-ghost use Rattle.automata.specs.Automata.{edges, locations};
+ghost use Rattle.automata.specs.Automata.{locations};
 ghost use Rattle.run_judge.specs.Clocks.{CanStep};
 
-use crate::clocks::{later, reset};
+use crate::clocks::{reset, wait};
 use crate::state::State;
-use automata::fields::Edge;
 use automata::opened::Automaton;
 use automata::refusals::SCALE;
 
@@ -18,77 +17,68 @@ pub(crate) struct Ready<'a> {
 }
 
 impl<'a> Ready<'a> {
-    ghost use Rattle.run_judge.specs.Moves.{first_move, wait_move, edge_move, jump_move};
+    ghost use Rattle.run_judge.specs.Moves.{arrived, first_move, wait_move, jump_move};
+    ghost use Rattle.run_judge.specs.Numbers.{capped};
     ghost use Rattle.run_judge.specs.Steps.{Leads};
 
-    // The first state of a run, if its invariant holds.
+    // The state, if the invariant of its location holds.
+    #[tactic(auto, unfolding(crate::specs::Moves::arrived), using(crate::proofs::steps::Moving::constrained, crate::proofs::steps::Readying::ready))]
+    fn at(automaton: &'a Automaton<'a>, state: State) -> Option<Ready<'a>>
+        requires { state.location < locations automaton.now.bytes.now }
+        ensures { Leads automaton.now.bytes.now (arrived automaton.now.bytes.now state) result }
+    {
+        if state.is_within(&automaton.invariant(state.location)) {
+            Some(Ready { automaton, state })
+        } else {
+            None
+        }
+    }
+
+    // The first state of a run.
+    #[tactic(auto, unfolding(crate::specs::Moves::first_move))]
     pub(crate) fn first(automaton: &'a Automaton<'a>) -> Option<Ready<'a>>
         ensures { Leads automaton.now.bytes.now (first_move automaton.now.bytes.now) result }
     {
-        let state = State {
+        let start = State {
             location: automaton.start(),
             clocks: [0; 8],
         };
-        let stays = state.meets_invariant(automaton);
-        if stays {
-            Some(Ready { automaton, state })
-        } else {
-            None
-        }
+        Ready::at(automaton, start)
     }
 
-    // The state after a wait. One above every limit is not made.
-    pub(crate) fn wait(self, t: u64) -> Option<Ready<'a>>
-        ensures { Leads self.entry.automaton.now.bytes.now (wait_move self.entry.automaton.now.bytes.now self.entry.state t) result }
+    // The state after a wait of z time units. None is made that is below 0 or above every limit.
+    #[tactic(auto, using(crate::proofs::steps::Moving::wait_ways))]
+    pub(crate) fn wait(&self, z: i64) -> Option<Ready<'a>>
+        ensures { Leads self.now.automaton.now.bytes.now
+            (wait_move self.now.automaton.now.bytes.now self.now.state (capped z)) result }
     {
+        let t = u64::try_from(z).ok()?;
         if u64::from(SCALE) < t {
             return None;
         }
-        let automaton = self.automaton;
-        let state = State {
-            location: self.state.location,
-            clocks: later(self.state.clocks, t, automaton.clocks),
-        };
-        let stays = state.meets_invariant(automaton);
-        if stays {
-            Some(Ready { automaton, state })
-        } else {
-            None
-        }
+        let mut state = self.state;
+        wait(&mut state.clocks, t, self.automaton.clocks);
+        Ready::at(self.automaton, state)
     }
 
-    // By edge i, which was fetched: the guard must hold before the reset, the invariant at arrival after it.
-    fn take(self, i: usize, edge: Edge) -> Option<Ready<'a>>
-        requires { (i < edges self.automaton.now.bytes.now) × (edge.to < locations self.automaton.now.bytes.now) }
-        ensures { Leads self.entry.automaton.now.bytes.now
-            (edge_move self.entry.automaton.now.bytes.now i edge self.entry.state.clocks) result }
+    // The state after a jump by edge z: the guard must hold before the reset, the invariant at arrival after it.
+    #[tactic(auto, using(crate::proofs::steps::Moving::jump_ways))]
+    pub(crate) fn jump(&self, z: i64) -> Option<Ready<'a>>
+        ensures { Leads self.now.automaton.now.bytes.now
+            (jump_move self.now.automaton.now.bytes.now self.now.state (capped z)) result }
     {
         let automaton = self.automaton;
-        let state = State {
-            location: edge.to,
-            clocks: reset(self.state.clocks, edge.resets, automaton.clocks),
-        };
-        let guarded = self.state.meets_guard(automaton, i);
-        let arrives = state.meets_invariant(automaton);
-        if guarded && arrives {
-            Some(Ready { automaton, state })
-        } else {
-            None
-        }
-    }
-
-    // The state after a jump by edge i.
-    pub(crate) fn jump(self, i: usize) -> Option<Ready<'a>>
-        ensures { Leads self.entry.automaton.now.bytes.now (jump_move self.entry.automaton.now.bytes.now self.entry.state i) result }
-    {
-        let automaton = self.automaton;
+        let i = usize::try_from(z).ok()?;
         if automaton.edges <= i {
             return None;
         }
         let edge = automaton.edge(i);
-        if edge.from != self.state.location {
+        if edge.from != self.state.location || !self.state.is_within(&automaton.guard(i)) {
             return None;
         }
-        self.take(i, edge)
+        let mut arrival = self.state;
+        arrival.location = edge.to;
+        reset(&mut arrival.clocks, edge.resets, automaton.clocks);
+        Ready::at(automaton, arrival)
     }
 }

@@ -4,11 +4,8 @@ ghost use Rattle.std.specs.Prelude.{◌≡◌};
 ghost use Rattle.run_judge.specs.Judging.{begins};
 ghost use Rattle.run_judge.specs.Stretches.{waits, jumps, Handed};
 
-use crate::numbers::step;
 use crate::steps::Ready;
 use automata::opened::Automaton;
-use std::ops::ControlFlow;
-use std::ops::ControlFlow::{Break, Continue};
 
 // The pairs of a wait and a jump in a stretch, after the first.
 const FURTHER: usize = 31;
@@ -20,42 +17,43 @@ pub(crate) struct Left<'a> {
     pub numbers: &'a [i64],
 }
 
-// Where a stretch ended: the judging goes on with what is left, or is over, with its answer.
-type Stretch<'a> = ControlFlow<bool, Left<'a>>;
-
-// A wait and then the jump after it. At most `further` pairs more are judged before what is left is handed back.
+// A wait and then the jump after it. At most `further` pairs more are judged: the answer, if they came to one.
 #[cycle(jump_step_wait_step)]
-fn wait_step<'a>(left: Left<'a>, further: usize) -> Stretch<'a>
-    ensures { Handed left.entry (waits left.entry) result }
+#[tactic(auto, using(crate::proofs::stretches::Stretches::ways))]
+fn wait_step<'a>(left: &mut Left<'a>, further: usize) -> Option<bool>
+    ensures { Handed left.old (waits left.old) left.new result }
 {
     let Some((z, numbers)) = left.numbers.split_first() else {
-        return Break(false);
+        return Some(false);
     };
-    let Some(ready) = left.ready.wait(step(*z)) else {
-        return Break(false);
+    let Some(ready) = left.ready.wait(*z) else {
+        return Some(false);
     };
-    jump_step(Left { ready, numbers }, further)
+    *left = Left { ready, numbers };
+    jump_step(left, further)
 }
 
 // A jump and then the wait after it. At the end of the run the location decides.
 #[cycle(jump_step_wait_step)]
-fn jump_step<'a>(left: Left<'a>, further: usize) -> Stretch<'a>
-    ensures { Handed left.entry (jumps left.entry) result }
+#[tactic(auto, using(crate::proofs::stretches::Stretches::ways))]
+fn jump_step<'a>(left: &mut Left<'a>, further: usize) -> Option<bool>
+    ensures { Handed left.old (jumps left.old) left.new result }
 {
     let Some((z, numbers)) = left.numbers.split_first() else {
-        return Break(left.ready.state.location == left.ready.automaton.target());
+        return Some(left.ready.state.location == left.ready.automaton.target());
     };
-    let Some(ready) = left.ready.jump(step(*z) as usize) else {
-        return Break(false);
+    let Some(ready) = left.ready.jump(*z) else {
+        return Some(false);
     };
-    let rest = Left { ready, numbers };
+    *left = Left { ready, numbers };
     if further == 0 {
-        return Continue(rest);
+        return None;
     }
-    wait_step(rest, further - 1)
+    wait_step(left, further - 1)
 }
 
 // Whether the numbers are those of a run that ends at the target.
+#[tactic(auto, unfolding(crate::specs::Judging::begins))]
 pub(crate) fn passes<'a>(automaton: &'a Automaton<'a>, numbers: &'a [i64]) -> bool
     ensures { result ≡ begins automaton.now.bytes.now numbers.now }
 {
@@ -64,9 +62,8 @@ pub(crate) fn passes<'a>(automaton: &'a Automaton<'a>, numbers: &'a [i64]) -> bo
     };
     let mut left = Left { ready, numbers };
     loop {
-        match wait_step(left, FURTHER) {
-            Break(passed) => return passed,
-            Continue(further) => left = further,
+        if let Some(passed) = wait_step(&mut left, FURTHER) {
+            return passed;
         }
     }
 }

@@ -4,7 +4,7 @@ use Prim.Native.Nat.{ℕ, zero, suc, ◌+◌, ◌≤◌, ◌<◌}
 use mathlib.Core.Path.{◌≡◌, refl, sym, ◌∙◌, subst}
 use mathlib.Core.Bool.{Bool, true, false, cond}
 use mathlib.Core.List.{List}
-use mathlib.Core.Logic.{◌↔◌}
+use mathlib.Core.Logic.{◌↔◌, ◌⊎◌, inl, inr, ⊎_elim}
 use native.Mathlib.Omega.{arith}
 use native.Mathlib.Numerals.{add-one}
 use native.Mathlib.Decide.{ℕ_discrete}
@@ -15,7 +15,7 @@ use lib.ListN.{length, get_or, set, length-set}
 use lib.Seq.{get_or-set_same, get_or-set_other}
 use Rattle.runs.proofs.Contradictions.{true_false}
 use Rattle.automata.specs.Automata.{lo_at, hi_at, no_upper}
-use Rattle.run_judge.specs.Clocks.{holds, EachHolds, within_at, waited, reset_by}
+use Rattle.run_judge.specs.Clocks.{holds, within_at, waited, reset_by}
 
 -- ---- one limit
 pub record Held (lo hi y : ℕ) : Type 0 where
@@ -69,66 +69,70 @@ module _ (b : List ℕ) (at : ℕ) (c : List ℕ) where
   shows_within (suc k) h = rw (shows_holds _ _ _ (h k (omega arith))) (shows_within k (λ x l. h x (omega arith)))
 
   -- so a test of them all is the definition's
-  pub all_within : (k : ℕ) {r : Bool} → (r ≡ true) ↔ EachHolds b at c k → r ≡ within_at b at c k
-  all_within k {r} e = go r e (within_at b at c k) refl
+  pub all_within : (k : ℕ) {r : Bool} →
+      (r ≡ true) ↔ ((x : ℕ) → x < k → holds (lo_at b at (x + 1)) (hi_at b at (x + 1)) (get_or c x 0) ≡ true) → r ≡ within_at b at c k
+  all_within k {r} e = go r (within_at b at c k)
+      (λ f. shows_within k (λ x h. holds_shows _ _ _ (rw add-one at (e.0 f x h))))
+      (λ w. e.1 (λ x h. let i = within_shows k w x h in rw add-one (shows_holds _ _ _ i)))
     where
-      go : (r : Bool) → (r ≡ true) ↔ EachHolds b at c k → (t : Bool) → within_at b at c k ≡ t → r ≡ t
-      go true e true w = refl
-      go true e false w = true_false (sym (shows_within k (λ x h. holds_shows _ _ _ (rw add-one at (e.0 refl x h)))) ∙ w)
-      go false e true w = e.1 (λ x h. let i = within_shows k w x h in rw add-one (shows_holds _ _ _ i))
-      go false e false w = refl
+      go : (r t : Bool) → (r ≡ true → t ≡ true) → (t ≡ true → r ≡ true) → r ≡ t
+      go true t f g = sym (f refl)
+      go false true f g = g refl
+      go false false f g = refl
 
--- ---- the clocks after a wait
-module _ (t : ℕ) (c : List ℕ) where
-  pub waited-length : (k : ℕ) → length (waited t k c) ≡ length c
-  unfolding waited
-  waited-length zero = refl
-  waited-length (suc k) = simp length-set (waited-length k)
+-- ---- clocks that change upwards
+-- D k is c after its first k clocks have changed, clock x to v x
+pub record Changes (c : List ℕ) (v : ℕ → ℕ) (D : ℕ → List ℕ) : Type 0 where
+  pub none : D 0 ≡ c
+  pub next : (k : ℕ) → (D (suc k) ≡ set (D k) k (v k)) ⊎ ((D (suc k) ≡ D k) × (v k ≡ get_or c k 0))
 
-  pub waited_past : (k x : ℕ) → k ≤ x → get_or (waited t k c) x 0 ≡ get_or c x 0
-  unfolding waited
-  waited_past zero x h = refl
-  waited_past (suc k) x h = get_or-set_other (waited t k c) k x (get_or c k 0 + t) 0 (λ e. omega arith) ∙ waited_past k x (omega arith)
+module _ {c : List ℕ} {v : ℕ → ℕ} {D : ℕ → List ℕ} (s : Changes c v D) where
+  pub changed-length : (k : ℕ) → length (D k) ≡ length c
+  changed-length zero = rw s.none refl
+  changed-length (suc k) = ⊎_elim (λ e. rw e (simp length-set (changed-length k))) (λ e. rw e.0 (changed-length k)) (s.next k)
 
-  pub waited_at : (k : ℕ) → k ≤ length c → (x : ℕ) → x < k → get_or (waited t k c) x 0 ≡ get_or c x 0 + t
-  unfolding waited
-  waited_at zero h x l = absurd (not-suc-le-zero l)
-  waited_at (suc k) h y m =
-      up_to (λ x. get_or (waited t (suc k) c) x 0 ≡ get_or c x 0 + t) k
-      (λ x l. get_or-set_other (waited t k c) k x (get_or c k 0 + t) 0 (λ e. omega arith) ∙ waited_at k (omega arith) x l)
-      (get_or-set_same (waited t k c) k (get_or c k 0 + t) 0 (omega (arith, waited-length k))) y m
+  other : (k x : ℕ) → (x ≡ k → ⊥) → get_or (D (suc k)) x 0 ≡ get_or (D k) x 0
+  other k x h = ⊎_elim (λ e. rw e (get_or-set_other (D k) k x (v k) 0 h)) (λ e. rw e.0 refl) (s.next k)
 
--- ---- the clocks after a reset
-module _ (R : ℕ → Bool) (c : List ℕ) where
-  pub reset_length : (k : ℕ) → length (reset_by R k c) ≡ length c
+  pub changed_past : (k x : ℕ) → k ≤ x → get_or (D k) x 0 ≡ get_or c x 0
+  changed_past zero x h = rw s.none refl
+  changed_past (suc k) x h = other k x (λ e. omega arith) ∙ changed_past k x (omega arith)
+
+  pub changed_at : (k : ℕ) → k ≤ length c → (x : ℕ) → x < k → get_or (D k) x 0 ≡ v x
+  changed_at zero h x l = absurd (not-suc-le-zero l)
+  changed_at (suc k) h y m =
+      up_to (λ x. get_or (D (suc k)) x 0 ≡ v x) k (λ x l. other k x (λ e. omega arith) ∙ changed_at k (omega arith) x l)
+      (⊎_elim (λ e. rw e (get_or-set_same (D k) k (v k) 0 (omega (arith, changed-length k))))
+      (λ e. rw e.0 (changed_past k k (omega arith) ∙ sym e.1)) (s.next k)) y m
+
+-- those of a wait
+pub waited_changes : (t : ℕ) (c : List ℕ) → Changes c (λ x. get_or c x 0 + t) (λ k. waited t k c)
+unfolding waited
+waited_changes t c = record { none = refl; next = λ k. inl refl }
+
+-- those of a reset
+pub reset_changes : (R : ℕ → Bool) (c : List ℕ) → Changes c (λ x. cond (R x) 0 (get_or c x 0)) (λ k. reset_by R k c)
+unfolding reset_by
+reset_changes R c = record { none = refl; next = λ k. go k (reset_by R k c) (R k) }
+  where
+    go : (k : ℕ) (d : List ℕ) (t : Bool) → (cond t (set d k 0) d ≡ set d k (cond t 0 (get_or c k 0)))
+        ⊎ ((cond t (set d k 0) d ≡ d) × (cond t 0 (get_or c k 0) ≡ get_or c k 0))
+    go k d true = inl refl
+    go k d false = inr (refl, refl)
+
+-- ---- one turn of the code's loops
+pub waited_next : (t k : ℕ) (c d : List ℕ) → d ≡ waited t k c → set d k (get_or d k 0 + t) ≡ waited t (k + 1) c
+unfolding waited
+waited_next t k c d e = let f : k ≤ k = omega arith in rw add-one (rw e (rw (changed_past (waited_changes t c) k k f) refl))
+
+module _ (R : ℕ → Bool) (k : ℕ) (c d : List ℕ) (e : d ≡ reset_by R k c) where
+  pub reset_put : R k ≡ true → set d k 0 ≡ reset_by R (k + 1) c
   unfolding reset_by
-  reset_length zero = refl
-  reset_length (suc k) = go (reset_length k) (R k)
-    where
-      go : length (reset_by R k c) ≡ length c → (t : Bool) → length (cond t (set (reset_by R k c) k 0) (reset_by R k c)) ≡ length c
-      go h true = simp length-set h
-      go h false = h
+  reset_put h = rw add-one (rw (h, e))
 
-  pub reset_past : (k x : ℕ) → k ≤ x → get_or (reset_by R k c) x 0 ≡ get_or c x 0
+  pub reset_kept : R k ≡ false → d ≡ reset_by R (k + 1) c
   unfolding reset_by
-  reset_past zero x h = refl
-  reset_past (suc k) x h = go (reset_past k x (omega arith)) (R k)
-    where
-      go : get_or (reset_by R k c) x 0 ≡ get_or c x 0 → (t : Bool) → get_or (cond t (set (reset_by R k c) k 0) (reset_by R k c)) x 0 ≡ get_or c x 0
-      go f true = get_or-set_other (reset_by R k c) k x 0 0 (λ e. omega arith) ∙ f
-      go f false = f
+  reset_kept h = rw add-one (rw (h, e))
 
-  pub reset_at : (k : ℕ) → k ≤ length c → (x : ℕ) → x < k → get_or (reset_by R k c) x 0 ≡ cond (R x) 0 (get_or c x 0)
-  unfolding reset_by
-  reset_at zero h x l = absurd (not-suc-le-zero l)
-  reset_at (suc k) h y m =
-      up_to (λ x. get_or (reset_by R (suc k) c) x 0 ≡ cond (R x) 0 (get_or c x 0)) k
-      (λ x l. old x l (R k) ∙ reset_at k (omega arith) x l) (new (R k)) y m
-    where
-      old : (x : ℕ) → x < k → (t : Bool) → get_or (cond t (set (reset_by R k c) k 0) (reset_by R k c)) x 0 ≡ get_or (reset_by R k c) x 0
-      old x l true = get_or-set_other (reset_by R k c) k x 0 0 (λ e. omega arith)
-      old x l false = refl
-
-      new : (t : Bool) → get_or (cond t (set (reset_by R k c) k 0) (reset_by R k c)) k 0 ≡ cond t 0 (get_or c k 0)
-      new true = get_or-set_same (reset_by R k c) k 0 0 (omega (arith, reset_length k))
-      new false = reset_past k k (omega arith)
+-- the ways through a turn of a reset
+pub ruleset reset_turns = (reset_put, reset_kept)

@@ -12,7 +12,7 @@ use Rattle.runs.specs.Timed.{Valuation, ticks, later, zeroed}
 use Rattle.runs.proofs.Valuations.{later-length, later_at, zeroed-length, zeroed_at}
 use Rattle.automata.specs.Automata.{limits_at}
 use Rattle.run_judge.specs.Clocks.{within_at, waited, reset_by}
-use Rattle.run_judge.proofs.clocks.Showing.{within_shows, shows_within, waited-length, waited_at, reset_length, reset_at}
+use Rattle.run_judge.proofs.clocks.Showing.{within_shows, shows_within, changed-length, changed_at, waited_changes, reset_changes}
 
 pub record Agrees (n : ℕ) (c : List ℕ) (v : Valuation) : Type 0 where
   pub size : length c ≡ 8
@@ -30,19 +30,19 @@ module _ (n : ℕ) (n≤ : n ≤ 8) where
   module _ (c : List ℕ) (v : Valuation) (g : Agrees n c v) where
     pub wait_agrees : (t : ℕ) → Agrees n (waited t n c) (later t v)
     wait_agrees t = record {
-      size = waited-length t c n ∙ g.size;
+      size = changed-length (waited_changes t c) n ∙ g.size;
       count = later-length t v ∙ g.count;
-      same = λ x h. omega (arith, waited_at t c n (omega (arith, g.size)) x h, later_at t v x (omega (arith, g.count)), g.same x h);
+      same = λ x h. omega (arith, changed_at (waited_changes t c) n (omega (arith, g.size)) x h, later_at t v x (omega (arith, g.count)), g.same x h);
     }
 
     -- R counts the clocks from 0, S from 1
     pub reset_agrees : (R S : ℕ → Bool) → ((x : ℕ) → x < n → R x ≡ S (suc x)) → Agrees n (reset_by R n c) (zeroed S 1 v)
     reset_agrees R S e = record {
-      size = reset_length R c n ∙ g.size;
+      size = changed-length (reset_changes R c) n ∙ g.size;
       count = zeroed-length S 1 v ∙ g.count;
       same = λ x h.
           let f : suc x ≡ 1 + x = omega arith in
-          reset_at R c n (omega (arith, g.size)) x h ∙ (λ j. cond ((e x h ∙ ap S f) j) 0 (g.same x h j))
+          changed_at (reset_changes R c) n (omega (arith, g.size)) x h ∙ (λ j. cond ((e x h ∙ ap S f) j) 0 (g.same x h j))
           ∙ sym (zeroed_at S 1 v x (omega (arith, g.count)));
     }
 

@@ -11,7 +11,7 @@ use lib.Dec.{ltb, eqb, eqb-suc-zero}
 use lib.IntN.{ℤ, pos, negsuc}
 use lib.ListN.{length, get_or, take, drop, replicate, length-append, take-append-drop}
 use lib.Seq.{length-take-le, take_at}
-use Rattle.std.specs.Prelude.{Some, Result, Ok, Err}
+use Rattle.std.specs.Prelude.{Some, None, Result, Ok, Err}
 use Rattle.runs.specs.Runs.{Stand, Step, wait, jump, jumps, first, last, Can, Steps, Run}
 use Rattle.runs.specs.Timed.{Valuation, later, zeroed}
 use Rattle.runs.specs.Written.{numbers, ByTurns, alone, then, written}
@@ -27,13 +27,12 @@ use Rattle.automata.proofs.accepting.Numbering.{above, named_number}
 use Rattle.run_judge.specs.declared.state.State.{State}
 use Rattle.run_judge.specs.Clocks.{meets_invariant, waited}
 use Rattle.run_judge.specs.Judging.{waits_from, jumps_from, begins, passes_to, judgement_of}
-use Rattle.run_judge.specs.Moves.{wait_move, jump_move}
+use Rattle.run_judge.specs.Moves.{arrived, first_move, wait_move, jump_move}
 use Rattle.run_judge.specs.Numbers.{capped, count_of, announced, Announced}
 use Rattle.run_judge.specs.Passing.{Passes}
 use Rattle.run_judge.proofs.numbers.Numbers.{capped_fits, count_same}
-use Rattle.run_judge.proofs.steps.Moving.{first_is}
 use Rattle.run_judge.proofs.stretches.Ending.{begins_none, begins_some}
-use Rattle.run_judge.proofs.stretches.Following.{waits_some, jumps_some, waits_made, jumps_made}
+use Rattle.run_judge.proofs.stretches.Following.{waits_follow, jumps_follow, step_some, step_made}
 use Rattle.run_judge.proofs.passing.Agreeing.{Agrees, start_agrees}
 use Rattle.run_judge.proofs.passing.Telling.{reset_of, wait_tells, jump_tells, wait_made, jump_made, waits_agree, jumps_agree}
 use Rattle.run_judge.proofs.passing.Telling.{invariant_means, means_invariant}
@@ -79,7 +78,7 @@ module _ (b : List ℕ) (a : Accepted b) where
   unfolding waits_from
   told [] q v y e = true_false (sym e)
   told (z ∷ []) q v y e =
-      let s = waits_made b z [] q e in
+      let s = step_made waits_follow b z [] q e in
       let w = wait_tells b a q v y (capped z) s.1 in
       record {
         steps = wait (capped z) ∷ [];
@@ -90,9 +89,9 @@ module _ (b : List ℕ) (a : Accepted b) where
       }
   told (z ∷ u ∷ zs) q v y e =
       let i = capped u in
-      let s = waits_made b z (u ∷ zs) q e in
+      let s = step_made waits_follow b z (u ∷ zs) q e in
       let w = wait_tells b a q v y (capped z) s.1 in
-      let d = jumps_made b u zs s.0 s.2 in
+      let d = step_made jumps_follow b u zs s.0 s.2 in
       let x = later (capped z) v in
       let j = jump_tells b a s.0 x w.1.agrees i d.1 in
       let r = told zs d.0 (zeroed (resets_of b i) 1 x) j.1.agrees d.2 in
@@ -109,7 +108,7 @@ module _ (b : List ℕ) (a : Accepted b) where
       let w = wait_made b a q v y t h s.0 in
       let d : State = record { location = q.location; clocks = waited t (clocks b) q.clocks } in
       let m : wait_move b q (capped (pos t)) ≡ Some d = rw w.0 w.1 in
-      waits_some b (pos t) [] q m ∙ eq-eqb q.location (target b) e
+      step_some waits_follow b (pos t) [] q m ∙ eq-eqb q.location (target b) e
   untold q v (then t i {xs} k) y h s e =
       let w = wait_made b a q v y t h s.0 in
       let d : State = record { location = q.location; clocks = waited t (clocks b) q.clocks } in
@@ -119,7 +118,7 @@ module _ (b : List ℕ) (a : Accepted b) where
       let r = untold c (zeroed (resets_of b i) 1 (later t v)) k (jumps_agree b a d.clocks (later t v) z q.location i) (a.to< i s.1.0.0) s.1.1 e in
       let m : wait_move b q (capped (pos t)) ≡ Some d = rw w.0 w.1 in
       let o : jump_move b d (capped (pos i)) ≡ Some c = rw j.0 j.1 in
-      waits_some b (pos t) (pos i ∷ numbers xs) q m ∙ jumps_some b (pos i) (numbers xs) d o ∙ r
+      step_some waits_follow b (pos t) (pos i ∷ numbers xs) q m ∙ step_some jumps_follow b (pos i) (numbers xs) d o ∙ r
 
 -- ---- the whole buffer, of an automaton that is not turned down
 abbrev is_yes : Result Bool Refusal → Bool
@@ -136,12 +135,16 @@ module _ (b : List ℕ) (free : refusal_of b ≡ 0) where
   abbrev zeros : State
   zeros = record { location = start b; clocks = replicate 8 0 }
 
+  started : {t : Bool} → meets_invariant b (start b) (replicate 8 0) ≡ t → first_move b ≡ cond t (Some zeros) None
+  unfolding first_move arrived
+  started e = rw e refl
+
   begins_yes : (zs : List ℤ) → begins b zs ≡ true → (meets_invariant b (start b) (replicate 8 0) ≡ true) × (waits_from b zs zeros ≡ true)
   begins_yes zs e = go (meets_invariant b (start b) (replicate 8 0)) refl
     where
       go : (t : Bool) → meets_invariant b (start b) (replicate 8 0) ≡ t → (t ≡ true) × (waits_from b zs zeros ≡ true)
-      go true f = (refl, sym (begins_some b zs (first_is b refl (sym f))) ∙ e)
-      go false f = true_false (sym e ∙ begins_none b zs (first_is b refl (sym f)))
+      go true f = (refl, sym (begins_some b zs (started f)) ∙ e)
+      go false f = true_false (sym e ∙ begins_none b zs (started f))
 
   -- a buffer that begins with its count k + 1
   passes_yes : (k : ℕ) (xs : List ℤ) → k ≤ length xs → passes_to b (pos (suc k) ∷ xs) (suc k) ≡ true → Passes b (pos (suc k) ∷ xs)
@@ -188,7 +191,7 @@ module _ (b : List ℕ) (free : refusal_of b ≡ 0) where
       let w = untold b a zeros (replicate (clocks b) 0) t start_same a.start< u.1 e in
       let i = means_invariant b a (replicate 8 0) (replicate (clocks b) 0) start_same (start b) u.0 in
       rw (eqb-suc-zero (length xs)) (rw (take_at (numbers xs) rest (length xs) (numbers-length xs))
-      (begins_some b (numbers xs) (first_is b refl (sym i)) ∙ w))
+      (begins_some b (numbers xs) (started i) ∙ w))
 
 -- ---- the judgement, by the refusal
 module _ (b : List ℕ) (r : List ℤ) where

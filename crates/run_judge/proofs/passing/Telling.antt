@@ -9,7 +9,7 @@ use borrow.Author.Tests.{ltb-false, leb-false, lt-leb, le-ltb, eqb-true, eq-eqb}
 use lib.Dec.{ltb, leb, eqb}
 use lib.IntN.{pos}
 use Rattle.std.specs.Option.{is_some, unwrap_or}
-use Rattle.std.specs.Prelude.{Some, None}
+use Rattle.std.specs.Prelude.{Option, Some, None}
 use Rattle.runs.specs.Limits.{scale, Within}
 use Rattle.runs.specs.Runs.{Stand, Step, wait, jump, after, Can}
 use Rattle.runs.specs.Timed.{Valuation, ticks}
@@ -22,11 +22,20 @@ use Rattle.automata.specs.Semantics.{system_of}
 use Rattle.automata.proofs.fields.Resets.{resets_at}
 use Rattle.run_judge.specs.declared.state.State.{State}
 use Rattle.run_judge.specs.Clocks.{meets_invariant, meets_guard, waited, reset_by, marked_in}
-use Rattle.run_judge.specs.Moves.{wait_move, edge_move, jump_move}
+use Rattle.run_judge.specs.Moves.{arrived, wait_move, edge_move, jump_move}
 use Rattle.run_judge.specs.Numbers.{capped}
 use Rattle.run_judge.proofs.numbers.Numbers.{capped_same}
 use Rattle.run_judge.proofs.steps.Readying.{present, on_scale}
 use Rattle.run_judge.proofs.passing.Agreeing.{Agrees, wait_agrees, reset_agrees, within_means, means_within}
+
+-- a move that is made passes its test
+made_when : {A : Type 0} {m : Option A} {p : A} (t : Bool) → cond t m None ≡ Some p → (t ≡ true) × (m ≡ Some p)
+made_when true e = (refl, e)
+made_when false e = true_false (sym (ap is_some e))
+
+made_unless : {A : Type 0} {m : Option A} {p : A} (t : Bool) → cond t None m ≡ Some p → (t ≡ false) × (m ≡ Some p)
+made_unless true e = true_false (sym (ap is_some e))
+made_unless false e = (refl, e)
 
 module _ (b : List ℕ) (a : Accepted b) where
   n≤ : clocks b ≤ 8
@@ -75,43 +84,31 @@ module _ (b : List ℕ) (a : Accepted b) where
     l = q.location
 
     pub wait_tells : (t : ℕ) {p : State} → wait_move b q t ≡ Some p → (t ≤ scale) × Made l v p (wait t)
-    unfolding wait_move
-    wait_tells t {p} = go (ltb scale t) refl (meets_invariant b l (waited t (clocks b) q.clocks)) refl
-      where
-        go : (u : Bool) → ltb scale t ≡ u → (w : Bool) → meets_invariant b l (waited t (clocks b) q.clocks) ≡ w →
-            cond u None (cond w (Some (record { location = l; clocks = waited t (clocks b) q.clocks })) None) ≡ Some p →
-            (t ≤ scale) × Made l v p (wait t)
-        go true f w g e = true_false (sym (ap is_some e))
-        go false f false g e = true_false (sym (ap is_some e))
-        go false f true g e =
-            let s = waits_agree q.clocks v y l t in
-            let made : Made l v (record { location = l; clocks = waited t (clocks b) q.clocks }) (wait t) =
-            record { can = invariant_means _ _ s l g; location = refl; agrees = s } in
-            (ltb-false scale t f, subst (λ p. Made l v p (wait t)) (ap (λ o. unwrap_or o p) e) made)
+    unfolding wait_move arrived
+    wait_tells t {p} e =
+        let f = made_unless (ltb scale t) e in
+        let g = made_when (meets_invariant b l (waited t (clocks b) q.clocks)) f.1 in
+        let z = waits_agree q.clocks v y l t in
+        let made : Made l v (record { location = l; clocks = waited t (clocks b) q.clocks }) (wait t) =
+        record { can = invariant_means _ _ z l g.0; location = refl; agrees = z } in
+        (ltb-false scale t f.0, subst (λ p. Made l v p (wait t)) (ap (λ o. unwrap_or o p) g.1) made)
 
     pub jump_tells : (i : ℕ) {p : State} → jump_move b q i ≡ Some p → (i < edges b) × Made l v p (jump i)
-    unfolding jump_move edge_move
-    jump_tells i {p} =
-        go (leb (edges b) i) refl (eqb (from b i) l) refl (meets_guard b i q.clocks) refl (meets_invariant b (to b i) (reset_of i q.clocks)) refl
-      where
-        go : (t : Bool) → leb (edges b) i ≡ t → (u : Bool) → eqb (from b i) l ≡ u → (g : Bool) → meets_guard b i q.clocks ≡ g →
-            (w : Bool) → meets_invariant b (to b i) (reset_of i q.clocks) ≡ w →
-            cond t None (cond u (cond g (cond w (Some (record { location = to b i; clocks = reset_of i q.clocks })) None) None) None) ≡ Some p →
-            (i < edges b) × Made l v p (jump i)
-        go true f u h g k w m e = true_false (sym (ap is_some e))
-        go false f false h g k w m e = true_false (sym (ap is_some e))
-        go false f true h false k w m e = true_false (sym (ap is_some e))
-        go false f true h true k false m e = true_false (sym (ap is_some e))
-        go false f true h true k true m e =
-            let there = leb-false (edges b) i f in
-            let z = jumps_agree q.clocks v y l i in
-            let made : Made l v (record { location = to b i; clocks = reset_of i q.clocks }) (jump i) =
-            record {
-              can = (there, eqb-true (from b i) l h, guard_means q.clocks v y i k, invariant_means _ _ z (to b i) m);
-              location = refl;
-              agrees = z;
-            } in
-            (there, subst (λ p. Made l v p (jump i)) (ap (λ o. unwrap_or o p) e) made)
+    unfolding jump_move edge_move arrived
+    jump_tells i {p} e =
+        let f = made_unless (leb (edges b) i) e in
+        let g = made_when (eqb (from b i) l) f.1 in
+        let h = made_when (meets_guard b i q.clocks) g.1 in
+        let k = made_when (meets_invariant b (to b i) (reset_of i q.clocks)) h.1 in
+        let there = leb-false (edges b) i f.0 in
+        let z = jumps_agree q.clocks v y l i in
+        let made : Made l v (record { location = to b i; clocks = reset_of i q.clocks }) (jump i) =
+        record {
+          can = (there, eqb-true (from b i) l g.0, guard_means q.clocks v y i h.0, invariant_means _ _ z (to b i) k.0);
+          location = refl;
+          agrees = z;
+        } in
+        (there, subst (λ p. Made l v p (jump i)) (ap (λ o. unwrap_or o p) k.1) made)
 
     -- ---- and a step is made: no wait of a run is above every limit, as every clock has an upper one
     wait_low : (t : ℕ) → l < locations b → Can (system_of b) 1 0 (stand l v) (wait t) → t ≤ scale
@@ -127,14 +124,14 @@ module _ (b : List ℕ) (a : Accepted b) where
 
     pub wait_made : (t : ℕ) → l < locations b → Can (system_of b) 1 0 (stand l v) (wait t) →
         (capped (pos t) ≡ t) × (wait_move b q t ≡ Some (record { location = l; clocks = waited t (clocks b) q.clocks }))
-    unfolding wait_move
+    unfolding wait_move arrived
     wait_made t h k =
         let s = wait_low t h k in
         (capped_same t s, rw (le-ltb scale t s) (rw (means_invariant _ _ (waits_agree q.clocks v y l t) l k)))
 
     pub jump_made : (i : ℕ) → Can (system_of b) 1 0 (stand l v) (jump i) →
         (capped (pos i) ≡ i) × (jump_move b q i ≡ Some (record { location = to b i; clocks = reset_of i q.clocks }))
-    unfolding jump_move edge_move
+    unfolding jump_move edge_move arrived
     jump_made i k = (
       capped_same i (omega (arith, k.0, a.complete.edges≤)),
       rw (lt-leb (edges b) i k.0) (rw (eq-eqb (from b i) l k.1) (rw (means_guard q.clocks v y i k.2)

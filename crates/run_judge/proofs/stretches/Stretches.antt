@@ -1,7 +1,7 @@
--- One law for each way out of a wait and of a jump in a stretch.
+-- One law for each way out of a step in a stretch.
 -- Assumes nothing.
 use Prim.Native.Nat.{ℕ}
-use mathlib.Core.Path.{◌≡◌, refl, sym, ap, ◌∙◌}
+use mathlib.Core.Path.{◌≡◌, refl, sym, ◌∙◌}
 use mathlib.Core.Bool.{Bool, false}
 use mathlib.Core.List.{List, [], ◌∷◌}
 use native.Mathlib.Omega.{arith}
@@ -12,16 +12,15 @@ use mir.Syntax.{w64}
 use mir.Val.{SFits, to_z, of_z}
 use mir.Facts.{to_z-of_z}
 use Rattle.std.specs.List.{IsFirstAndRest}
-use Rattle.std.specs.Prelude.{Some, None}
-use Rattle.std.proofs.Common.{ControlFlow, Break, Continue}
+use Rattle.std.specs.Prelude.{Option, Some, None}
 use Rattle.automata.specs.Automata.{target}
+use Rattle.run_judge.specs.declared.state.State.{State}
 use Rattle.run_judge.specs.declared.stretches.Left.{Left}
 use Rattle.run_judge.specs.Judging.{waits_from, jumps_from}
-use Rattle.run_judge.specs.Moves.{wait_move, jump_move}
 use Rattle.run_judge.specs.Numbers.{capped}
 use Rattle.run_judge.specs.Steps.{Leads}
 use Rattle.run_judge.specs.Stretches.{waits, jumps, Handed}
-use Rattle.run_judge.proofs.stretches.Following.{waits_none, waits_some, jumps_none, jumps_some}
+use Rattle.run_judge.proofs.stretches.Following.{Follows, waits_follow, jumps_follow, step_none, step_some}
 
 -- ---- at the end of the numbers
 module _ (l : Left) (h : length l.numbers.now ≡ 0) where
@@ -41,39 +40,38 @@ module _ (l : Left) (h : length l.numbers.now ≡ 0) where
       go [] e = rw f refl
       go (z ∷ zs) e = absurd (omega (arith, e))
 
--- ---- with the number z, which the code holds as n
-held : {z : ℤ} {n : ℕ} → SFits w64 z → n ≡ capped (to_z w64 (of_z w64 z)) → n ≡ capped z
-held h e = e ∙ ap capped (to_z-of_z h)
+-- ---- with the number z, which the code holds as a word
+-- what is left, judged by `from`
+abbrev pub judged_by : (List ℕ → List ℤ → State → Bool) → Left → Bool
+judged_by from l = from l.ready.automaton.now.bytes.now l.numbers.now l.ready.state
 
-module _ (l : Left) {z : ℤ} {zs : List ℤ} (f : IsFirstAndRest l.numbers.now z zs) (h : SFits w64 z) {n : ℕ}
-    (en : n ≡ capped (to_z w64 (of_z w64 z))) where
-  pub wait_no : wait_move l.ready.automaton.now.bytes.now l.ready.state n ≡ None → false ≡ waits l
-  wait_no e = rw f.0 (sym (waits_none l.ready.automaton.now.bytes.now z zs l.ready.state (rw (held h en) at e)))
+module _ {move : List ℕ → State → ℕ → Option State} {from next : List ℕ → List ℤ → State → Bool} (s : Follows move from next)
+    (l : Left) {z : ℤ} (h : SFits w64 z) where
+  abbrev b : List ℕ
+  b = l.ready.automaton.now.bytes.now
 
-  pub jump_no : jump_move l.ready.automaton.now.bytes.now l.ready.state n ≡ None → false ≡ jumps l
-  jump_no e = rw f.0 (sym (jumps_none l.ready.automaton.now.bytes.now z zs l.ready.state (rw (held h en) at e)))
+  abbrev moved : Option State
+  moved = move b l.ready.state (capped (to_z w64 (of_z w64 z)))
 
--- m is what is left after a step; what it hands on is shorter
-module _ (l m : Left) {z : ℤ} (f : IsFirstAndRest l.numbers.now z m.numbers.now) (h : SFits w64 z) {n : ℕ}
-    (en : n ≡ capped (to_z w64 (of_z w64 z))) where
-  longer : (t : Bool) → m.ready.automaton.now.bytes.now ≡ l.ready.automaton.now.bytes.now → (s : ControlFlow Bool Left) → Handed m t s → Handed l t s
-  longer t a (Continue r) k = (rw a at k.0, omega (arith, k.1, f.1))
-  longer t a (Break u) k = k
+  -- a step that is not made
+  pub step_over : {zs : List ℤ} → IsFirstAndRest l.numbers.now z zs → moved ≡ None → false ≡ judged_by from l
+  step_over {zs} f e = rw f.0 (sym (step_none s b z zs l.ready.state (rw (to_z-of_z h) at e)))
 
-  module _ (k : Leads l.ready.automaton.now.bytes.now (wait_move l.ready.automaton.now.bytes.now l.ready.state n) (Some m.ready)) where
-    pub wait_on : (s : ControlFlow Bool Left) → Handed m (jumps m) s → Handed l (waits l) s
-    wait_on s d =
-        let e : waits l ≡ jumps m =
-        rw f.0 (rw k.0 (waits_some l.ready.automaton.now.bytes.now z m.numbers.now l.ready.state (rw (held h en) at k.1))) in
-        rw e (longer _ k.0 s d)
+  -- one that is made leaves m, which is shorter
+  module _ (m : Left) (f : IsFirstAndRest l.numbers.now z m.numbers.now) (k : Leads b moved (Some m.ready)) where
+    follows : judged_by from l ≡ judged_by next m
+    follows = rw f.0 (rw k.0 (step_some s b z m.numbers.now l.ready.state (rw (to_z-of_z h) at k.1)))
 
-  module _ (k : Leads l.ready.automaton.now.bytes.now (jump_move l.ready.automaton.now.bytes.now l.ready.state n) (Some m.ready)) where
-    follows : jumps l ≡ waits m
-    follows = rw f.0 (rw k.0 (jumps_some l.ready.automaton.now.bytes.now z m.numbers.now l.ready.state (rw (held h en) at k.1)))
+    pub step_on : (r : Left) (o : Option Bool) → Handed m (judged_by next m) r o → Handed l (judged_by from l) r o
+    step_on r o d = rw follows (longer _ o d)
+      where
+        longer : (t : Bool) (o : Option Bool) → Handed m t r o → Handed l t r o
+        longer t None d = (rw k.0 at d.0, omega (arith, d.1, f.1))
+        longer t (Some u) d = d
 
-    pub jump_on : (s : ControlFlow Bool Left) → Handed m (waits m) s → Handed l (jumps l) s
-    jump_on s d = rw follows (longer _ k.0 s d)
+    -- the stretch is at its end, and a wait comes next
+    pub step_back : waits m ≡ judged_by next m → Handed l (judged_by from l) m None
+    step_back e = (record { automaton = k.0; same = e ∙ sym follows }, omega (arith, f.1))
 
-    -- the stretch is at its end
-    pub jump_back : Handed l (jumps l) (Continue m)
-    jump_back = (record { automaton = k.0; same = sym follows }, omega (arith, f.1))
+-- ---- the ways out of both
+pub ruleset ways = (waits_follow, jumps_follow, wait_over, jump_over, step_over, step_on, step_back)
