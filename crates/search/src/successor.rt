@@ -95,6 +95,7 @@ pub(crate) fn enter(automaton: &Automaton, l: usize, w: Work, resets: [bool; 9])
     if met.emptied.is_some() {
         return met;
     }
+    // Raised within it, as a local of its own would cost a copy of the square.
     let raised = Unreduced {
         work: raise(automaton, at, c, met.work),
         size: c + 1,
