@@ -47,7 +47,7 @@ falling size s n = leb 2 n && bytes_less (nth_edge size s 1) (nth_edge size s 0)
 abbrev pub taken_at : Bool → (n i : ℕ) → ℕ
 taken_at down n i = cond down (n - 1 - i) i
 
--- a function of i that may be called for each of n edges gives it
+-- a function that may be called at each i below n gives it
 pub record Takes (down : Bool) (n : ℕ) (pre : ℕ → Type 0) (post : ℕ → ℕ → Type 0) : Type 0 where
   pub may : (i : ℕ) → i < n → pre i
   pub gives : (i x : ℕ) → i < n → post i x → x ≡ taken_at down n i

@@ -81,8 +81,8 @@ impl<'a> Order<'a> {
     }
 }
 
+// All of them; `taken` gives the edge that is taken after i others.
 #[tactic(auto, using(crate::proofs::ordering::Ordering::order_none, crate::proofs::ordering::Ordering::order_more))]
-// All of them, by the edge that is taken after i others.
 fn taken_by<'a, F: Fn(usize) -> usize>(edges: Edges<'a>, taken: F) -> Order<'a>
     requires { (down : Bool) × Takes down edges.count (F.pre taken) (F.post taken) }
     ensures same { result.edges ≡ edges.entry }
@@ -95,7 +95,7 @@ fn taken_by<'a, F: Fn(usize) -> usize>(edges: Edges<'a>, taken: F) -> Order<'a>
     order
 }
 
-// Where the first two fall they are taken from the last to the first, so that edges in falling order are behind all that are listed, too.
+// All of them. Where the first two fall they are taken from the last to the first: edges in falling order are then behind all that are listed, too.
 pub(crate) fn order_of<'a>(edges: Edges<'a>) -> Order<'a>
     ensures same { result.edges ≡ edges.entry }
     ensures lists { Lists edges.entry.size edges.entry.bytes.now edges.entry.count result.numbers.items }
