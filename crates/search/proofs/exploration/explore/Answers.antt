@@ -5,7 +5,6 @@ use mathlib.Core.Path.{◌≡◌, refl, sym, ap, ◌∙◌, subst}
 use mathlib.Core.Bool.{false}
 use mathlib.Core.List.{List}
 use lib.ListN.{length, replicate}
-use native.Mathlib.Omega.{arith}
 use Rattle.zones.specs.Ranges.{counts}
 use Rattle.zones.specs.Successors.{enter_of}
 use Rattle.zones.specs.Zones.{first_work, set_of}
@@ -84,9 +83,3 @@ take-requires c = (offered (goal.at.take-requires c).After-arrive-t).goes_on (sy
 pub returns : goal.returns
 returns c =
     (offered (goal.at.returns c).After-arrive-t).rest (sym c.has_ended.ensures ∙ c.if-has_ended.false) c.take.ensures
-
-pub overflow_add-automaton : goal.overflow_add-automaton
-overflow_add-automaton c = omega (arith, few (goal.at.overflow_add-automaton c).Start)
-
-pub capacity_of-requires : goal.capacity_of-requires
-capacity_of-requires c = omega (arith, few (goal.at.capacity_of-requires c).Start)

@@ -1,7 +1,7 @@
 -- `expand` meets its contract: what is done is the definition's expansion along the edges passed, or it has stopped at one.
 -- Assumes nothing.
 use Prim.Native.Nat.{◌<◌}
-use mathlib.Core.Path.{◌≡◌, refl, sym, ap, ◌∙◌}
+use mathlib.Core.Path.{◌≡◌, sym, ap, ◌∙◌}
 use mathlib.Core.List.{[]}
 use native.Mathlib.Omega.{arith}
 use Rattle.zones.specs.declared.zone.Work.{Work}
@@ -9,18 +9,10 @@ use Rattle.automata.specs.Automata.{edges, from}
 use Rattle.automata.specs.declared.fields.Edge.{Edge}
 use Rattle.reachability.specs.Search.{first_zone}
 use Rattle.search.specs.Instance.{work_of}
-use Rattle.search.proofs.exploration.Expanding.{Between, begins, passes, taken_fits, taken-sound, goes_on, offered_length, stops}
+use Rattle.search.proofs.exploration.Expanding.{Between, passes, taken_fits, taken-sound, goes_on, stops}
 use Rattle.search.proofs.exploration.Expanding.{between_going, ends}
-use Rattle.search.proofs.exploration.Judging.{live-length, going_length}
 use Rattle.search.proofs.exploration.Search.expand.Goals as goal
 use Rattle.search.proofs.exploration.Search.expand.Goals.{After-edge-edge, then-edge-l+else-has_ended, else-edge-l}
-
-pub loop-i-init : goal.loop-i-init
-loop-i-init c =
-    (refl, λ x p s₀ q₀ h. begins _ _ _ _ _ _ _ h)
-
-pub edge-edge-requires : goal.edge-edge-requires
-edge-edge-requires c = omega arith
 
 -- ---- with the edge fetched
 module _ (c : After-edge-edge) where
@@ -42,12 +34,6 @@ module _ (c : After-edge-edge) where
       c.requires.going.0.base c.requires.going.0.state c.loop-i.i c.loop-i.store c.loop-i.t
   some = c.loop-i.invariant.1 first_zone [] c.requires.going.0.base c.requires.going.0.state c.requires.going.0.live
 
-pub along-origin-requires : goal.along-origin-requires
-along-origin-requires c = (
-  omega (arith, c.requires.parent_kept),
-  omega (arith, within (goal.at.along-origin-requires c).After-edge-edge, c.args.self.automaton.now.accepted.complete.edges≤),
-)
-
 pub follow-t-requires : goal.follow-t-requires
 follow-t-requires c =
     let a = c.args.self.automaton.now.accepted in
@@ -64,17 +50,6 @@ follow-t-requires c =
             (taken_is (goal.at.follow-t-requires c).After-edge-edge),
       );
     }
-
-pub shape_of-store-then-has_ended : goal.shape_of-store-then-has_ended
-shape_of-store-then-has_ended c =
-    let a = c.args.self.automaton.now.accepted in
-    let pre = c.requires.going in
-    offered_length (some (goal.at.shape_of-store-then-has_ended c).After-edge-edge)
-    (within (goal.at.shape_of-store-then-has_ended c).After-edge-edge) a pre.1
-    (taken_is (goal.at.shape_of-store-then-has_ended c).After-edge-edge)
-    (leaves (goal.at.shape_of-store-then-has_ended c).After-edge-edge c.if-edge-l.true)
-    c.along-origin.ensures c.follow-t.ensures pre.0.long
-    ∙ sym (going_length _ a pre.0)
 
 pub returns-then-has_ended : goal.returns-then-has_ended
 returns-then-has_ended c =
@@ -107,13 +82,6 @@ loop-i-preserved c =
                 (passes between (within here) (λ e. x.if-edge-l.false (ap (λ (k : Edge). k.from) c.edge-edge.ensures ∙ e)))
           ],
     )
-
-pub shape_of-store : goal.shape_of-store
-shape_of-store c =
-    let a = c.args.self.automaton.now.accepted in
-    let pre = c.requires.going in
-    let between = c.loop-i.invariant.1 first_zone [] pre.0.base pre.0.state pre.0.live in
-    live-length _ a pre.0.long between.live.shown between.live.sound ∙ sym (going_length _ a pre.0)
 
 pub returns : goal.returns
 returns c =

@@ -5,15 +5,10 @@ use mathlib.Core.Path.{◌≡◌, ap}
 use lib.ListN.{length}
 use native.Mathlib.Omega.{arith}
 use Rattle.slots.specs.Slots.{slot_length}
-use Rattle.search.proofs.exploration.Judging.{enters, asks_encode, asks_find, asks_largest, slot_within, next_within}
+use Rattle.search.proofs.exploration.Judging.{enters, asks_find, asks_largest, slot_within, next_within}
 use Rattle.search.proofs.exploration.Judging.{asks_drop, gives_inside, gives_big, gives_full, gives_kept}
 use Rattle.search.proofs.exploration.Search.judge.Goals as goal
 use Rattle.search.proofs.exploration.Search.judge.Goals.{Then-count-self, In-Some}
-
-pub encode-numbers-requires : goal.encode-numbers-requires
-encode-numbers-requires c =
-    let q = asks_encode (enters c.args.self.automaton.now c.args.origin c.requires.there c.requires.going c.requires.sized) in
-    record { size_bound = q.0; all_bounded = q.1 }
 
 pub find-requires : goal.find-requires
 find-requires c =
