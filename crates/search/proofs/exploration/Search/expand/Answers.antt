@@ -38,34 +38,30 @@ pub follow-t-requires : goal.follow-t-requires
 follow-t-requires c =
     let a = c.args.self.automaton.now.accepted in
     let pre = c.requires.going in
+    let here = (goal.at.follow-t-requires c).After-edge-edge in
     record {
-      there = (within (goal.at.follow-t-requires c).After-edge-edge, c.edge-edge.ensures);
+      there = (within here, c.edge-edge.ensures);
       going = (
-        between_going (some (goal.at.follow-t-requires c).After-edge-edge) pre.0.long pre.0.few
+        between_going (some here) pre.0.long pre.0.few
             (omega (arith, pre.0.live.shown.again, pre.0.live.shown.inside, pre.0.dropped.few)) c.requires.parent_kept
-            (omega (arith, within (goal.at.follow-t-requires c).After-edge-edge, a.complete.edges≤)),
-        taken-sound (some (goal.at.follow-t-requires c).After-edge-edge) (within (goal.at.follow-t-requires c).After-edge-edge) a pre.1
-            (taken_is (goal.at.follow-t-requires c).After-edge-edge),
-        taken_fits (some (goal.at.follow-t-requires c).After-edge-edge) (within (goal.at.follow-t-requires c).After-edge-edge) a pre.1
-            (taken_is (goal.at.follow-t-requires c).After-edge-edge),
+            (omega (arith, within here, a.complete.edges≤)),
+        taken-sound (some here) (within here) a pre.1 (taken_is here),
+        taken_fits (some here) (within here) a pre.1 (taken_is here),
       );
     }
 
 pub returns-then-has_ended : goal.returns-then-has_ended
 returns-then-has_ended c =
     let a = c.args.self.automaton.now.accepted in
-    let pre = c.requires.going in
+    let here = (goal.at.returns-then-has_ended c).After-edge-edge in
     λ x p. record {
-      shows = λ s₀ q₀ h. stops (c.loop-i.invariant.1 x p s₀ q₀ h) (within (goal.at.returns-then-has_ended c).After-edge-edge) a pre.1
-          (taken_is (goal.at.returns-then-has_ended c).After-edge-edge)
-          (leaves (goal.at.returns-then-has_ended c).After-edge-edge c.if-edge-l.true) c.along-origin.ensures c.follow-t.ensures
-          (sym c.has_ended.ensures ∙ c.if-has_ended.true);
+      shows = λ s₀ q₀ h. stops (c.loop-i.invariant.1 x p s₀ q₀ h) (within here) a c.requires.going.1 (taken_is here)
+          (leaves here c.if-edge-l.true) c.along-origin.ensures c.follow-t.ensures (sym c.has_ended.ensures ∙ c.if-has_ended.true);
     }
 
 pub loop-i-preserved : goal.loop-i-preserved
 loop-i-preserved c =
-    let a = c.args.self.automaton.now.accepted in
-    let pre = c.requires.going in (
+    let a = c.args.self.automaton.now.accepted in (
       elim c.if-edge-l.branch [
         | then-edge-l+else-has_ended x ↦ ap (λ (v : Work). v.zone) x.w-is ∙ c.loop-i.invariant.0
         | else-edge-l x ↦ ap (λ (v : Work). v.zone) x.w-is ∙ c.loop-i.invariant.0
@@ -75,7 +71,7 @@ loop-i-preserved c =
           let here = (goal.at.loop-i-preserved c).After-edge-edge in
           elim c.if-edge-l.branch [
             | then-edge-l+else-has_ended x ↦
-                rw (x.store-is, x.t-is) (goes_on between (within here) a pre.1 (taken_is here) (leaves here x.if-edge-l.true)
+                rw (x.store-is, x.t-is) (goes_on between (within here) a c.requires.going.1 (taken_is here) (leaves here x.if-edge-l.true)
                 x.along-origin.ensures x.follow-t.ensures (sym x.has_ended.ensures ∙ x.if-has_ended.false))
             | else-edge-l x ↦
                 rw (x.store-is, x.t-is)

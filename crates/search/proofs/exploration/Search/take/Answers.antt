@@ -10,16 +10,12 @@ use Rattle.automata.specs.Automata.{clocks}
 use Rattle.search.specs.Exploring.{Live}
 use Rattle.search.specs.Instance.{ZoneState}
 use Rattle.slots.specs.Slots.{slot_length}
-use Rattle.automata.proofs.fields.Counting.{few_clocks}
 use Rattle.search.proofs.exploration.Judging.{live-length, going_length}
 use Rattle.search.proofs.exploration.Taking.{read_location, reads_location, Onward, Turned, ends, onward, few, slot_inside, location}
 use Rattle.search.proofs.exploration.Taking.{asks_decode, sound_zone, turned}
 use borrow.Author.Rules.{rules}
 use Rattle.search.proofs.exploration.Search.take.Goals as goal
-use Rattle.search.proofs.exploration.Search.take.Goals.{Start, After-expand-t, At-loop-next, In-loop-next}
-
-few_of : (c : Start) → c.args.self.automaton.now.clocks ≤ 8
-few_of c = few_clocks c.args.self.automaton.now.counted c.args.self.automaton.now.accepted
+use Rattle.search.proofs.exploration.Search.take.Goals.{After-expand-t, At-loop-next, In-loop-next}
 
 -- ---- at the head of the loop
 module _ (c : At-loop-next) where
