@@ -69,7 +69,8 @@ struct Search<'a> {
 }
 
 impl<'a> Search<'a> {
-    // A zone that has entered l, not the target: it is dropped inside a kept one, refused, or kept.
+    // A zone that has entered l, not the target: it is dropped inside a kept one, refused, or kept. Its location and its origin stay apart:
+    // an edge tells the one and the loop over the edges the other, and `encode` takes both.
     fn judge(self, store: &mut [i32], turn: Turn, l: usize, origin: Origin, w: Work) -> Turn
         requires there { (l < locations self.automaton.now.bytes.now) × (l ≡ target self.automaton.now.bytes.now → ⊥) }
         requires going { Goes self most_offers store.old turn }
@@ -202,6 +203,7 @@ impl<'a> Search<'a> {
         // Zones are kept while others are taken, so the count is no end that a range could name.
         while next < t.count {
             let at = next * stride;
+            // A cast, since usize has no From<i32>.
             let l = store[at] as usize;
             let z = decode(&store[at..], size);
             t = self.expand(store, t, next, l, z);

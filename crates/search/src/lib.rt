@@ -27,6 +27,7 @@ fn found(verdict: Verdict, t: Turn) -> Findings
     Findings {
         answer: Answer {
             verdict,
+            // A cast, since u32 has no From<usize>.
             zones: t.count as u32,
         },
         exact: t.exact.lowest_terms(),

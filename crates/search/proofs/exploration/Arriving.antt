@@ -59,17 +59,22 @@ module _ (b : List ℕ) (a : Accepted b) (i : ℕ) (hi : i < edges b) (w : Work)
 
       -- with the edge as it was fetched
       module _ {edge : Edge} (f : edge ≡ edge_of b i) where
-        pub edge_to : edge.to ≡ to b i
+        edge_to : edge.to ≡ to b i
         edge_to = ap (λ (x : Edge). x.to) f
 
         pub arrives_at : edge.to < locations b
         arrives_at = subst (λ (l : ℕ). l < locations b) (sym edge_to) (a.to< i hi)
 
-        pub follows : arrival_of b edge.to (set_of edge.resets) r.work ≡ successor_of b i w
+        follows : arrival_of b edge.to (set_of edge.resets) r.work ≡ successor_of b i w
         follows =
             let R = resets_are b a i hi (ap (λ (x : Edge). x.resets) f) in
             (λ k. arrival_of b (edge_to k) (R k) r.work)
             ∙ followed (clocks b) a.complete.clocks≤ w refl (guard_of b i) (resets_of b i) (invariant_of b (to b i)) e live
+
+        pub follows_offer : (capacity : ℕ) (s : List ℤ) (turn : Turn) (s' : List ℤ) (t : Turn) {o : Origin} →
+            Offers b capacity s turn edge.to o (arrival_of b edge.to (set_of edge.resets) r.work) s' t →
+            Offers b capacity s turn (to b i) o (successor_of b i w) s' t
+        follows_offer capacity s turn s' t = gives_of b capacity s turn s' t edge_to follows
 
         pub arrives_sound : SoundResult b (arrival_of b edge.to (set_of edge.resets) r.work)
         arrives_sound = subst (SoundResult b) (sym follows) (follow_sound b a i hi w.zone w.fraction z.ranged z.framed fits)

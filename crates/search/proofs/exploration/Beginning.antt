@@ -1,22 +1,27 @@
 -- The search from its first zone on: what the code's whole search shows.
 -- Assumes nothing.
-use Prim.Native.Nat.{ℕ, suc, ◌*◌, ◌≤◌}
+use Prim.Native.Nat.{ℕ, suc, ◌+◌, ◌*◌, ◌≤◌}
 use mathlib.Core.Path.{◌≡◌, refl, sym, ap, ◌∙◌}
 use mathlib.Core.Bool.{true, false}
 use mathlib.Core.List.{List, []}
 use lib.IntN.{ℤ}
-use lib.ListN.{length}
+use lib.ListN.{length, replicate}
 use native.Mathlib.Omega.{arith}
 use Rattle.zones.specs.declared.reduction.Reduced.{Reduced}
 use Rattle.zones.specs.Fractions.{no_limit}
 use Rattle.zones.specs.Successors.{enter_of}
-use Rattle.zones.specs.Zones.{first_work}
+use Rattle.zones.specs.Zones.{first_work, set_of}
+use Rattle.zones.specs.declared.zone.Work.{Work}
+use Rattle.zones.proofs.places.Places.{reset_none}
+use Rattle.automata.specs.declared.opened.Automaton.{Automaton}
+use Rattle.automata.proofs.fields.Counting.{size≡}
+use Rattle.automata.proofs.fields.Resets.{none_reset}
 use Rattle.search.specs.declared.outcome.Outcome.TheVariants.{Going}
 use Rattle.search.specs.declared.outcome.Turn.{Turn}
 use Rattle.search.specs.Outcomes.{outcome_of, has_ended, most_offers}
 use Rattle.automata.specs.Accepted.{Accepted}
 use Rattle.automata.specs.Automata.{clocks, start, invariant_of}
-use Rattle.search.specs.Exploring.{Shown, Live, Offers, Continues}
+use Rattle.search.specs.Exploring.{Shown, Live, Offers, Continues, arrival_of}
 use Rattle.search.specs.Exploring as exploring
 use Rattle.search.specs.Instance.{ZoneState, fractions_of, zones_of, result_of, entering, search_of}
 use Rattle.reachability.specs.Search.{first_zone, first_node, nothing, begin, take_from, search}
@@ -38,6 +43,16 @@ pub record Begun (b : List ℕ) (capacity : ℕ) (s s' : List ℤ) (t' : Turn) :
   pub rest : has_ended (outcome_of t'.outcome) ≡ false → {s'' : List ℤ} {t'' : Turn} →
       Continues b capacity s' t' (take_from (system_of b) (zones_of b) capacity capacity 0) s'' t'' →
       Shown (suc (clocks b)) s (state_of b (length s)) s'' t''
+
+-- how many slots there are, and what arrives first, as the code has them
+pub capacity≡ : (A : Automaton) (n : ℕ) {k : ℕ} → k ≡ capacity_of (A.clocks + 1) n → k ≡ capacity_of (suc (clocks A.bytes.now)) n
+capacity≡ A n e = e ∙ ap (λ (size : ℕ). capacity_of size n) (size≡ A.counted)
+
+pub arrives_first : (b : List ℕ) {l : ℕ} {w : Work} → l ≡ start b → w ≡ first_work →
+    arrival_of b l (set_of (replicate 9 false)) w ≡ enter_of (clocks b) (invariant_of b (start b)) first_work
+arrives_first b {w = w} e f =
+    let none = reset_none (suc (clocks b)) (set_of (replicate 9 false)) none_reset w ∙ f in
+    λ i. enter_of (clocks b) (invariant_of b (e i)) (none i)
 
 module _ {b : List ℕ} (a : Accepted b) (s : List ℤ) {capacity : ℕ} (es : capacity ≡ capacity_of (suc (clocks b)) (length s)) where
   abbrev blank : ZoneState

@@ -25,7 +25,6 @@ use Rattle.search.specs.Store.{origin_of, most_slots}
 use Rattle.reachability.proofs.Accounts.{offer_drops}
 use Rattle.reachability.proofs.Judged.{followed, follow_on}
 use Rattle.reachability.proofs.Later.{expand_later}
-use Rattle.search.proofs.exploration.Judging.{live-length}
 use Rattle.search.proofs.exploration.Ending.{still, stays}
 use Rattle.search.proofs.exploration.Sounding.{follow_sound, offer_sound}
 
@@ -139,9 +138,6 @@ module _ {b : List ℕ} {capacity j l : ℕ} {z : List Pair} {c : Came} {p : Lis
             sym (one-edge b capacity j l z c p i _ hi
             (follow_on (system_of b) (zones_of b) capacity j (node_at l c p z) i w.state w.live.goes at))
             ∙ w.rest
-
-        pub offered_length : capacity * slot_length (suc (clocks b)) ≤ length s₀ → length s' ≡ length s₀
-        offered_length h = live-length b a h shown sound
 
         pub goes_on : has_ended (outcome_of t'.outcome) ≡ false → Between b capacity j l z c p s₀ q₀ (i + 1) s' t'
         goes_on f = record {

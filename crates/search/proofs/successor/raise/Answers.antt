@@ -13,9 +13,6 @@ pub loop-x-init : goal.loop-x-init
 unfolding raise_limits
 loop-x-init c = (refl, refl)
 
-pub limits-requires : goal.limits-requires
-limits-requires c = (omega arith, omega arith)
-
 pub loop-x-preserved : goal.loop-x-preserved
 unfolding limits_at
 loop-x-preserved c =

@@ -1,7 +1,7 @@
 -- `expand` meets its contract: what is done is the definition's expansion along the edges passed, or it has stopped at one.
 -- Assumes nothing.
 use Prim.Native.Nat.{◌<◌}
-use mathlib.Core.Path.{◌≡◌, refl, sym, ap, ◌∙◌}
+use mathlib.Core.Path.{◌≡◌, sym, ap, ◌∙◌}
 use mathlib.Core.List.{[]}
 use native.Mathlib.Omega.{arith}
 use Rattle.zones.specs.declared.zone.Work.{Work}
@@ -9,18 +9,10 @@ use Rattle.automata.specs.Automata.{edges, from}
 use Rattle.automata.specs.declared.fields.Edge.{Edge}
 use Rattle.reachability.specs.Search.{first_zone}
 use Rattle.search.specs.Instance.{work_of}
-use Rattle.search.proofs.exploration.Expanding.{Between, begins, passes, taken_fits, taken-sound, goes_on, offered_length, stops}
+use Rattle.search.proofs.exploration.Expanding.{Between, passes, taken_fits, taken-sound, goes_on, stops}
 use Rattle.search.proofs.exploration.Expanding.{between_going, ends}
-use Rattle.search.proofs.exploration.Judging.{live-length, going_length}
 use Rattle.search.proofs.exploration.Search.expand.Goals as goal
 use Rattle.search.proofs.exploration.Search.expand.Goals.{After-edge-edge, then-edge-l+else-has_ended, else-edge-l}
-
-pub loop-i-init : goal.loop-i-init
-loop-i-init c =
-    (refl, λ x p s₀ q₀ h. begins _ _ _ _ _ _ _ h)
-
-pub edge-edge-requires : goal.edge-edge-requires
-edge-edge-requires c = omega arith
 
 -- ---- with the edge fetched
 module _ (c : After-edge-edge) where
@@ -42,55 +34,34 @@ module _ (c : After-edge-edge) where
       c.requires.going.0.base c.requires.going.0.state c.loop-i.i c.loop-i.store c.loop-i.t
   some = c.loop-i.invariant.1 first_zone [] c.requires.going.0.base c.requires.going.0.state c.requires.going.0.live
 
-pub along-origin-requires : goal.along-origin-requires
-along-origin-requires c = (
-  omega (arith, c.requires.parent_kept),
-  omega (arith, within (goal.at.along-origin-requires c).After-edge-edge, c.args.self.automaton.now.accepted.complete.edges≤),
-)
-
 pub follow-t-requires : goal.follow-t-requires
 follow-t-requires c =
     let a = c.args.self.automaton.now.accepted in
     let pre = c.requires.going in
+    let here = (goal.at.follow-t-requires c).After-edge-edge in
     record {
-      there = (within (goal.at.follow-t-requires c).After-edge-edge, c.edge-edge.ensures);
+      there = (within here, c.edge-edge.ensures);
       going = (
-        between_going (some (goal.at.follow-t-requires c).After-edge-edge) pre.0.long pre.0.few
+        between_going (some here) pre.0.long pre.0.few
             (omega (arith, pre.0.live.shown.again, pre.0.live.shown.inside, pre.0.dropped.few)) c.requires.parent_kept
-            (omega (arith, within (goal.at.follow-t-requires c).After-edge-edge, a.complete.edges≤)),
-        taken-sound (some (goal.at.follow-t-requires c).After-edge-edge) (within (goal.at.follow-t-requires c).After-edge-edge) a pre.1
-            (taken_is (goal.at.follow-t-requires c).After-edge-edge),
-        taken_fits (some (goal.at.follow-t-requires c).After-edge-edge) (within (goal.at.follow-t-requires c).After-edge-edge) a pre.1
-            (taken_is (goal.at.follow-t-requires c).After-edge-edge),
+            (omega (arith, within here, a.complete.edges≤)),
+        taken-sound (some here) (within here) a pre.1 (taken_is here),
+        taken_fits (some here) (within here) a pre.1 (taken_is here),
       );
     }
-
-pub shape_of-store-then-has_ended : goal.shape_of-store-then-has_ended
-shape_of-store-then-has_ended c =
-    let a = c.args.self.automaton.now.accepted in
-    let pre = c.requires.going in
-    offered_length (some (goal.at.shape_of-store-then-has_ended c).After-edge-edge)
-    (within (goal.at.shape_of-store-then-has_ended c).After-edge-edge) a pre.1
-    (taken_is (goal.at.shape_of-store-then-has_ended c).After-edge-edge)
-    (leaves (goal.at.shape_of-store-then-has_ended c).After-edge-edge c.if-edge-l.true)
-    c.along-origin.ensures c.follow-t.ensures pre.0.long
-    ∙ sym (going_length _ a pre.0)
 
 pub returns-then-has_ended : goal.returns-then-has_ended
 returns-then-has_ended c =
     let a = c.args.self.automaton.now.accepted in
-    let pre = c.requires.going in
+    let here = (goal.at.returns-then-has_ended c).After-edge-edge in
     λ x p. record {
-      shows = λ s₀ q₀ h. stops (c.loop-i.invariant.1 x p s₀ q₀ h) (within (goal.at.returns-then-has_ended c).After-edge-edge) a pre.1
-          (taken_is (goal.at.returns-then-has_ended c).After-edge-edge)
-          (leaves (goal.at.returns-then-has_ended c).After-edge-edge c.if-edge-l.true) c.along-origin.ensures c.follow-t.ensures
-          (sym c.has_ended.ensures ∙ c.if-has_ended.true);
+      shows = λ s₀ q₀ h. stops (c.loop-i.invariant.1 x p s₀ q₀ h) (within here) a c.requires.going.1 (taken_is here)
+          (leaves here c.if-edge-l.true) c.along-origin.ensures c.follow-t.ensures (sym c.has_ended.ensures ∙ c.if-has_ended.true);
     }
 
 pub loop-i-preserved : goal.loop-i-preserved
 loop-i-preserved c =
-    let a = c.args.self.automaton.now.accepted in
-    let pre = c.requires.going in (
+    let a = c.args.self.automaton.now.accepted in (
       elim c.if-edge-l.branch [
         | then-edge-l+else-has_ended x ↦ ap (λ (v : Work). v.zone) x.w-is ∙ c.loop-i.invariant.0
         | else-edge-l x ↦ ap (λ (v : Work). v.zone) x.w-is ∙ c.loop-i.invariant.0
@@ -100,20 +71,13 @@ loop-i-preserved c =
           let here = (goal.at.loop-i-preserved c).After-edge-edge in
           elim c.if-edge-l.branch [
             | then-edge-l+else-has_ended x ↦
-                rw (x.store-is, x.t-is) (goes_on between (within here) a pre.1 (taken_is here) (leaves here x.if-edge-l.true)
+                rw (x.store-is, x.t-is) (goes_on between (within here) a c.requires.going.1 (taken_is here) (leaves here x.if-edge-l.true)
                 x.along-origin.ensures x.follow-t.ensures (sym x.has_ended.ensures ∙ x.if-has_ended.false))
             | else-edge-l x ↦
                 rw (x.store-is, x.t-is)
                 (passes between (within here) (λ e. x.if-edge-l.false (ap (λ (k : Edge). k.from) c.edge-edge.ensures ∙ e)))
           ],
     )
-
-pub shape_of-store : goal.shape_of-store
-shape_of-store c =
-    let a = c.args.self.automaton.now.accepted in
-    let pre = c.requires.going in
-    let between = c.loop-i.invariant.1 first_zone [] pre.0.base pre.0.state pre.0.live in
-    live-length _ a pre.0.long between.live.shown between.live.sound ∙ sym (going_length _ a pre.0)
 
 pub returns : goal.returns
 returns c =

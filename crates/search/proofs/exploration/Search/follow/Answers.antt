@@ -6,8 +6,7 @@ use native.Mathlib.Omega.{arith}
 use Rattle.zones.specs.Successors.{meet_of}
 use Rattle.runs.proofs.Contradictions.{true_false}
 use Rattle.automata.specs.Automata.{clocks, guard_of}
-use Rattle.search.proofs.exploration.Arriving.{gives_of, taken_sized, emptied_fits, follows_none, arrives, edge_to, follows}
-use Rattle.search.proofs.exploration.Arriving.{arrives_sound, arrives_at}
+use Rattle.search.proofs.exploration.Arriving.{taken_sized, emptied_fits, follows_none, arrives, arrives_at, arrives_sound, follows_offer}
 use Rattle.search.proofs.exploration.Judging.{lowers, going_safe}
 use Rattle.search.proofs.successor.Stepping.{meets, asks_limits, guard_scale}
 use Rattle.search.proofs.exploration.Search.follow.Goals as goal
@@ -31,39 +30,36 @@ module _ (c : After-narrow-met) where
   met = meets c.guard.ensures _ c.narrow-met.ensures
 
 pub emptied-requires : goal.emptied-requires
-emptied-requires c = (
-  going_safe _ c.args.self.automaton.now.accepted c.requires.going.0,
-  rw c.in-Some.is at (emptied_fits _ c.args.self.automaton.now.accepted _ c.requires.there.0 _ c.requires.going.1 c.requires.going.2
-      (met (goal.at.emptied-requires c).After-narrow-met)),
-)
+emptied-requires c =
+    let a = c.args.self.automaton.now.accepted in
+    let taken = c.requires.going in (
+      going_safe _ a taken.0,
+      rw c.in-Some.is at (emptied_fits _ a _ c.requires.there.0 _ taken.1 taken.2 (met (goal.at.emptied-requires c).After-narrow-met)),
+    )
 
 pub returns-in-Some : goal.returns-in-Some
 returns-in-Some c =
-    follows_none _ c.args.self.automaton.now.accepted _ c.requires.there.0 _ c.requires.going.1 c.requires.going.2
+    let taken = c.requires.going in
+    follows_none _ c.args.self.automaton.now.accepted _ c.requires.there.0 _ taken.1 taken.2
     (met (goal.at.returns-in-Some c).After-narrow-met) (ap is_some c.in-Some.is) _ _ _ _
     (c.emptied.ensures ∙ lowers c.args.turn c.narrow-met.result.work.fraction c.in-Some.is)
 
 pub arrive-requires : goal.arrive-requires
 arrive-requires c =
     let a = c.args.self.automaton.now.accepted in
-    let hi = c.requires.there.0 in
+    let taken = c.requires.going in
+    let edge = c.requires.there in
+    let left = met (goal.at.arrive-requires c).After-narrow-met in
     let live = ap is_some c.in_default.is in
     record {
-      there = (
-        arrives_at _ a _ hi _ c.requires.going.1 c.requires.going.2 (met (goal.at.arrive-requires c).After-narrow-met) live
-            c.requires.there.1,
-        c.requires.going.0,
-      );
-      sized = arrives _ a _ hi _ c.requires.going.1 c.requires.going.2 (met (goal.at.arrive-requires c).After-narrow-met) live;
-      sound_result = arrives_sound _ a _ hi _ c.requires.going.1 c.requires.going.2 (met (goal.at.arrive-requires c).After-narrow-met) live
-          c.requires.there.1;
+      there = (arrives_at _ a _ edge.0 _ taken.1 taken.2 left live edge.1, taken.0);
+      sized = arrives _ a _ edge.0 _ taken.1 taken.2 left live;
+      sound_result = arrives_sound _ a _ edge.0 _ taken.1 taken.2 left live edge.1;
     }
 
 pub returns : goal.returns
 returns c =
-    let a = c.args.self.automaton.now.accepted in
-    let hi = c.requires.there.0 in
-    let live = ap is_some c.in_default.is in
-    gives_of _ _ _ _ _ _ (edge_to _ a _ hi _ c.requires.going.1 c.requires.going.2 (met (goal.at.returns c).After-narrow-met) live
-    c.requires.there.1)
-    (follows _ a _ hi _ c.requires.going.1 c.requires.going.2 (met (goal.at.returns c).After-narrow-met) live c.requires.there.1) c.arrive.ensures
+    let taken = c.requires.going in
+    let edge = c.requires.there in
+    follows_offer _ c.args.self.automaton.now.accepted _ edge.0 _ taken.1 taken.2 (met (goal.at.returns c).After-narrow-met)
+    (ap is_some c.in_default.is) edge.1 _ _ _ _ _ c.arrive.ensures

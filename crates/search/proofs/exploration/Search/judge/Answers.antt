@@ -1,85 +1,61 @@
 -- A zone that has entered a location: each of the four ways out gives what the definition's offer comes to.
 -- Assumes nothing.
-use Prim.Native.Nat.{◌+◌, ◌*◌, ◌≤◌}
-use lib.ListN.{length}
+use Prim.Native.Nat.{◌+◌}
 use native.Mathlib.Omega.{arith}
 use Rattle.encoding.specs.Placing.{placed}
-use Rattle.slots.specs.Slots.{slot_length}
-use Rattle.search.proofs.exploration.Judging.{enters, asks_encode, asks_find, asks_largest, new_length, slot_within, next_within}
+use Rattle.search.proofs.exploration.Judging.{Entered, enters, asks_find, asks_largest, new_length, slot_within, next_within}
 use Rattle.search.proofs.exploration.Judging.{asks_drop, gives_inside, gives_big, gives_full, gives_kept}
 use Rattle.search.proofs.exploration.Search.judge.Goals as goal
-use Rattle.search.proofs.exploration.Search.judge.Goals.{Then-count-self, In-Some}
+use Rattle.search.proofs.exploration.Search.judge.Goals.{Start}
 
-pub encode-numbers-requires : goal.encode-numbers-requires
-encode-numbers-requires c =
-    let q = asks_encode (enters c.args.self.automaton.now c.args.origin c.requires.there c.requires.going c.requires.sized) in
-    record { size_bound = q.0; all_bounded = q.1 }
+entered : (c : Start) → Entered c.args.self.automaton.now.bytes.now c.args.l c.args.origin c.args.w c.args.self.capacity c.args.turn
+    c.args.store.now (c.args.self.automaton.now.clocks + 1)
+entered c = enters c.args.self.automaton.now c.args.origin c.requires.there c.requires.going c.requires.sized
 
 pub find-requires : goal.find-requires
-find-requires c =
-    asks_find (enters c.args.self.automaton.now c.args.origin c.requires.there c.requires.going c.requires.sized) c.encode-numbers.ensures c.slot_length-stride.ensures
+find-requires c = asks_find (entered (goal.at.find-requires c).Start) c.encode-numbers.ensures c.slot_length-stride.ensures
 
 -- ---- a kept slot contains it
-module _ (c : In-Some) where
-  slot_inside : c.in-Some.j * c.slot_length-stride.result + slot_length (c.args.self.automaton.now.clocks + 1) ≤ length c.args.store.now
-  slot_inside =
-      slot_within (enters c.args.self.automaton.now c.args.origin c.requires.there c.requires.going c.requires.sized)
-      c.slot_length-stride.ensures c.in-Some.ensures.0
-
 pub slice_bounds-drop_inside-end : goal.slice_bounds-drop_inside-end
-slice_bounds-drop_inside-end c = omega (arith, c.slot_length-stride.ensures, slot_inside (goal.at.slice_bounds-drop_inside-end c).In-Some)
+slice_bounds-drop_inside-end c =
+    let e = c.slot_length-stride.ensures in
+    omega (arith, e, slot_within (entered (goal.at.slice_bounds-drop_inside-end c).Start) e c.in-Some.ensures.0)
 
 pub drop_inside-requires : goal.drop_inside-requires
 drop_inside-requires c =
-    asks_drop
-    (enters c.args.self.automaton.now c.args.origin c.requires.there c.requires.going c.requires.sized)
-    c.encode-numbers.ensures c.slot_length-stride.ensures c.in-Some.ensures.1 c.in-Some.ensures.0
+    let places = goal.at.drop_inside-requires c in
+    asks_drop (entered places.Start) c.encode-numbers.ensures c.slot_length-stride.ensures c.in-Some.ensures.1 c.in-Some.ensures.0
 
 pub returns-in-Some : goal.returns-in-Some
 returns-in-Some c =
-    gives_inside
-    (enters c.args.self.automaton.now c.args.origin c.requires.there c.requires.going c.requires.sized)
-    c.encode-numbers.ensures c.slot_length-stride.ensures c.in-Some.ensures.1 c.in-Some.ensures.0
+    let places = goal.at.returns-in-Some c in
+    gives_inside (entered places.Start) c.encode-numbers.ensures c.slot_length-stride.ensures c.in-Some.ensures.1 c.in-Some.ensures.0
     c.drop_inside.ensures
 
 -- ---- none does
 pub largest_count-requires : goal.largest_count-requires
-largest_count-requires c =
-    asks_largest (enters c.args.self.automaton.now c.args.origin c.requires.there c.requires.going c.requires.sized) c.encode-numbers.ensures c.slot_length-stride.ensures
+largest_count-requires c = asks_largest (entered (goal.at.largest_count-requires c).Start) c.encode-numbers.ensures c.slot_length-stride.ensures
 
 pub returns-then-largest_count-gt-COUNTS : goal.returns-then-largest_count-gt-COUNTS
 returns-then-largest_count-gt-COUNTS c =
     rw c.refused.ensures
-    (gives_big
-    (enters c.args.self.automaton.now c.args.origin c.requires.there c.requires.going c.requires.sized)
-    c.encode-numbers.ensures c.slot_length-stride.ensures c.in_default.ensures (omega arith)
+    (gives_big (entered (goal.at.returns-then-largest_count-gt-COUNTS c).Start) c.encode-numbers.ensures c.slot_length-stride.ensures c.in_default.ensures (omega arith)
     c.largest_count.ensures c.if-largest_count-gt-COUNTS.true)
-
-next_inside : (c : Then-count-self) →
-    c.args.turn.count * c.slot_length-stride.result + slot_length (c.args.self.automaton.now.clocks + 1) ≤ length c.args.store.now
-next_inside c =
-    next_within (enters c.args.self.automaton.now c.args.origin c.requires.there c.requires.going c.requires.sized)
-    c.slot_length-stride.ensures c.if-count-self.true
 
 pub keep-requires : goal.keep-requires
 keep-requires c =
+    let here = entered (goal.at.keep-requires c).Start in
     let e = c.slot_length-stride.ensures in
-    let size = new_length (enters c.args.self.automaton.now c.args.origin c.requires.there c.requires.going c.requires.sized) c.encode-numbers.ensures e in
-    omega (arith, e, size, next_inside (goal.at.keep-requires c).Then-count-self)
+    omega (arith, e, new_length here c.encode-numbers.ensures e, next_within here e c.if-count-self.true)
 
 pub returns-then-count-self : goal.returns-then-count-self
 unfolding placed
 returns-then-count-self c =
-    gives_kept
-    (enters c.args.self.automaton.now c.args.origin c.requires.there c.requires.going c.requires.sized)
-    c.encode-numbers.ensures c.slot_length-stride.ensures c.in_default.ensures (omega arith)
-    c.largest_count.ensures c.if-largest_count-gt-COUNTS.false c.if-count-self.true
-    c.keep.ensures
+    gives_kept (entered (goal.at.returns-then-count-self c).Start) c.encode-numbers.ensures c.slot_length-stride.ensures c.in_default.ensures (omega arith)
+    c.largest_count.ensures c.if-largest_count-gt-COUNTS.false c.if-count-self.true c.keep.ensures
 
 pub returns : goal.returns
 returns c =
     rw c.refused-2.ensures
-    (gives_full
-    (enters c.args.self.automaton.now c.args.origin c.requires.there c.requires.going c.requires.sized)
-    c.encode-numbers.ensures c.slot_length-stride.ensures c.in_default.ensures (omega arith)
+    (gives_full (entered (goal.at.returns c).Start) c.encode-numbers.ensures c.slot_length-stride.ensures c.in_default.ensures (omega arith)
     c.largest_count.ensures c.if-largest_count-gt-COUNTS.false c.if-count-self.false)

@@ -10,21 +10,12 @@ use Rattle.automata.specs.Automata.{clocks}
 use Rattle.search.specs.Exploring.{Live}
 use Rattle.search.specs.Instance.{ZoneState}
 use Rattle.slots.specs.Slots.{slot_length}
-use Rattle.automata.proofs.fields.Counting.{size≡, few_clocks}
 use Rattle.search.proofs.exploration.Judging.{live-length, going_length}
-use Rattle.search.proofs.exploration.Taking.{read_location, reads_location, Onward, Turned, begins, ends, onward, few, slot_inside, location}
+use Rattle.search.proofs.exploration.Taking.{read_location, reads_location, Onward, Turned, ends, onward, few, slot_inside, location}
 use Rattle.search.proofs.exploration.Taking.{asks_decode, sound_zone, turned}
 use borrow.Author.Rules.{rules}
 use Rattle.search.proofs.exploration.Search.take.Goals as goal
-use Rattle.search.proofs.exploration.Search.take.Goals.{Start, After-expand-t, At-loop-next, In-loop-next}
-
-few_of : (c : Start) → c.args.self.automaton.now.clocks ≤ 8
-few_of c = few_clocks c.args.self.automaton.now.counted c.args.self.automaton.now.accepted
-
-pub loop-next-init : goal.loop-next-init
-loop-next-init c =
-    let size = size≡ c.args.self.automaton.now.counted in
-    (size, c.slot_length-stride.ensures ∙ ap slot_length size, λ s₀ q₀ h. begins _ _ h)
+use Rattle.search.proofs.exploration.Search.take.Goals.{After-expand-t, At-loop-next, In-loop-next}
 
 -- ---- at the head of the loop
 module _ (c : At-loop-next) where
@@ -103,9 +94,6 @@ returns-then-has_ended c =
           (sym c.has_ended.ensures ∙ c.if-has_ended.true);
     }
 
-pub loop-next-smaller : goal.loop-next-smaller
-loop-next-smaller c = omega (arith, below (goal.at.loop-next-smaller c).In-loop-next)
-
 pub loop-next-preserved : goal.loop-next-preserved
 loop-next-preserved c =
     let inv = c.loop-next.invariant in (
@@ -120,12 +108,6 @@ shape_of-store c = now (goal.at.shape_of-store c).At-loop-next
 
 pub returns : goal.returns
 returns c = record { shows = λ s₀ q₀ h. ends _ _ (c.loop-next.invariant.2 s₀ q₀ h) c.loop-next-test.false }
-
-pub overflow_add-size : goal.overflow_add-size
-overflow_add-size c = omega (arith, few_of (goal.at.overflow_add-size c).Start)
-
-pub slot_length-stride-requires : goal.slot_length-stride-requires
-slot_length-stride-requires c = omega (arith, few_of (goal.at.slot_length-stride-requires c).Start)
 
 pub overflow_cast-l : goal.overflow_cast-l
 overflow_cast-l c =
