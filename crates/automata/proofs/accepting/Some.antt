@@ -44,7 +44,8 @@ pub found : (f : ℕ → Bool) {k : ℕ} (i : ℕ) → i < k → f i ≡ true �
 found f {k} i h e = let g = fails f k in search (rules, tests)
 
 -- ---- what std's `any` over the numbers below n answers
-answers : (f : ℕ → Bool) (k : ℕ) {r : Bool} → MatchBool r ((i : ℕ) × (i < length (range_with_len 0 k)) × HoldsAt (λ x. true ≡ f x) (range_with_len 0 k) i)
+answers : (f : ℕ → Bool) (k : ℕ) {r : Bool}
+    → MatchBool r ((i : ℕ) × (i < length (range_with_len 0 k)) × HoldsAt (λ x. true ≡ f x) (range_with_len 0 k) i)
     (AllWithin (λ x. false ≡ f x) (range_with_len 0 k) 0 (length (range_with_len 0 k))) → r ≡ some k f
 answers f k {r = true} h =
     let i : h.0 < k = omega (arith, h.1, length-range_with_len 0 k) in
