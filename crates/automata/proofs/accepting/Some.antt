@@ -9,6 +9,7 @@ use mathlib.Core.List.{List}
 use native.Mathlib.Decide.{ℕ_discrete}
 use native.Mathlib.Nat.{not-suc-le-zero, zero-add}
 use native.Mathlib.Omega.{arith}
+use Rattle.std.proofs.Common.{rules, tests}
 use Rattle.std.specs.Bool.{MatchBool}
 use Rattle.std.specs.Fn.{Called}
 use Rattle.std.specs.Iterator.{YieldsThen}
@@ -40,14 +41,11 @@ none f (suc k) h = rw (h k (omega arith)) (none f k (λ i g. h i (omega arith)))
 
 -- one that passes is enough
 pub found : (f : ℕ → Bool) {k : ℕ} (i : ℕ) → i < k → f i ≡ true → some k f ≡ true
-found f {k = k} i h e = go (some k f) refl
-  where
-    go : (t : Bool) → some k f ≡ t → some k f ≡ true
-    go true g = g
-    go false g = true_false (sym e ∙ fails f k g i h)
+found f {k} i h e = let g = fails f k in search (rules, tests)
 
 -- ---- what std's `any` over the numbers below n answers
-answers : (f : ℕ → Bool) (k : ℕ) {r : Bool} → MatchBool r ((i : ℕ) × (i < length (range_with_len 0 k)) × HoldsAt (λ x. true ≡ f x) (range_with_len 0 k) i)
+answers : (f : ℕ → Bool) (k : ℕ) {r : Bool}
+    → MatchBool r ((i : ℕ) × (i < length (range_with_len 0 k)) × HoldsAt (λ x. true ≡ f x) (range_with_len 0 k) i)
     (AllWithin (λ x. false ≡ f x) (range_with_len 0 k) 0 (length (range_with_len 0 k))) → r ≡ some k f
 answers f k {r = true} h =
     let i : h.0 < k = omega (arith, h.1, length-range_with_len 0 k) in

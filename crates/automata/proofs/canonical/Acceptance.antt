@@ -1,16 +1,14 @@
 -- The form of an accepted automaton is accepted: each of its edges is one of the automaton's.
 -- Assumes nothing.
-use Prim.Native.Nat.{ℕ, ◌+◌, ◌*◌, ◌^◌, ◌<◌, ◌≤◌}
-use mathlib.Core.Bool.{false}
+use Prim.Native.Nat.{ℕ, ◌+◌, ◌*◌, ◌<◌, ◌≤◌}
 use mathlib.Core.List.{List, [], append-nil}
-use mathlib.Core.Path.{◌≡◌, refl, sym, ap, ◌∙◌, subst}
-use lib.Dec.{eqb}
+use mathlib.Core.Path.{◌≡◌, refl, sym, ap, ◌∙◌}
 use lib.ListN.{length}
 use native.Mathlib.Omega.{arith}
-use Rattle.runs.specs.Limits.{scale}
+use Rattle.std.proofs.Common.{rules, tests}
 use Rattle.automata.specs.Accepted.{Complete, Accepted}
-use Rattle.automata.specs.Automata.{length_field, version, clocks, locations, edges, reset_byte, invariant_in, invariant_at, edge_at, lo_at, hi_at}
-use Rattle.automata.specs.Automata.{no_upper, limits_at, invariant_of, guard_of}
+use Rattle.automata.specs.Automata.{length_field, version, clocks, locations, edges, invariant_in, invariant_at, edge_at, lo_at, hi_at}
+use Rattle.automata.specs.Automata.{limits_at, invariant_of, guard_of}
 use Rattle.automata.specs.Canonical.{canonical_of, to_drawn}
 use Rattle.automata.proofs.canonical.Alike.{Alike}
 use Rattle.automata.proofs.canonical.Reading.{lo_same, hi_same}
@@ -54,15 +52,12 @@ module _ (c b : List ℕ) (σ : ℕ → ℕ) (A : Alike c b σ) where
         target< = omega (arith, A.target≡, a.target<);
         from< = λ j h. omega (arith, from_same c b σ A j h, a.from< (σ j) (A.edge j h));
         to< = λ j h. omega (arith, to_same c b σ A j h, a.to< (σ j) (A.edge j h));
-        resets< = λ j h. subst (λ (k : ℕ). reset_byte c j < 2 ^ k) n
-            (subst (λ (r : ℕ). r < 2 ^ clocks b) (reset_same c b σ A j h) (a.resets< (σ j) (A.edge j h)));
+        resets< = λ j h. rw (reset_same c b σ A j h, n) at (a.resets< (σ j) (A.edge j h));
         invariant_lo = λ l x h g k. omega (arith, invariant_lo_same l x h g k, a.invariant_lo l x (omega arith) g (omega arith));
         invariant_hi = λ l x h g k. omega (arith, invariant_hi_same l x h g k, a.invariant_hi l x (omega arith) g (omega arith));
-        invariant_present = λ l x h g k.
-            subst (λ (y : ℕ). eqb y no_upper ≡ false) (invariant_hi_same l x h g k) (a.invariant_present l x (omega arith) g (omega arith));
+        invariant_present = λ l x h g k. rw (invariant_hi_same l x h g k) at (a.invariant_present l x (omega arith) g (omega arith));
         guard_lo = λ j x h g k. omega (arith, guard_lo_same j x h g k, a.guard_lo (σ j) x (A.edge j h) g (omega arith));
-        guard_hi = λ j x h g k.
-            subst (λ (y : ℕ). eqb y no_upper ≡ false → y ≤ scale) (guard_hi_same j x h g k) (a.guard_hi (σ j) x (A.edge j h) g (omega arith));
+        guard_hi = λ j x h g k. rw (guard_hi_same j x h g k) at (a.guard_hi (σ j) x (A.edge j h) g (omega arith));
       }
 
 -- ---- of the form
@@ -71,15 +66,11 @@ module _ (b : List ℕ) (w : Complete b) where
   form_complete =
       let n = clocks_same b w.head in
       let m = locations_same b w.head in
-      record {
-        head = omega (arith, form_length_lem b w);
-        size = form_length_lem b w ∙ sym (form_formula b w);
-        clocks≥ = omega (arith, w.clocks≥);
-        clocks≤ = omega (arith, w.clocks≤);
-        locations≥ = omega (arith, w.locations≥);
-        locations≤ = omega (arith, w.locations≤);
-        edges≤ = omega (arith, edges_form b w.head w.edges≤, fewer b, w.edges≤);
-      }
+      let e = edges_form b w.head w.edges≤ in
+      let l = form_length_lem b w in
+      let f = form_formula b w in
+      let k = fewer b in
+      search (rules, tests)
 
   pub own_length : length_field (canonical_of b) ≡ length (canonical_of b)
   own_length = ap length_field (sym (append-nil (canonical_of b))) ∙ form_field b w [] ∙ sym (form_length_lem b w)

@@ -4,9 +4,10 @@ use Prim.Native.Nat.{ℕ, ◌+◌, ◌*◌, ◌<◌, ◌≤◌}
 use mathlib.Core.List.{List, [], ◌∷◌, ◌++◌, append-nil}
 use mathlib.Core.Path.{◌≡◌, sym, ap, ◌∙◌}
 use lib.ListN.{length, get_or, take, drop, length-drop, length-append, get_or-append}
-use lib.Seq.{get_or-take, get_or-drop, drop-cons, drop-drop, drop_at, length-take-le}
+use lib.Seq.{get_or-take, get_or-drop, drop-drop, drop_at, length-take-le}
 use native.Mathlib.Nat.{mul-le-mul_right}
 use native.Mathlib.Omega.{arith}
+use Rattle.std.proofs.lemmas.Grind.{common_steps}
 use Rattle.encoding.specs.Numbers.{be16_at, be32_at, be16, be32}
 use Rattle.order.specs.Laid.{edges_from, joined}
 use Rattle.order.proofs.Sorted.{sorted-length, sorted_member}
@@ -31,12 +32,7 @@ rest b = take (invariants_size b) (drop 11 b) ++ joined (ordered b)
 module _ (b : List ℕ) (h : 11 ≤ length b) where
   -- the five bytes that stay
   pub kept : take 5 (drop 4 b) ≡ version b ∷ clocks b ∷ locations b ∷ start b ∷ target b ∷ []
-  kept =
-      ap (take 5) (drop-cons b 4 0 (omega arith)
-      ∙ ap (λ (l : List ℕ). version b ∷ l) (drop-cons b 5 0 (omega arith)
-      ∙ ap (λ (l : List ℕ). clocks b ∷ l) (drop-cons b 6 0 (omega arith)
-      ∙ ap (λ (l : List ℕ). locations b ∷ l) (drop-cons b 7 0 (omega arith)
-      ∙ ap (λ (l : List ℕ). start b ∷ l) (drop-cons b 8 0 (omega arith))))))
+  kept = grind (arith, common_steps)
 
   -- the form, byte by byte up to the invariants
   laid : canonical_of b
