@@ -17,7 +17,8 @@ encode-numbers-requires c =
 
 pub find-requires : goal.find-requires
 find-requires c =
-    asks_find (enters c.args.automaton.now c.args.origin c.requires.there c.requires.going c.requires.sized) c.encode-numbers.ensures c.slot_length-stride.ensures
+    asks_find (enters c.args.automaton.now c.args.origin c.requires.there c.requires.going c.requires.sized)
+    c.encode-numbers.ensures c.slot_length-stride.ensures
 
 -- ---- a kept slot contains it
 module _ (c : In-Some) where
@@ -45,7 +46,8 @@ returns-in-Some c =
 -- ---- none does
 pub largest_count-requires : goal.largest_count-requires
 largest_count-requires c =
-    asks_largest (enters c.args.automaton.now c.args.origin c.requires.there c.requires.going c.requires.sized) c.encode-numbers.ensures c.slot_length-stride.ensures
+    asks_largest (enters c.args.automaton.now c.args.origin c.requires.there c.requires.going c.requires.sized)
+    c.encode-numbers.ensures c.slot_length-stride.ensures
 
 pub returns-then-largest_count-gt-COUNTS : goal.returns-then-largest_count-gt-COUNTS
 returns-then-largest_count-gt-COUNTS c =
