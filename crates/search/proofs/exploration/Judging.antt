@@ -47,7 +47,8 @@ use Rattle.search.specs.Store.{origin_of, store_of}
 use Rattle.reachability.proofs.Judged.{Judged, was_target, was_inside, was_big, was_kept, was_full, computes}
 use Rattle.slots.proofs.slot.Codec.{head_size, slot_taken, slot_counts, slot_readable, slot_bounded, zone_of_slot, inside_slots_lem}
 use Rattle.slots.proofs.slot.Codec.{equal_slots_lem, largest_slot_lem, slot_size, pairs_counted}
-use Rattle.search.proofs.exploration.Stores.{slot_as, SlotAt, slot_at, store_length, store_more, hit_none, hit_first, slot_fits, lent_part, slot_lent, lent_slot, hit_inside}
+use Rattle.search.proofs.exploration.Stores.{slot_as, SlotAt, slot_at, store_length, store_more, hit_none, hit_first, slot_fits, lent_part}
+use Rattle.search.proofs.exploration.Stores.{slot_lent, lent_slot, hit_inside}
 
 -- the outcome that tells the origin is the definition's
 pub came_back : (c : Came) → came_of (origin_of c) ≡ c
