@@ -11,8 +11,8 @@ use Rattle.run_judge.specs.Moves.{arrived, first_move, wait_move, edge_move, jum
 use Rattle.run_judge.specs.Numbers.{capped, count_of}
 
 pub shown : Shown
-unfolding be16_at be32_at invariant_in edge_in in_byte firsts reset_set some out_of_range_at refusal_of
-    holds within_at waited reset_by arrived first_move wait_move edge_move jump_move capped count_of waits_from jumps_from begins passes_to judgement_of
+unfolding be16_at be32_at invariant_in edge_in in_byte firsts reset_set some out_of_range_at refusal_of holds
+    within_at waited reset_by arrived first_move wait_move edge_move jump_move capped count_of waits_from jumps_from begins passes_to judgement_of
 shown = record {
   there = refl;
   followed = refl;
