@@ -278,9 +278,6 @@ module _ {b : List ℕ} {l : ℕ} {o : Origin} {w : Work} {capacity : ℕ} {turn
   abbrev es : size ≡ suc (clocks b)
   es = entered.size≡
 
-  pub asks_encode : ((size ≤ 9) × (l < 256)) × AllBounded scale last_counts size w.zone
-  asks_encode = rw es ((n≤ b a, omega (arith, entered.location, a.complete.locations≤)), entered.sized.ranged.bounded)
-
   -- the slot of w, which is the first L numbers that encode gives
   module _ {numbers : List ℤ} (f : numbers ≡ slot_of size (head_of l o) w.zone ++ replicate (spare size) (pos 0))
       {L : ℕ} (e : L ≡ slot_length size) where
