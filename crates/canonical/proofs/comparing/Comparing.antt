@@ -89,6 +89,20 @@ module _ (s t : List ℕ) where
       joins s t k 2 2 65536 (small s v.back) (small t w.back) (two k (omega arith) (omega arith) v.front w.front)
       (two (k + 2) (omega arith) (omega arith) v.back w.back)
 
+  -- ---- by four bytes as one number
+  module _ (k : ℕ) (p : k + 4 ≤ length s) (q : k + 4 ≤ length t) {x y : ℕ} (e : (x ≡ be32_at s k) × Four s k) (f : (y ≡ be32_at t k) × Four t k) where
+    pub words : Decided s t k 4 x y
+    words = rw (e.0, f.0) (four k p q e.1 f.1)
+
+    pub words_less : x < y → true ≡ less_from s t k
+    words_less m = sym (lt-ltb x y m) ∙ decides s t k 4 words (λ same. omega (arith, same))
+
+    pub words_more : y < x → false ≡ less_from s t k
+    words_more m = sym (le-ltb x y (omega arith)) ∙ decides s t k 4 words (λ same. omega (arith, same))
+
+    pub words_same : x ≡ y → less_from s t (k + 4) ≡ less_from s t k
+    words_same = passes s t k 4 words
+
 -- a slice's type says that its elements are bytes
 four_bytes : (s : List ℕ) → ((i : ℕ) → Fits w8 (get_or s i 0)) → (at : ℕ) → Four s at
 four_bytes s h at =
@@ -99,7 +113,7 @@ four_bytes s h at =
 module _ (s t : List ℕ) (f : (j : ℕ) → Fits w8 (get_or s j 0)) (g : (j : ℕ) → Fits w8 (get_or t j 0)) (i : ℕ) (p : i < length s / 4)
     (q : i < length t / 4) {x y : ℕ} (d : x ≡ be32_at s (4 * i)) (e : y ≡ be32_at t (4 * i)) where
   word : Decided s t (4 * i) 4 x y
-  word = rw (d, e) (four s t (4 * i) (omega arith) (omega arith) (four_bytes s f _) (four_bytes t g _))
+  word = words s t (4 * i) (omega arith) (omega arith) (d, four_bytes s f _) (e, four_bytes t g _)
 
   pub word_decides : (x ≡ y → ⊥) → ltb x y ≡ less_from s t (4 * i)
   word_decides = decides s t (4 * i) 4 word

@@ -4,7 +4,7 @@ use Prim.Native.Nat.{ℕ, zero, suc, ◌+◌, ◌-◌, ◌*◌, ◌<◌}
 use mathlib.Core.Bool.{Bool, true, false}
 use mathlib.Core.List.{List, [], ◌∷◌, ◌++◌}
 use mathlib.Core.Path.{◌≡◌, refl, sym, ap, ◌∙◌}
-use native.Mathlib.Nat.{suc-mul}
+use native.Mathlib.Nat.{suc-mul, sub_self}
 use native.Mathlib.Numerals.{add-one}
 use native.Mathlib.Omega.{arith}
 use Rattle.order.specs.Edges.{Edge, insert_edge, sorted}
@@ -42,6 +42,12 @@ module _ (size : ℕ) (s : List ℕ) (n : ℕ) where
       (λ t. insert_edge (nth_edge size s (at t)) (sorted (edges_from size s (next t) i)))
       ∙ ap (λ (m : ℕ). sorted (edges_from size s ((n - (i + 1)) * size) m)) (sym (add-one i))
   taken_more false i h = sym (ap sorted (one_more size s i) ∙ sorted-snoc (first_edges size s i) (nth_edge size s i))
+
+  pub taken_all : (down : Bool) → taken size s down n n ≡ first_edges size s n
+  taken_all true =
+      let e : (n - n) * size ≡ 0 = omega (arith, ap (λ (m : ℕ). m * size) (sub_self n)) in
+      ap (λ (m : ℕ). edges_from size s m n) e
+  taken_all false = refl
 
 -- none is listed
 pub order_none : (size : ℕ) (s : List ℕ) (down : Bool) (n : ℕ) → ListsOf size s (taken size s down n 0) 0 []
