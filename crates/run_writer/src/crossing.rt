@@ -78,7 +78,7 @@ impl<'a> Jump<'a> {
         narrow(&self.automaton.guard(self.edge), w, false)
     }
 
-    // The zone on its way along the edge.
+    // The zone on its way along the edge. Arrays that are fields are named first: the check reads no literal that takes one from another value.
     fn cross(self) -> Crossing
         ensures { CrossedOver self.entry result }
     {
