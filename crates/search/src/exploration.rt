@@ -217,6 +217,7 @@ impl<'a> Search<'a> {
 }
 
 // How many slots a store has.
+#[tactic(auto, using(crate::proofs::exploration::Stores::capacity_is))]
 fn capacity_of(numbers: usize, size: usize) -> usize
     requires { size ≤ 9 }
     ensures { result ≡ capacity_of size numbers }

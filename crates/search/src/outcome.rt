@@ -25,6 +25,7 @@ pub struct Dropped {
 
 impl Dropped {
     // With one zone more.
+    #[tactic(auto, unfolding(crate::specs::Outcomes::dropped_with))]
     fn with(self, equal: bool) -> Dropped
         requires { Few most_offers self }
         ensures { result ≡ dropped_with self equal }
@@ -55,6 +56,7 @@ pub struct Turn {
 
 impl Turn {
     // Whether the search has stopped.
+    #[tactic(auto, unfolding(crate::specs::Outcomes::outcome_of, crate::specs::Outcomes::has_ended))]
     pub(crate) fn has_ended(self) -> bool
         ensures { result ≡ has_ended (outcome_of self.outcome) }
     {

@@ -50,6 +50,7 @@ const HOLDS: u8 = 1;
 impl From<Fraction> for Holding {
     ghost from_gives = { λ f h. h ≡ holding_of f };
 
+    #[tactic(auto, unfolding(crate::specs::Verdicts::holding_of))]
     fn from(f: Fraction) -> Holding {
         if f.d == 0 {
             Holding::AnyError
@@ -75,6 +76,7 @@ impl From<Holding> for Fraction {
 impl From<Verdict> for Numbers {
     ghost from_gives = { λ v x. x ≡ numbers_of v };
 
+    #[tactic(auto, unfolding(crate::specs::Verdicts::numbers_of))]
     fn from(v: Verdict) -> Numbers {
         match v {
             Verdict::Reached => Numbers {
@@ -96,6 +98,7 @@ impl From<Verdict> for Numbers {
 
 impl Numbers {
     // The verdict that numbers say: every kind but 0 counts as holding, and of sound numbers 1 is the only other.
+    #[tactic(auto, unfolding(crate::specs::Verdicts::verdict_of))]
     pub fn verdict(self) -> Verdict
         ensures { result ≡ verdict_of self }
     {
@@ -109,6 +112,7 @@ impl Numbers {
     }
 
     // Whether the numbers are those of a verdict.
+    #[tactic(auto, unfolding(crate::specs::Verdicts::sound_numbers))]
     pub fn are_sound(self) -> bool
         ensures { result ≡ sound_numbers self }
     {

@@ -21,7 +21,6 @@ use Rattle.search.specs.declared.outcome.Outcome.{Outcome}
 use Rattle.search.specs.declared.outcome.Outcome.TheVariants.{Going, Reached}
 use Rattle.search.specs.declared.outcome.Outcome.TheVariants as outcome
 use Rattle.slots.specs.declared.slot.Origin.{Origin}
-use Rattle.search.specs.declared.verdict.Holding.TheVariants.{AnyError, Below}
 use Rattle.automata.specs.Automata.{clocks}
 use Rattle.automata.specs.Numbers.{number, named}
 use Rattle.automata.specs.Refusals.{refusal_of}
@@ -37,14 +36,6 @@ use Rattle.zones.specs.Fractions.{lowest_terms}
 use Rattle.search.specs.Answers.{found_of, findings_of, state_findings, state_of, search_findings, search_store}
 use Rattle.reachability.proofs.Keeps.{search_room}
 use Rattle.search.proofs.exploration.Stores.{capacity_small}
-
-pub holding_any : (f : Fraction) → f.d ≡ 0 → AnyError ≡ holding_of f
-unfolding holding_of
-holding_any f e = rw (holding_of, eq-eqb f.d 0 e) refl
-
-pub holding_below : (f : Fraction) → (f.d ≡ 0 → ⊥) → Below f ≡ holding_of f
-unfolding holding_of
-holding_below f e = rw (holding_of, ne_eqb f.d 0 e) refl
 
 -- ---- what is found, by the outcome x with which the search stopped
 module _ {x : Outcome} (exact safe : Fraction) (zones : ℕ) (d : Dropped) where

@@ -35,7 +35,8 @@ use Rattle.zones.proofs.sets.Moving.{then_empty, then_live}
 use Rattle.automata.specs.Accepted.{Accepted}
 use Rattle.automata.specs.Constraints.{Constrains}
 use Rattle.automata.specs.declared.constraint.Constraint.{Constraint}
-use Rattle.automata.specs.Automata.{clocks, locations, edges, reset_byte, limits_at, invariant_at, invariant_of, guard_of, resets_of, in_byte, firsts, reset_set}
+use Rattle.automata.specs.Automata.{clocks, locations, edges, reset_byte, limits_at, invariant_at}
+use Rattle.automata.specs.Automata.{invariant_of, guard_of, resets_of, in_byte, firsts, reset_set}
 use Rattle.automata.proofs.accepting.Accepting.{unreset}
 use Rattle.automata.proofs.fields.Resets.{resets_at}
 

@@ -19,7 +19,8 @@ use Rattle.search.proofs.exploration.Search.take.Goals.{After-expand-t, At-loop-
 
 -- ---- at the head of the loop
 module _ (c : At-loop-next) where
-  on : Onward c.args.self.automaton.now.bytes.now c.args.self.capacity c.requires.base c.requires.state c.loop-next.next c.loop-next.store c.loop-next.t
+  on : Onward c.args.self.automaton.now.bytes.now c.args.self.capacity c.requires.base c.requires.state c.loop-next.next c.loop-next.store
+      c.loop-next.t
   on = c.loop-next.invariant.2 c.requires.base c.requires.state c.requires.live
 
   at_entry : length c.args.store.now ≡ length c.requires.base
@@ -75,11 +76,11 @@ module _ (c : After-expand-t) where
       Live c.args.self.automaton.now.bytes.now c.args.self.capacity s₀ q₀ c.args.store.now c.args.turn →
       Turned c.args.self.automaton.now.bytes.now c.args.self.capacity s₀ q₀ c.loop-next.next c.expand-t.new.store c.expand-t.result
   expanded s₀ q₀ h =
+      let a = c.args.self.automaton.now.accepted in
       let w = c.loop-next.invariant.2 s₀ q₀ h in
-      let there = location c.args.self.automaton.now.accepted w c.loop-next-test.true (ap (λ (x : ℕ). c.loop-next.next * x) c.loop-next.invariant.1) in
-      turned c.args.self.automaton.now.accepted w c.loop-next-test.true (ap (λ (x : ℕ). c.loop-next.next * x) c.loop-next.invariant.1)
-      (rw c.loop-next.invariant.0 at c.decode-z.ensures)
-      (read_location (search rules) there) c.expand-t.ensures
+      let at = ap (λ (x : ℕ). c.loop-next.next * x) c.loop-next.invariant.1 in
+      turned a w c.loop-next-test.true at (rw c.loop-next.invariant.0 at c.decode-z.ensures)
+      (read_location (search rules) (location a w c.loop-next-test.true at)) c.expand-t.ensures
 
 pub shape_of-store-then-has_ended : goal.shape_of-store-then-has_ended
 shape_of-store-then-has_ended c =
