@@ -6,7 +6,7 @@ ghost use Rattle.cache.specs.Records.{record_numbers, record_automaton, sound_re
 use crate::layout::Layout;
 use canonical::is_canonical;
 use encoding::{be32, bytes_of, put};
-use search::verdict::{Answer, Numbers, Verdict};
+use search::verdict::{Answer, Numbers};
 
 // ---- what it says
 // The bytes of a record, all of them and no more, and the layout in which they are read.
@@ -47,7 +47,7 @@ impl<'a> Record<'a> {
         ensures { result ≡ filed_as self.entry.layout self.entry.bytes.now }
     {
         Answer {
-            verdict: Verdict::from(self.numbers()),
+            verdict: self.numbers().verdict(),
             zones: be32(self.bytes, self.layout.zones),
         }
     }
