@@ -39,8 +39,8 @@ largest_count-requires c = asks_largest (entered (goal.at.largest_count-requires
 pub returns-then-largest_count-gt-COUNTS : goal.returns-then-largest_count-gt-COUNTS
 returns-then-largest_count-gt-COUNTS c =
     rw c.refused.ensures
-    (gives_big (entered (goal.at.returns-then-largest_count-gt-COUNTS c).Start) c.encode-numbers.ensures c.slot_length-stride.ensures c.in_default.ensures (omega arith)
-    c.largest_count.ensures c.if-largest_count-gt-COUNTS.true)
+    (gives_big (entered (goal.at.returns-then-largest_count-gt-COUNTS c).Start) c.encode-numbers.ensures c.slot_length-stride.ensures
+    c.in_default.ensures (omega arith) c.largest_count.ensures c.if-largest_count-gt-COUNTS.true)
 
 pub keep-requires : goal.keep-requires
 keep-requires c =
@@ -51,8 +51,8 @@ keep-requires c =
 pub returns-then-count-self : goal.returns-then-count-self
 unfolding placed
 returns-then-count-self c =
-    gives_kept (entered (goal.at.returns-then-count-self c).Start) c.encode-numbers.ensures c.slot_length-stride.ensures c.in_default.ensures (omega arith)
-    c.largest_count.ensures c.if-largest_count-gt-COUNTS.false c.if-count-self.true c.keep.ensures
+    gives_kept (entered (goal.at.returns-then-count-self c).Start) c.encode-numbers.ensures c.slot_length-stride.ensures
+    c.in_default.ensures (omega arith) c.largest_count.ensures c.if-largest_count-gt-COUNTS.false c.if-count-self.true c.keep.ensures
 
 pub returns : goal.returns
 returns c =
