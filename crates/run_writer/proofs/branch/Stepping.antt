@@ -23,7 +23,7 @@ use Rattle.slots.specs.Slots.{slot_length, p_at, is_along, slot_origin}
 use Rattle.zones.specs.Integers.{up}
 use Rattle.run_writer.specs.Crossing.{zone_in}
 use Rattle.run_writer.specs.Branch.{kept_of, Ended, Standing, jumps_before}
-use Rattle.run_writer.proofs.branch.Walking.{sound, slot_of, slot_inside, origin_at, standing, Along, along}
+use Rattle.run_writer.proofs.branch.Walking.{left_of, left_at, left_is, sound, slot_of, slot_inside, origin_at, standing, Along, along}
 use Rattle.run_writer.proofs.branch.Walking.{few, parent_is, one_more, jumps_most}
 
 module _ {b : List ℕ} {amount : ℕ} {s : List ℤ} (e : Ended b amount s) {o : Origin} (st : Standing b amount o) (h : is_along o ≡ true) where
@@ -38,6 +38,9 @@ module _ {b : List ℕ} {amount : ℕ} {s : List ℤ} (e : Ended b amount s) {o 
   module _ {o' : Origin} (eo : o' ≡ origin_of source.came) where
     pub next : Standing b amount o'
     next = subst (Standing b amount) (sym eo) (standing e a.parent source a.jumps.kept)
+
+    pub nearer : left_of o' < left_of o
+    nearer = omega (arith, left_is st a, ap left_of eo, left_at e a.parent source a.jumps.kept)
 
     pub fewer : jumps_before b amount o ≡ suc (jumps_before b amount o')
     fewer = one_more st a e ∙ ap (λ x. suc (jumps_before b amount x)) (sym eo)

@@ -1,6 +1,6 @@
 -- The walk back over the slots: from a zone's origin to the slot that it names, and to that slot's own origin.
 use Prim.Native.Nat.{ℕ, zero, suc, ◌+◌, ◌-◌, ◌*◌, ◌≤◌}
-use mathlib.Core.Bool.{true, false}
+use mathlib.Core.Bool.{true, false, cond}
 use mathlib.Core.List.{List, [], ◌∷◌}
 use mathlib.Core.Path.{◌≡◌, refl, sym, ap, ◌∙◌, subst}
 use lib.IntN.{ℤ, pos}
@@ -31,6 +31,15 @@ use Rattle.slots.proofs.slot.Codec.{slot_origin_lem}
 use Rattle.zones.specs.Integers.{up}
 use Rattle.zones.proofs.pairs.Integers.{le_make}
 use Rattle.run_writer.specs.Branch.{kept_of, CameBy, Ended, Standing, jumps_before}
+
+-- how many slots lie up to the one that an origin names, that one included
+abbrev pub left_of : Origin → ℕ
+left_of o = cond (is_along o) (suc (up o.parent)) 0
+
+left_branch : (b : List ℕ) (amount place : ℕ) (k : ZoneNode) (c : Came) → CameBy b amount place k c → left_of (origin_of c) ≤ place
+unfolding origin_of
+left_branch b amount place k first_zone h = omega arith
+left_branch b amount place k (by_edge j i) h = h.earlier
 
 module _ {b : List ℕ} {amount : ℕ} {s : List ℤ} (e : Ended b amount s) where
   abbrev n : ℕ
@@ -85,6 +94,9 @@ module _ {b : List ℕ} {amount : ℕ} {s : List ℤ} (e : Ended b amount s) whe
     origin_at {at} h =
         ap slot_origin (lent_part s at ∙ ap (λ (i : ℕ). drop i s) h ∙ slot_of.same)
         ∙ slot_origin_lem n k.at (origin_of k.came) k.zone slot_of.rest
+
+    pub left_at : left_of (origin_of k.came) ≤ j
+    left_at = left_branch b amount j k k.came (came j k m)
 
     -- a zone of the search stands there too
     pub standing : Standing b amount (origin_of k.came)
@@ -145,6 +157,9 @@ module _ {b : List ℕ} {amount : ℕ} {o : Origin} (st : Standing b amount o) w
       go (by_edge j i) g = true_false (ap is_along (sym (ap origin_of g) ∙ st.told) ∙ h)
 
   module _ (a : Along) where
+    pub left_is : left_of o ≡ suc a.parent
+    left_is = ap left_of a.told
+
     pub parent_is : up o.parent ≡ a.parent
     parent_is = ap (λ (x : Origin). up x.parent) a.told
 
