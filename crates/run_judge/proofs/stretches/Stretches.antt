@@ -73,5 +73,18 @@ module _ {move : List ℕ → State → ℕ → Option State} {from next : List 
     pub step_back : waits m ≡ judged_by next m → Handed l (judged_by from l) m None
     step_back e = (record { automaton = k.0; same = e ∙ sym follows }, omega (arith, f.1))
 
+-- ---- of a wait, and of a jump
+module _ (l m : Left) {z : ℤ} (f : IsFirstAndRest l.numbers.now z m.numbers.now) (h : SFits w64 z) where
+  module _ (k : Leads (b waits_follow l h) (moved waits_follow l h) (Some m.ready)) where
+    pub wait_on : (r : Left) (o : Option Bool) → Handed m (jumps m) r o → Handed l (waits l) r o
+    wait_on = step_on waits_follow l h m f k
+
+  module _ (k : Leads (b jumps_follow l h) (moved jumps_follow l h) (Some m.ready)) where
+    pub jump_on : (r : Left) (o : Option Bool) → Handed m (waits m) r o → Handed l (jumps l) r o
+    jump_on = step_on jumps_follow l h m f k
+
+    pub jump_back : Handed l (jumps l) m None
+    jump_back = step_back jumps_follow l h m f k refl
+
 -- ---- the ways out of both
 pub ruleset ways = (waits_follow, jumps_follow, wait_over, jump_over, step_over, step_on, step_back)

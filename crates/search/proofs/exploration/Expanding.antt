@@ -12,7 +12,7 @@ use Rattle.zones.specs.declared.pair.Pair.{Pair}
 use Rattle.zones.specs.declared.zone.Work.{Work}
 use Rattle.zones.specs.Ranges.{Fits32}
 use Rattle.search.specs.declared.outcome.Turn.{Turn}
-use Rattle.search.specs.Outcomes.{outcome_of, has_ended, most_offers}
+use Rattle.search.specs.Outcomes.{Few, outcome_of, has_ended, most_offers}
 use Rattle.automata.specs.Accepted.{Accepted}
 use Rattle.automata.specs.Automata.{clocks, edges, from, to}
 use Rattle.search.specs.Exploring.{SoundState, SoundZone, Shown, Live, Going, Offers, node_at, successor_of}
@@ -73,6 +73,10 @@ module _ (b : List ℕ) (capacity j l : ℕ) (z : List Pair) (c : Came) (p : Lis
 module _ {b : List ℕ} {capacity j l : ℕ} {z : List Pair} {c : Came} {p : List ℕ} {s₀ : List ℤ} {q₀ : ZoneState} {i : ℕ} {s : List ℤ} {t : Turn}
     (w : Between b capacity j l z c p s₀ q₀ i s t) where
   -- what the next call asks
+  -- what was dropped so far
+  pub between_few : q₀.again + q₀.inside ≤ suc (j * 256) → j < most_slots → i < 256 → Few most_offers t.dropped
+  between_few few hj hi = record { few = omega (arith, w.few, w.live.shown.again, w.live.shown.inside) }
+
   pub between_going : capacity * slot_length (suc (clocks b)) ≤ length s₀ → capacity ≤ most_slots → q₀.again + q₀.inside ≤ suc (j * 256) →
       j < most_slots → i < 256 → Going b capacity most_offers s t
   between_going long most few hj hi = record {
@@ -81,7 +85,7 @@ module _ {b : List ℕ} {capacity j l : ℕ} {z : List Pair} {c : Came} {p : Lis
     live = w.live;
     long = long;
     few = most;
-    dropped = record { few = omega (arith, w.few, w.live.shown.again, w.live.shown.inside) };
+    dropped = between_few few hj hi;
   }
 
   pub ends : edges b ≤ i → Shown (suc (clocks b)) s₀ (opened b capacity j l z c p (edges b) 0 q₀) s t

@@ -14,7 +14,7 @@ use lib.ListN.{length, get_or, take, drop, drop_of_length-le}
 use native.Mathlib.Omega.{arith}
 use Rattle.zones.specs.declared.pair.Pair.{Pair}
 use Rattle.search.specs.declared.outcome.Turn.{Turn}
-use Rattle.search.specs.Outcomes.{outcome_of, has_ended}
+use Rattle.search.specs.Outcomes.{Few, outcome_of, has_ended}
 use Rattle.automata.specs.Accepted.{Accepted}
 use Rattle.automata.specs.Automata.{clocks, edges, to}
 use Rattle.search.specs.Exploring.{SoundState, SoundNode, SoundZone, Shown, Live, Going, Continues, node_at}
@@ -100,6 +100,10 @@ module _ {b : List ℕ} (a : Accepted b) where
 
   module _ {capacity : ℕ} {s₀ : List ℤ} {q₀ : ZoneState} {next : ℕ} {s : List ℤ} {t : Turn}
       (w : Onward b capacity s₀ q₀ next s t) (h : next < t.count) where
+    -- what was dropped so far
+    pub onward_few : q₀.again + q₀.inside ≤ 1 → Few (suc (next * 256)) t.dropped
+    onward_few few = record { few = omega (arith, w.dropped, w.live.shown.again, w.live.shown.inside) }
+
     pub onward : capacity * slot_length n ≤ length s₀ → capacity ≤ most_slots → q₀.again + q₀.inside ≤ 1 →
         Going b capacity (suc (next * 256)) s t
     onward long most few = record {
@@ -108,7 +112,7 @@ module _ {b : List ℕ} (a : Accepted b) where
       live = w.live;
       long = long;
       few = most;
-      dropped = record { few = omega (arith, w.dropped, w.live.shown.again, w.live.shown.inside) };
+      dropped = onward_few few;
     }
 
     pub here : At w.state.kept next

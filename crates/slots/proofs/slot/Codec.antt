@@ -8,7 +8,7 @@ use mathlib.Core.List.{List, [], ◌∷◌, ◌++◌, append_assoc}
 use borrow.Author.Tests.{lt-ltb, le-ltb, ltb-true, ltb-false}
 use lib.Dec.{ltb}
 use lib.IntN.{ℤ, pos}
-use lib.ListN.{length, get_or, take, set, length-append, length-set, length-replicate, get_or-replicate}
+use lib.ListN.{length, get_or, take, set, replicate, length-append, length-set, length-replicate, get_or-replicate}
 use lib.Seq.{take_at, get_or_at, append_snoc, get_or-set_same, get_or-set_other, ext_get_or}
 use lib.Signed.{◌≤ℤ◌, ◌<ℤ◌}
 use native.Mathlib.Decide.{ℕ_discrete, dec_lt}
@@ -29,7 +29,7 @@ use Rattle.zones.specs.Pairs.{zero_pair, compare_of, is_at_most, is_equal, thres
 use Rattle.zones.specs.Ranges.{AllBounded, Bounded}
 use Rattle.zones.proofs.places.Inside.{bounded_place}
 use Rattle.zones.proofs.sets.Squares.{up_to}
-use Rattle.slots.specs.Slots.{fields, slot_length, m_at, p_at, pairs_to, pairs_of, flat, head_of, slot_of, slot_location, slot_pair, counted}
+use Rattle.slots.specs.Slots.{fields, slot_length, spare, m_at, p_at, pairs_to, pairs_of, flat, head_of, slot_of, slot_location, slot_pair, counted}
 use Rattle.slots.specs.Slots.{slot_origin, pair_count, square_to, zone_of, Framed}
 use Rattle.slots.specs.declared.slot.Origin.{Origin}
 use Rattle.slots.specs.Containing.{compare_numbers, every_pair, within_slots, equal_slots, inside_slots, largest_slot, Readable}
@@ -196,6 +196,13 @@ module _ (n : ℕ) (hd : List ℤ) (hd≡ : length hd ≡ fields) (z : List Pair
 pub head_size : (l : ℕ) (o : Origin) → length (head_of l o) ≡ fields
 unfolding head_of
 head_size l o = refl
+
+-- a slot that is begun has these numbers before its pairs
+abbrev pub head_in : List ℤ → List ℤ
+head_in slot = take fields slot
+
+pub head_in_lem : (l : ℕ) (o : Origin) {slot : List ℤ} → slot ≡ head_of l o ++ replicate (spare 0) (pos 0) → head_in slot ≡ head_of l o
+head_in_lem l o e = rw e (take_at (head_of l o) (replicate (spare 0) (pos 0)) fields (head_size l o))
 
 pub slot_location_lem : (n l : ℕ) (o : Origin) (z : List Pair) (rest : List ℤ) → slot_location (slot_of n (head_of l o) z ++ rest) ≡ pos l
 unfolding slot_of head_of
