@@ -6,7 +6,7 @@ ghost use Rattle.run_writer.specs.Branch.{Stands};
 use crate::crossing::Jump;
 use automata::opened::Automaton;
 use slots::slot::{Origin, origin_of, slot_length};
-use witness::State;
+use witness::Valuation;
 
 // The branch to a zone of this origin, in the store where a search has ended: its jumps, from the last one back.
 #[derive(Clone, Copy)]
@@ -64,12 +64,12 @@ impl<'a> Branch<'a> {
 
     // The last state of the run to the zone.
     #[tactic(auto, unfolding(reachability::specs::Witnesses::last_state))]
-    fn last_state(mut self) -> State
+    fn last_state(mut self) -> Valuation
         ensures { result.clocks ≡ last_left self.entry }
     {
         match self.next() {
             Some(jump) => jump.landing(),
-            None => State::start(),
+            None => Valuation::start(),
         }
     }
 

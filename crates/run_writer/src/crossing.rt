@@ -12,7 +12,7 @@ ghost use Rattle.run_writer.specs.Crossing.{Leaves};
 use automata::opened::Automaton;
 use search::successor::narrow;
 use slots::slot::decode;
-use witness::{Back, Crossing, Square, State};
+use witness::{Back, Crossing, Square, Valuation};
 use zones::fraction::Fraction;
 use zones::pair::Pair;
 use zones::reduction::Reduced;
@@ -100,7 +100,7 @@ impl<'a> Jump<'a> {
 
     // The step back over it, from the state v of the zone's successor.
     #[tactic(auto, using(crate::proofs::crossing::Along::back_is))]
-    pub(crate) fn back(self, v: State) -> Back
+    pub(crate) fn back(self, v: Valuation) -> Back
         ensures { step_of result ≡ back_over self.entry v.clocks }
     {
         self.cross().step_back(v)
@@ -108,7 +108,7 @@ impl<'a> Jump<'a> {
 
     // A state in which it arrives.
     #[tactic(auto, using(crate::proofs::crossing::Along::landing_is))]
-    pub(crate) fn landing(self) -> State
+    pub(crate) fn landing(self) -> Valuation
         ensures { result.clocks ≡ landing_over self.entry }
     {
         self.cross().arrived.landing()

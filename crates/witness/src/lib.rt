@@ -12,7 +12,7 @@ use zones::pair::Pair;
 
 // A state, clock x at place x: none is above the scale.
 #[derive(Clone, Copy)]
-pub struct State {
+pub struct Valuation {
     pub clocks: [u64; 9],
     pub ghost up_to: { AllUpTo scale clocks },
 }
@@ -40,21 +40,21 @@ pub struct Crossing {
 #[derive(Clone, Copy)]
 pub struct Back {
     pub wait: u64,
-    pub state: State,
+    pub state: Valuation,
     pub ghost short: { wait ≤ 2 * scale },
 }
 
-impl State {
+impl Valuation {
     // All clocks at 0.
-    pub fn start() -> State
+    pub fn start() -> Valuation
         ensures { result.clocks ≡ replicate 9 0 }
     {
-        State { clocks: [0; 9] }
+        Valuation { clocks: [0; 9] }
     }
 
     // The state before the wait.
     #[tactic(auto, unfolding(crate::specs::Witnesses::places_of), using(crate::proofs::Turns::state_next))]
-    fn earlier(self, wait: u64, size: usize) -> State
+    fn earlier(self, wait: u64, size: usize) -> Valuation
         requires { size ≤ 9 }
         ensures { result.clocks ≡ earlier_of self.clocks wait (size - 1) }
     {
@@ -62,26 +62,26 @@ impl State {
         for x in 1..size {
             clocks[x] = self.clocks[x].saturating_sub(wait);
         }
-        State { clocks }
+        Valuation { clocks }
     }
 }
 
 impl Square {
     // A state of it: each clock at its least.
     #[tactic(auto, unfolding(crate::specs::Witnesses::places_of), using(crate::proofs::Parts::row_less, crate::proofs::Turns::state_next))]
-    pub fn landing(self) -> State
+    pub fn landing(self) -> Valuation
         ensures { result.clocks ≡ landing_of self.pairs self.size }
     {
         let mut clocks = [0; 9];
         for x in 1..self.size {
             clocks[x] = 0_u64.saturating_sub_signed(self.pairs[x].m);
         }
-        State { clocks }
+        Valuation { clocks }
     }
 
     // The most by which a clock of v is above its bound: the shortest wait that may have led there.
     #[tactic(auto, unfolding(crate::specs::Witnesses::wait_to), using(crate::proofs::Parts::column_less, crate::proofs::Turns::wait_next))]
-    fn wait_before(self, v: State) -> u64
+    fn wait_before(self, v: Valuation) -> u64
         ensures { result ≡ wait_to v.clocks self.pairs (self.size - 1) }
     {
         let mut wait: u64 = 0;
@@ -93,19 +93,19 @@ impl Square {
 
     // The state before the jump that resets and leaves u.
     #[tactic(auto, unfolding(crate::specs::Witnesses::places_of), using(crate::proofs::Turns::state_next))]
-    fn state_before(self, u: State, resets: [bool; 9]) -> State
+    fn state_before(self, u: Valuation, resets: [bool; 9]) -> Valuation
         ensures { result.clocks ≡ state_before u.clocks self.pairs (set_of resets) (self.size - 1) }
     {
         let mut clocks = [0; 9];
         for x in 1..self.size {
             clocks[x] = self.clock_before(u, resets, x);
         }
-        State { clocks }
+        Valuation { clocks }
     }
 
     // Clock x of it.
     #[tactic(auto, unfolding(crate::specs::Witnesses::least_to), using(crate::proofs::Parts::column_plus))]
-    fn clock_before(self, u: State, resets: [bool; 9], x: usize) -> u64
+    fn clock_before(self, u: Valuation, resets: [bool; 9], x: usize) -> u64
         requires { x < self.size }
         ensures { result ≡ least_to u.clocks self.pairs (set_of resets) x (self.size - 1) }
     {
@@ -124,7 +124,7 @@ impl Crossing {
 
     // One step back from the state v of the successor.
     #[tactic(auto, unfolding(crate::specs::Witnesses::back_of))]
-    pub fn step_back(self, v: State) -> Back
+    pub fn step_back(self, v: Valuation) -> Back
         ensures { step_of result ≡ back_of v.clocks self.arrived.pairs self.guarded.pairs (set_of self.resets) self.arrived.size }
     {
         let wait = self.arrived.wait_before(v);

@@ -2,7 +2,7 @@
 use native.Mathlib.Omega.{arith}
 use Rattle.runs.specs.Limits.{scale}
 use Rattle.witness.proofs.Sizes.{earlier_most}
-use Rattle.witness.proofs.State.earlier.Goals as goal
+use Rattle.witness.proofs.Valuation.earlier.Goals as goal
 
 pub invariant_of-result : goal.invariant_of-result
 invariant_of-result c = record {
