@@ -33,6 +33,7 @@ impl<'a> Iterator for Branch<'a> {
             return None;
         }
         let stride = slot_length(self.automaton.clocks + 1);
+        // By its place: `chunks_exact(stride).nth(..)` would give an Option, which is never None.
         let slot = &self.store[origin.slot() * stride..];
         self.origin = origin_of(slot);
         Some(Jump {
@@ -62,7 +63,7 @@ impl<'a> Branch<'a> {
         self.count()
     }
 
-    // The last state of the run to the zone.
+    // The last valuation of the run to the zone.
     #[tactic(auto, unfolding(reachability::specs::Witnesses::last_state))]
     fn last_state(mut self) -> Valuation
         ensures { result.clocks ≡ last_left self.entry }
@@ -73,7 +74,7 @@ impl<'a> Branch<'a> {
         }
     }
 
-    // The run to the zone, to which k jumps lead, is written from its end back.
+    // The run to the zone, to which k jumps lead, is written from its end back. The caller has counted k for the buffer's length: a walk of its own.
     pub(crate) fn write_back(self, run: &mut [i64], k: usize)
         requires jumps_fit { (k ≡ jumps_left self) × (2 * k + 2 ≤ length run.old) }
         ensures { run.new ≡ written (run_left self.entry) ++ drop (2 * k + 2) run.old }

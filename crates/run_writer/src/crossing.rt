@@ -36,7 +36,8 @@ impl<'a> Jump<'a> {
         narrow(&self.automaton.guard(self.edge), w, false)
     }
 
-    // The zone on its way along the edge. Arrays that are fields are named first: the check reads no literal that takes one from another value.
+    // The zone on its way along the edge. Reset and invariant are the first half of search's `enter`: one call around two, were it shared.
+    // Arrays that are fields are named first: the check reads no literal that takes one from another value.
     fn cross(self) -> Crossing
         ensures { CrossedOver self.entry result }
     {
@@ -57,7 +58,7 @@ impl<'a> Jump<'a> {
         }
     }
 
-    // The step back over it, from the state v of the zone's successor.
+    // The step back over it, from the valuation v of the zone's successor.
     #[tactic(auto, using(crate::proofs::crossing::Along::back_is))]
     pub(crate) fn back(self, v: Valuation) -> Back
         ensures { step_of result ≡ back_over self.entry v.clocks }
@@ -65,7 +66,7 @@ impl<'a> Jump<'a> {
         self.cross().step_back(v)
     }
 
-    // A state in which it arrives.
+    // A valuation with which it arrives.
     #[tactic(auto, using(crate::proofs::crossing::Along::landing_is))]
     pub(crate) fn landing(self) -> Valuation
         ensures { result.clocks ≡ landing_over self.entry }

@@ -19,7 +19,8 @@ use search::outcome::Outcome;
 use search::verdict::Findings;
 
 // The bare search's findings and store, or 14 where the target is reached and the buffer for the run is too short. Where the answer is
-// reached, the buffer begins with a run along the search's branch that ends at the target, and the judge passes it.
+// reached, the buffer begins with a run along the search's branch that ends at the target, and the judge passes it. All three buffers are lent
+// through the C interface, as there is no heap. What is used is told where the documents put it: by the findings' zones and the run's first number.
 pub fn write_run(automaton: &[u8], store: &mut [i32], run: &mut [i64]) -> Result<Findings, Refusal>
     ensures value { result ≡ run_findings automaton.now (length store.old) (length run.old) }
     ensures store_after { store.new ≡ search_store automaton.now store.old }

@@ -1,5 +1,6 @@
-// The step back through zones: from a state of a successor, the wait before it and a state before the jump.
-// States, squares and sets of clocks are document 01's fixed arrays, passed by value.
+// The step back through zones: from a valuation of a successor, the wait before it and a valuation before the jump.
+// Squares are document 01's fixed arrays "for up to nine indices", by value; valuations and sets of clocks have the same nine places, of which the
+// square's size counts.
 #![tactic(auto)]
 
 ghost use Rattle.std.specs.Prelude.{◌≡◌, ◌-◌, ◌*◌, ◌<◌, ◌≤◌, replicate};
@@ -10,7 +11,7 @@ ghost use Rattle.witness.specs.Witnesses.{wait_to, earlier_of, least_to, state_b
 
 use zones::pair::Pair;
 
-// A state, clock x at place x: none is above the scale.
+// A valuation, clock x at place x: none is above the scale.
 #[derive(Clone, Copy)]
 pub struct Valuation {
     pub clocks: [u64; 9],
@@ -36,7 +37,7 @@ pub struct Crossing {
     pub ghost same: { guarded.size ≡ arrived.size },
 }
 
-// The wait before a state, and the state before the jump that the wait follows.
+// The wait before a valuation, and the valuation before the jump that the wait follows.
 #[derive(Clone, Copy)]
 pub struct Back {
     pub wait: u64,
@@ -52,7 +53,7 @@ impl Valuation {
         Valuation { clocks: [0; 9] }
     }
 
-    // The state before the wait.
+    // The valuation before the wait, of the clocks of a square of that size.
     #[tactic(auto, unfolding(crate::specs::Witnesses::places_of), using(crate::proofs::Turns::state_next))]
     fn earlier(self, wait: u64, size: usize) -> Valuation
         requires { size ≤ 9 }
@@ -67,7 +68,7 @@ impl Valuation {
 }
 
 impl Square {
-    // A state of it: each clock at its least.
+    // A valuation of it: each clock at its least.
     #[tactic(auto, unfolding(crate::specs::Witnesses::places_of), using(crate::proofs::Parts::row_less, crate::proofs::Turns::state_next))]
     pub fn landing(self) -> Valuation
         ensures { result.clocks ≡ landing_of self.pairs self.size }
@@ -91,7 +92,7 @@ impl Square {
         wait
     }
 
-    // The state before the jump that resets and leaves u.
+    // The valuation before the jump that resets and leaves u.
     #[tactic(auto, unfolding(crate::specs::Witnesses::places_of), using(crate::proofs::Turns::state_next))]
     fn state_before(self, u: Valuation, resets: [bool; 9]) -> Valuation
         ensures { result.clocks ≡ state_before u.clocks self.pairs (set_of resets) (self.size - 1) }
@@ -122,7 +123,7 @@ impl Square {
 impl Crossing {
     ghost use Rattle.witness.specs.Told.{step_of};
 
-    // One step back from the state v of the successor.
+    // One step back from the valuation v of the successor.
     #[tactic(auto, unfolding(crate::specs::Witnesses::back_of))]
     pub fn step_back(self, v: Valuation) -> Back
         ensures { step_of result ≡ back_of v.clocks self.arrived.pairs self.guarded.pairs (set_of self.resets) self.arrived.size }

@@ -27,7 +27,7 @@ impl Work {
 
     // The rows and columns of the clocks that are marked become those of 0, in place: an entry that is read is that of two
     // indices which keep their rows and columns, so no turn changes it. Of what Unreduced carries this asks the size alone.
-    // Inline, as it has callers in two crates: else the compiler copies the square once more a step, and "3 clocks" takes 1 % more instructions.
+    // Inline, as two crates call it: else the search copies its square once more a step, and "chain, 1 clock" takes 4 % more instructions.
     #[inline]
     pub fn reset(self, size: usize, marked: [bool; 9]) -> Work
         requires { size ≤ 9 }
