@@ -26,7 +26,7 @@ use Rattle.search.specs.Exploring.{SoundZone}
 use Rattle.search.specs.Instance.{Fractions, work_of, following, zones_of, meaning_of, Inside}
 use Rattle.search.proofs.instance.Obeys.{came_from, Jumped, jumped, laws}
 use Rattle.witness.specs.Laws.{SteppedBack, Reached}
-use Rattle.witness.specs.Witnesses.{StepBack, clocks_of, places_of, less_bound, wait_to, earlier_of, state_before, back_of}
+use Rattle.witness.specs.Witnesses.{StepBack, clocks_of, places_of, less_bound, wait_to, earlier_of, valuation_before, back_of}
 use Rattle.witness.proofs.Steps.{live_law, step_back_law, landing_law}
 use Rattle.run_writer.specs.Crossing.{Crosses, arrived_by, guarded_by, back_along, landing_along, witnesses_of}
 
@@ -67,7 +67,7 @@ cleared-back v a g R n =
     let w = cleared_wait v a (n - 1) in
     let e : earlier_of (cleared v) (wait_to (cleared v) a (n - 1)) (n - 1) ≡ earlier_of v (wait_to v a (n - 1)) (n - 1) =
     cleared_earlier v (wait_to (cleared v) a (n - 1)) (n - 1) ∙ ap (λ (t : ℕ). earlier_of v t (n - 1)) w in
-    λ i. record { wait = w i; state = state_before (e i) g R (n - 1) }
+    λ i. record { wait = w i; valuation = valuation_before (e i) g R (n - 1) }
 
 -- ---- the start, and a wait from it
 waited : (c : ℕ) → 1 ≤ c → (t : ℕ) (u : ℕ → ℕ) → later t (replicate c 0) ≡ listed c u → u 1 ≡ t
@@ -167,13 +167,13 @@ module _ (b : List ℕ) (a : Accepted b) where
       -- from r's state to v, by the jump and r's wait
       abbrev LeadsTo : Valuation → StepBack → Type 0
       LeadsTo v r =
-          Leads (system_of b) (zones_of b) (meaning_of b) (witnesses_of b) 1 0 i y v (record { time = r.wait; state = r.state })
+          Leads (system_of b) (zones_of b) (meaning_of b) (witnesses_of b) 1 0 i y v (record { time = r.wait; state = r.valuation })
 
       leads_from : (v : List ℕ) → clocks_of v 0 ≡ 0 → Inside b z 1 0 (listed c (clocks_of v)) → LeadsTo (listed c (clocks_of v)) (back_along b i y v)
       leads_from v s n =
           let r = back_along b i y v in
           let k = stepped v s n in
-          let j = jumped_to y (clocks_of r.state) (clocks_of v) k.inside (record {
+          let j = jumped_to y (clocks_of r.valuation) (clocks_of v) k.inside (record {
             after = k.after;
             guard = k.guard;
             put = k.put;

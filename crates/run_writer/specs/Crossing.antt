@@ -59,6 +59,6 @@ witnesses_of b =
       val = λ v. listed (clocks b) (clocks_of v);
       begin = replicate 9 0;
       landing = landing_along b;
-      back = λ i z v. record { time = (back_along b i z v).wait; state = (back_along b i z v).state };
+      back = λ i z v. record { time = (back_along b i z v).wait; state = (back_along b i z v).valuation };
       since = λ v. clocks_of v 1;
     }

@@ -34,7 +34,7 @@ pub record Goes (x : Branch) (j : Jump) (y : Branch) : Type 0 where
   pub last : last_left x ≡ landing_over j
   pub step : let b = x.automaton.bytes.now in let ks = kept_of b (length x.store.now) in
       (m : ℕ) (v : List ℕ) (xs : List Step) → back_to (witnesses_of b) (suc m) ks (came_of x.origin) v xs
-      ≡ back_to (witnesses_of b) m ks (came_of y.origin) (back_over j v).state
+      ≡ back_to (witnesses_of b) m ks (came_of y.origin) (back_over j v).valuation
       (jump j.edge ∷ wait (back_over j v).wait ∷ xs)
 
 -- a turn goes one jump back, or gives none where the zone is the first one

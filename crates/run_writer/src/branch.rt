@@ -83,7 +83,7 @@ impl<'a> Branch<'a> {
         for (left, jump) in (0..k).rev().zip(self) {
             let back = jump.back(v);
             put_two(run, 2 * left + 2, jump.edge as u64, back.wait);
-            v = back.state;
+            v = back.valuation;
         }
         put_two(run, 0, (2 * k + 2) as u64, v.clocks[1]);
     }

@@ -1,4 +1,5 @@
--- The two zones on the way of a step that some state of w takes, at s = 1, e = 0: neither is empty, both are reduced, and their states come from w.
+-- The two zones on the way of a step that some valuation of w takes, at s = 1, e = 0: neither is empty, both are reduced, and their valuations
+-- come from w.
 -- Assumes nothing.
 use Rattle.zones.specs.Reductions.{is_empty}
 use Prim.Native.Nat.{ℕ, suc, ◌≤◌, ◌<◌}
@@ -29,7 +30,7 @@ value_one q = omega (arith, int, value_law 1 0 q)
 values : (w : Work) → square_of 1 0 w ≡ ms_of w.zone
 values w i a b = value_one (entry w a b) i
 
--- the state after the jump is `after`
+-- the valuation after the jump is `after`
 pub record Between (c : ℕ) (G : Limits) (R : ℕ → Bool) (I : Limits) (w : Work) (after : ℕ → ℕ) : Type 0 where
   pub live : BothLive c G R I w
   pub closed_g : Closed (suc c) (ms_of (guard_met c G w).work.zone)

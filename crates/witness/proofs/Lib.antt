@@ -1,7 +1,7 @@
 -- The laws of a step back.
 pub mod Parts
 pub mod Turns
-pub mod States
+pub mod Valuations
 pub mod Sizes
 pub mod Waiting
 pub mod Resetting

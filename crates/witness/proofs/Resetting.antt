@@ -1,5 +1,5 @@
--- The state before a reset: from a valuation u of the reset of a reduced square, the least of u b + g(x, b) over the indices b that are not reset is
--- a valuation of the square, and its reset is u.
+-- The valuation before a reset: from a valuation u of the reset of a reduced square, the least of u b + g(x, b) over the indices b that are not
+-- reset is a valuation of the square, and its reset is u.
 -- Assumes nothing.
 use Prim.Native.Nat.{ℕ, zero, suc, ◌+◌, ◌≤◌, ◌<◌, min}
 use mathlib.Core.Path.{◌≡◌, refl, sym, ◌∙◌, subst}

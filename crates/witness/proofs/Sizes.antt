@@ -11,7 +11,7 @@ use Rattle.zones.specs.Zones.{pair_at}
 use Rattle.zones.proofs.pairs.Integers.{abs_law}
 use Rattle.witness.specs.Witnesses.{clocks_of, plus_bound, places_of, wait_to, least_to}
 use Rattle.witness.specs.Sizes.{AllUpTo, Spans}
-use Rattle.witness.proofs.States.{state_most}
+use Rattle.witness.proofs.Valuations.{valuation_most}
 
 wait-most : (C n : ℕ) (v : List ℕ) (a : List Pair) → AllUpTo C v → Spans C n a → (k : ℕ) → k ≤ n - 1 → wait_to v a k ≤ 2 * C
 unfolding wait_to
@@ -41,15 +41,15 @@ module _ (C : ℕ) where
   wait_most v n z k m s h e = rw e (wait-most C n v z m s k h)
 
   pub earlier_most : (v : List ℕ) (t k : ℕ) {l : List ℕ} → AllUpTo C v → k ≤ 8 → l ≡ places_of (λ x. clocks_of v x - t) k → AllUpTo C l
-  earlier_most v t k m h e = rw e (state_most (λ x. clocks_of v x - t) C k h (λ x px hx. omega (arith, m x)))
+  earlier_most v t k m h e = rw e (valuation_most (λ x. clocks_of v x - t) C k h (λ x px hx. omega (arith, m x)))
 
   module _ (n : ℕ) (z : List Pair) (s : Spans C n z) (k : ℕ) (hk : k ≤ n - 1) (h : k ≤ 8) where
     pub landing_most : {l : List ℕ} → l ≡ places_of (λ x. down (pair_at z 0 x).m) k → AllUpTo C l
     landing_most e =
-        rw e (state_most (λ x. down (pair_at z 0 x).m) C k h
+        rw e (valuation_most (λ x. down (pair_at z 0 x).m) C k h
         (λ x px hx. omega (arith, s 0 x (omega arith) (omega arith), abs_law (pair_at z 0 x).m)))
 
     pub before_most : (u : List ℕ) (R : ℕ → Bool) {l : List ℕ} → l ≡ places_of (λ x. least_to u z R x (n - 1)) k → AllUpTo C l
     before_most u R e =
-        rw e (state_most (λ x. least_to u z R x (n - 1)) C k h
+        rw e (valuation_most (λ x. least_to u z R x (n - 1)) C k h
         (λ x px hx. omega (arith, least_most u z R x (n - 1), s x 0 (omega arith) (omega arith), abs_law (pair_at z x 0).m)))

@@ -1,4 +1,4 @@
--- The wait and the state that a step back gives make a step of a run at s = 1, e = 0, and the landing is reached by such a step.
+-- The wait and the valuation that a step back gives make a step of a run at s = 1, e = 0, and the landing is reached by such a step.
 -- Assumes nothing.
 use Prim.Native.Nat.{ℕ, zero, suc, ◌-◌, ◌≤◌, ◌<◌}
 use mathlib.Core.Path.{◌≡◌, sym, ap, ◌∙◌}
@@ -18,17 +18,17 @@ use Rattle.zones.proofs.pairs.Integers.{le_read, one_side}
 use Rattle.zones.proofs.places.Places.{home_below}
 use Rattle.zones.proofs.sets.Squares.{in_same, point}
 use Rattle.witness.specs.Laws.{guard_met, arrived, BothLive, SteppedBack, Reached}
-use Rattle.witness.specs.Witnesses.{clocks_of, places_of, wait_to, earlier_of, least_to, state_before, back_of, landing_of}
+use Rattle.witness.specs.Witnesses.{clocks_of, places_of, wait_to, earlier_of, least_to, valuation_before, back_of, landing_of}
 use Rattle.witness.proofs.Between.{Between, between}
 use Rattle.witness.proofs.Resetting.{reset_in, reset_put}
-use Rattle.witness.proofs.States.{state_at, state_none}
+use Rattle.witness.proofs.Valuations.{valuation_at, valuation_none}
 use Rattle.witness.proofs.Turns.{landing_of_lem, back_of_lem}
 use Rattle.witness.proofs.Waiting.{ms_of, wait_in, wait_waits}
 
--- a state's indices, by a function that is 0 at 0
-state_same : (f : ℕ → ℕ) (c : ℕ) → suc c ≤ 9 → f 0 ≡ 0 → (x : ℕ) → x < suc c → clocks_of (places_of f c) x ≡ f x
-state_same f c n≤ z zero hx = state_none f c 0 (λ p. absurd (not-suc-le-zero p)) ∙ sym z
-state_same f c n≤ z (suc x) hx = state_at f c (omega arith) (suc x) hx (omega arith)
+-- a valuation's indices, by a function that is 0 at 0
+valuation_same : (f : ℕ → ℕ) (c : ℕ) → suc c ≤ 9 → f 0 ≡ 0 → (x : ℕ) → x < suc c → clocks_of (places_of f c) x ≡ f x
+valuation_same f c n≤ z zero hx = valuation_none f c 0 (λ p. absurd (not-suc-le-zero p)) ∙ sym z
+valuation_same f c n≤ z (suc x) hx = valuation_at f c (omega arith) (suc x) hx (omega arith)
 
 module _ (c : ℕ) (n≤ : suc c ≤ 9) (G : Limits) (R : ℕ → Bool) (R0 : R 0 ≡ false) (I : Limits) (w : Work) where
   abbrev g : List Pair
@@ -38,7 +38,7 @@ module _ (c : ℕ) (n≤ : suc c ≤ 9) (G : Limits) (R : ℕ → Bool) (R0 : R 
   a = (arrived c G R I w).work.zone
 
   module _ (after : ℕ → ℕ) (b : Between c G R I w after) where
-    -- ---- from a state u on arrival to the state before the jump
+    -- ---- from a valuation u on arrival to the valuation before the jump
     module _ (u : List ℕ) (i : In (suc c) (ms_of a) (clocks_of u)) where
       abbrev old : ℕ → ℕ
       old x = least_to u g R x c
@@ -46,26 +46,26 @@ module _ (c : ℕ) (n≤ : suc c ≤ 9) (G : Limits) (R : ℕ → Bool) (R0 : R 
       old_in : In (suc c) (ms_of g) old
       old_in = reset_in c R R0 g (ms_of (reset_of (suc c) R (guard_met c G w).work).zone) b.resets b.closed_g u (b.from_a (clocks_of u) i).0
 
-      old_is : (x : ℕ) → x < suc c → clocks_of (state_before u g R c) x ≡ old x
-      old_is = state_same old c n≤ old_in.start
+      old_is : (x : ℕ) → x < suc c → clocks_of (valuation_before u g R c) x ≡ old x
+      old_is = valuation_same old c n≤ old_in.start
 
-      old_from : Has 1 0 c w (clocks_of (state_before u g R c)) × Within 1 0 c G (clocks_of (state_before u g R c))
+      old_from : Has 1 0 c w (clocks_of (valuation_before u g R c)) × Within 1 0 c G (clocks_of (valuation_before u g R c))
       old_from =
-          b.from_g (clocks_of (state_before u g R c))
-          (in_same (suc c) (ms_of g) old (clocks_of (state_before u g R c)) (omega arith) old_is old_in)
+          b.from_g (clocks_of (valuation_before u g R c))
+          (in_same (suc c) (ms_of g) old (clocks_of (valuation_before u g R c)) (omega arith) old_is old_in)
 
-      old_put : Put (suc c) R (clocks_of (state_before u g R c)) (clocks_of u)
+      old_put : Put (suc c) R (clocks_of (valuation_before u g R c)) (clocks_of u)
       old_put x hx =
           reset_put c R R0 g (ms_of (reset_of (suc c) R (guard_met c G w).work).zone) b.resets b.closed_g u (b.from_a (clocks_of u) i).0 x hx ∙
           sym (old_is (home R x) (home_below R (suc c) x hx))
 
-    -- ---- from a state v after a wait to the state on arrival
+    -- ---- from a valuation v after a wait to the valuation on arrival
     module _ (v : List ℕ) (t : ℕ) (h : Waits (suc c) t after (clocks_of v)) where
       abbrev u : List ℕ
       u = earlier_of v (wait_to v a c) c
 
       u_is : (x : ℕ) → x < suc c → clocks_of u x ≡ clocks_of v x - wait_to v a c
-      u_is = state_same (λ x. clocks_of v x - wait_to v a c) c n≤ (omega (arith, h.start))
+      u_is = valuation_same (λ x. clocks_of v x - wait_to v a c) c n≤ (omega (arith, h.start))
 
       u_in : In (suc c) (ms_of a) (clocks_of u)
       u_in =
@@ -89,7 +89,7 @@ module _ (c : ℕ) (n≤ : suc c ≤ 9) (G : Limits) (R : ℕ → Bool) (R0 : R 
     least_is : (x : ℕ) → x < suc c → clocks_of least x ≡ down (ms_of a 0 x) - up (ms_of a 0 x)
     least_is x hx =
         let l = le_read (b.closed_a.low x hx) in
-        let e = state_same (λ y. down (ms_of a 0 y)) c n≤ (ap down (b.closed_a.diagonal 0 (omega arith))) x hx in
+        let e = valuation_same (λ y. down (ms_of a 0 y)) c n≤ (ap down (b.closed_a.diagonal 0 (omega arith))) x hx in
         ⊎_elim (λ q. omega (arith, e)) (λ q. omega (arith, e)) (one_side (ms_of a 0 x))
 
     least_in : In (suc c) (ms_of a) (clocks_of least)
@@ -101,7 +101,7 @@ module _ (c : ℕ) (n≤ : suc c ≤ 9) (G : Limits) (R : ℕ → Bool) (R0 : R 
     landed =
         let k = (b.from_a (clocks_of least) least_in).1 in
         rw (landing_of_lem a c) (record {
-          before = clocks_of (state_before least g R c);
+          before = clocks_of (valuation_before least g R c);
           inside = (old_from least least_in).0;
           follows = record {
             after = clocks_of least;
@@ -111,7 +111,7 @@ module _ (c : ℕ) (n≤ : suc c ≤ 9) (G : Limits) (R : ℕ → Bool) (R0 : R 
           };
         })
 
--- ---- for every zone from which some state takes the step
+-- ---- for every zone from which some valuation takes the step
 module _ (c : ℕ) (n≤ : suc c ≤ 9) (w : Work) (shaped : Shaped c w) (closed : Closed (suc c) (square_of 1 0 w)) (proper : 0 < w.fraction.n)
     (G : Limits) (R : ℕ → Bool) (R0 : R 0 ≡ false) (I : Limits) where
   pub live_law : (old v : ℕ → ℕ) → Has 1 0 c w old → Follows 1 0 c G R I old v → BothLive c G R I w

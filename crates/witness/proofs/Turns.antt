@@ -10,7 +10,8 @@ use native.Mathlib.Omega.{arith}
 use Rattle.zones.specs.declared.pair.Pair.{Pair}
 use Rattle.zones.specs.Integers.{down}
 use Rattle.zones.specs.Zones.{pair_at}
-use Rattle.witness.specs.Witnesses.{clocks_of, less_bound, plus_bound, places_of, wait_to, earlier_of, least_to, state_before, back_of, landing_of}
+use Rattle.witness.specs.Witnesses.{clocks_of, less_bound, plus_bound, places_of, wait_to, earlier_of, least_to}
+use Rattle.witness.specs.Witnesses.{valuation_before, back_of, landing_of}
 
 one_less : (c : ℕ) → suc c - 1 ≡ c
 one_less c = omega arith
@@ -22,10 +23,10 @@ unfolding wait_to
 wait_next v a zero h = absurd (omega arith)
 wait_next v a (suc k) h = rw (add-one, one_less (suc k), one_less k)
 
-pub state_next : (f : ℕ → ℕ) (x : ℕ) {l : List ℕ} {y : ℕ} → 1 ≤ x → l ≡ places_of f (x - 1) → y ≡ f x → set l x y ≡ places_of f (x + 1 - 1)
+pub valuation_next : (f : ℕ → ℕ) (x : ℕ) {l : List ℕ} {y : ℕ} → 1 ≤ x → l ≡ places_of f (x - 1) → y ≡ f x → set l x y ≡ places_of f (x + 1 - 1)
 unfolding places_of
-state_next f zero h e g = absurd (omega arith)
-state_next f (suc k) h e g = rw (add-one, one_less (suc k)) (λ i. set ((rw one_less at e) i) (suc k) (g i))
+valuation_next f zero h e g = absurd (omega arith)
+valuation_next f (suc k) h e g = rw (add-one, one_less (suc k)) (λ i. set ((rw one_less at e) i) (suc k) (g i))
 
 module _ (u : List ℕ) (g : List Pair) (R : ℕ → Bool) (x : ℕ) where
   pub least_next : (b : ℕ) {t s r : ℕ} → 1 ≤ b → t ≡ least_to u g R x (b - 1) → R b ≡ false → s ≡ plus_bound (clocks_of u b) (pair_at g x b).m →
@@ -44,6 +45,6 @@ pub landing_of_lem : (a : List Pair) (c : ℕ) → landing_of a (suc c) ≡ plac
 landing_of_lem a c = rw (one_less c)
 
 pub back_of_lem : (v : List ℕ) (a g : List Pair) (R : ℕ → Bool) (c : ℕ) →
-    back_of v a g R (suc c) ≡ record { wait = wait_to v a c; state = state_before (earlier_of v (wait_to v a c) c) g R c }
+    back_of v a g R (suc c) ≡ record { wait = wait_to v a c; valuation = valuation_before (earlier_of v (wait_to v a c) c) g R c }
 unfolding back_of
 back_of_lem v a g R c = rw (one_less c)

@@ -1,4 +1,5 @@
--- The wait before a state: v, less the wait, is in the square of a, if v is reached by a wait from any state of it. The square need not be reduced.
+-- The wait before a valuation: v, less the wait, is in the square of a, if v is reached by a wait from any valuation of it. The square need
+-- not be reduced.
 -- Assumes nothing.
 use Prim.Native.Nat.{ℕ, zero, suc, ◌+◌, ◌-◌, ◌≤◌, ◌<◌}
 use mathlib.Core.List.{List}

@@ -1,4 +1,4 @@
--- What a step back means: at s = 1, e = 0 it makes a step of a run, from a state of the zone w along an edge with the guard G that resets R, into
+-- What a step back means: at s = 1, e = 0 it makes a step of a run, from a valuation of the zone w along an edge with the guard G that resets R, into
 -- a location with the invariant I. There are c clocks.
 use Rattle.zones.specs.Reductions.{is_empty}
 use Rattle.std.specs.Prelude.{ℕ, suc, ◌≡◌, Bool, false, List}
@@ -22,17 +22,17 @@ pub record BothLive (c : ℕ) (G : Limits) (R : ℕ → Bool) (I : Limits) (w : 
   pub guarded : is_empty (guard_met c G w) ≡ false
   pub entered : is_empty (arrived c G R I w) ≡ false
 
--- r is a step back from the state s: its state is in w and within the guard, reset it is within the invariant, and waiting makes it s
+-- r is a step back from the valuation s: its valuation is in w and within the guard, reset it is within the invariant, and waiting makes it s
 pub record SteppedBack (c : ℕ) (G : Limits) (R : ℕ → Bool) (I : Limits) (w : Work) (s : List ℕ) (r : StepBack) : Type 0 where
-  pub inside : Has 1 0 c w (clocks_of r.state)
-  pub guard : Within 1 0 c G (clocks_of r.state)
+  pub inside : Has 1 0 c w (clocks_of r.valuation)
+  pub guard : Within 1 0 c G (clocks_of r.valuation)
   pub after : ℕ → ℕ
-  pub put : Put (suc c) R (clocks_of r.state) after
+  pub put : Put (suc c) R (clocks_of r.valuation) after
   pub arrives : Within 1 0 c I after
   pub waits : Waits (suc c) r.wait after (clocks_of s)
   pub still : Within 1 0 c I (clocks_of s)
 
--- the valuation v is reached from a state of w
+-- the valuation v is reached from a valuation of w
 pub record Reached (c : ℕ) (G : Limits) (R : ℕ → Bool) (I : Limits) (w : Work) (v : ℕ → ℕ) : Type 0 where
   pub before : ℕ → ℕ
   pub inside : Has 1 0 c w before

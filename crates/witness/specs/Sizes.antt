@@ -4,7 +4,7 @@ use Rattle.zones.specs.declared.pair.Pair.{Pair}
 use Rattle.zones.specs.Zones.{pair_at}
 use Rattle.witness.specs.Witnesses.{clocks_of}
 
--- no clock of a state is above C
+-- no clock of a valuation is above C
 abbrev pub AllUpTo : ℕ → List ℕ → Type 0
 AllUpTo C s = (x : ℕ) → clocks_of s x ≤ C
 

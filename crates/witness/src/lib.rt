@@ -7,7 +7,7 @@ ghost use Rattle.std.specs.Prelude.{◌≡◌, ◌-◌, ◌*◌, ◌<◌, ◌≤
 ghost use Rattle.runs.specs.Limits.{scale};
 ghost use Rattle.zones.specs.Zones.{set_of};
 ghost use Rattle.witness.specs.Sizes.{AllUpTo, Spans};
-ghost use Rattle.witness.specs.Witnesses.{wait_to, earlier_of, least_to, state_before, landing_of, back_of};
+ghost use Rattle.witness.specs.Witnesses.{wait_to, earlier_of, least_to, valuation_before, landing_of, back_of};
 
 use zones::pair::Pair;
 
@@ -41,7 +41,7 @@ pub struct Crossing {
 #[derive(Clone, Copy)]
 pub struct Back {
     pub wait: u64,
-    pub state: Valuation,
+    pub valuation: Valuation,
     pub ghost short: { wait ≤ 2 * scale },
 }
 
@@ -54,7 +54,7 @@ impl Valuation {
     }
 
     // The valuation before the wait, of the clocks of a square of that size.
-    #[tactic(auto, unfolding(crate::specs::Witnesses::places_of), using(crate::proofs::Turns::state_next))]
+    #[tactic(auto, unfolding(crate::specs::Witnesses::places_of), using(crate::proofs::Turns::valuation_next))]
     fn earlier(self, wait: u64, size: usize) -> Valuation
         requires { size ≤ 9 }
         ensures { result.clocks ≡ earlier_of self.clocks wait (size - 1) }
@@ -69,7 +69,7 @@ impl Valuation {
 
 impl Square {
     // A valuation of it: each clock at its least.
-    #[tactic(auto, unfolding(crate::specs::Witnesses::places_of), using(crate::proofs::Parts::row_less, crate::proofs::Turns::state_next))]
+    #[tactic(auto, unfolding(crate::specs::Witnesses::places_of), using(crate::proofs::Parts::row_less, crate::proofs::Turns::valuation_next))]
     pub fn landing(self) -> Valuation
         ensures { result.clocks ≡ landing_of self.pairs self.size }
     {
@@ -93,9 +93,9 @@ impl Square {
     }
 
     // The valuation before the jump that resets and leaves u.
-    #[tactic(auto, unfolding(crate::specs::Witnesses::places_of), using(crate::proofs::Turns::state_next))]
-    fn state_before(self, u: Valuation, resets: [bool; 9]) -> Valuation
-        ensures { result.clocks ≡ state_before u.clocks self.pairs (set_of resets) (self.size - 1) }
+    #[tactic(auto, unfolding(crate::specs::Witnesses::places_of), using(crate::proofs::Turns::valuation_next))]
+    fn valuation_before(self, u: Valuation, resets: [bool; 9]) -> Valuation
+        ensures { result.clocks ≡ valuation_before u.clocks self.pairs (set_of resets) (self.size - 1) }
     {
         let mut clocks = [0; 9];
         for x in 1..self.size {
@@ -130,7 +130,7 @@ impl Crossing {
     {
         let wait = self.arrived.wait_before(v);
         let u = v.earlier(wait, self.arrived.size);
-        let state = self.guarded.state_before(u, self.resets);
-        Back { wait, state }
+        let valuation = self.guarded.valuation_before(u, self.resets);
+        Back { wait, valuation }
     }
 }

@@ -81,7 +81,7 @@ module _ {b : List ℕ} {amount : ℕ} {s : List ℤ} (e : Ended b amount s) {o 
     pub back_step : (m : ℕ) (v : List ℕ) (xs : List Step) {i : ℕ} {z : List Pair} {r : StepBack} {o' : Origin} → i ≡ up o.edge
         → z ≡ (source e st h).zone → r ≡ back_along b i z v → o' ≡ origin_of (source e st h).came
         → back_to (witnesses_of b) (suc m) (kept_of b amount) (came_of o) v xs
-        ≡ back_to (witnesses_of b) m (kept_of b amount) (came_of o') r.state (jump i ∷ wait r.wait ∷ xs)
+        ≡ back_to (witnesses_of b) m (kept_of b amount) (came_of o') r.valuation (jump i ∷ wait r.wait ∷ xs)
     unfolding back_to
     back_step m v xs {r = w} f g r p =
         let k = source e st h in
@@ -89,7 +89,7 @@ module _ {b : List ℕ} {amount : ℕ} {s : List ℤ} (e : Ended b amount s) {o 
         let w≡ = r ∙ (λ x. back_along b (i≡ x) (g x) v) in
         let c≡ = ap came_of p ∙ came_back k.came in
         rw (a.came, back_to, nth_tail ks a.parent k a.jumps.kept)
-        (λ x. back_to (witnesses_of b) m ks (sym c≡ x) (sym w≡ x).state (jump (sym i≡ x) ∷ wait (sym w≡ x).wait ∷ xs))
+        (λ x. back_to (witnesses_of b) m ks (sym c≡ x) (sym w≡ x).valuation (jump (sym i≡ x) ∷ wait (sym w≡ x).wait ∷ xs))
 
 -- ---- the buffer: two numbers become x and y
 two_more : (r R : List ℤ) (n : ℕ) (x y : ℤ) → n + 2 ≤ length r → set (set (take (n + 2) r ++ R) n x) (n + 1) y ≡ take n r ++ (x ∷ y ∷ R)
@@ -127,8 +127,8 @@ module _ {b : List ℕ} {amount : ℕ} {r₀ run : List ℤ} {k : ℕ} {o₀ o :
   pub fill_turn : {left' left : ℕ} (i : ℕ) (r : StepBack) {o' : Origin} → left' ≡ left + 1 → 2 * left' + 2 ≤ length r₀
       → Filled b amount r₀ run k o₀ o v left'
       → ((m : ℕ) (xs : List Step) → back_to (witnesses_of b) (suc m) (kept_of b amount) (came_of o) v xs
-      ≡ back_to (witnesses_of b) m (kept_of b amount) (came_of o') r.state (jump i ∷ wait r.wait ∷ xs))
-      → Filled b amount r₀ (set (set run (2 * left + 2) (pos i)) (2 * left + 2 + 1) (pos r.wait)) k o₀ o' r.state left
+      ≡ back_to (witnesses_of b) m (kept_of b amount) (came_of o') r.valuation (jump i ∷ wait r.wait ∷ xs))
+      → Filled b amount r₀ (set (set run (2 * left + 2) (pos i)) (2 * left + 2 + 1) (pos r.wait)) k o₀ o' r.valuation left
   fill_turn {left'} {left} i r e l d step =
       let one : left' ≡ suc left = omega (arith, e) in
       let rest : back_to (witnesses_of b) (suc left) (kept_of b amount) (came_of o) v d.steps ≡ run_of b (state_of b amount) (came_of o₀) =

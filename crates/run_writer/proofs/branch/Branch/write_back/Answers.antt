@@ -33,7 +33,7 @@ two_set l i j x y = length-set (set l i x) j y ∙ length-set l i x
 stepped : {x y : Branch} {j : Jump} → Goes x j y → {A : Automaton} {S : Bor (List ℤ)} → x.automaton ≡ A → x.store ≡ S → (v : List ℕ) {r : StepBack}
     → r ≡ back_over j v → (m : ℕ) (xs : List Step)
     → back_to (witnesses_of A.bytes.now) (suc m) (kept_of A.bytes.now (length S.now)) (came_of x.origin) v xs
-    ≡ back_to (witnesses_of A.bytes.now) m (kept_of A.bytes.now (length S.now)) (came_of y.origin) r.state (jump j.edge ∷ wait r.wait ∷ xs)
+    ≡ back_to (witnesses_of A.bytes.now) m (kept_of A.bytes.now (length S.now)) (came_of y.origin) r.valuation (jump j.edge ∷ wait r.wait ∷ xs)
 stepped g ea es v e m xs = rw (← ea, ← es, e) (g.step m v xs)
 
 -- ---- before the first turn

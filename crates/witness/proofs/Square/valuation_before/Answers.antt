@@ -1,8 +1,8 @@
--- `state_before` meets its contract: no clock is above its bound.
+-- `valuation_before` meets its contract: no clock is above its bound.
 use native.Mathlib.Omega.{arith}
 use Rattle.runs.specs.Limits.{scale}
 use Rattle.witness.proofs.Sizes.{before_most}
-use Rattle.witness.proofs.Square.state_before.Goals as goal
+use Rattle.witness.proofs.Square.valuation_before.Goals as goal
 
 pub invariant_of-result : goal.invariant_of-result
 invariant_of-result c = record {

@@ -1,9 +1,9 @@
--- The loop of `state_before`: the clocks before x are as before the jump.
+-- The loop of `valuation_before`: the clocks before x are as before the jump.
 use Prim.Native.Nat.{◌-◌, ◌≤◌}
 use mathlib.Core.Path.{◌≡◌}
 use Rattle.zones.specs.Zones.{set_of}
 use Rattle.witness.specs.Witnesses.{places_of, least_to}
-use Rattle.witness.proofs.Square.state_before.Given as goal
+use Rattle.witness.proofs.Square.valuation_before.Given as goal
 
 abbrev pub invariant-loop-x : goal.invariant-loop-x
 invariant-loop-x l =
