@@ -99,6 +99,8 @@ fn headed(location: usize, origin: Origin) -> [i32; LONGEST]
 }
 
 // The slot of a zone, and zeros after it.
+// Its caller cuts them off. As an ArrayVec it proves, too, but a search of three clocks executes 2 % more, 833 M instructions for 815 M, and one of
+// eight 0.4 %: it keeps its length at each push.
 #[tactic(auto, using(crate::proofs::slot::Loops::encode_turns))]
 pub fn encode(location: usize, origin: Origin, z: [Pair; 81], size: usize) -> [i32; LONGEST]
     requires size_bound { (size ≤ 9) × (location < 256) }
