@@ -1,4 +1,6 @@
 // Two slots compared: containment, how one lies inside the other, and the largest error count of one.
+// Slots are parts of the store that C lends, compared where they lie. A type for them would be made anew at each comparison, its facts shown
+// there, though `is_within`, which runs most, asks only lengths; what asks more names a record for it (Readable, ComparableSlots).
 ghost use Rattle.std.specs.Prelude.{◌≡◌, ◌≤◌, ◌<◌, length};
 ghost use Rattle.slots.specs.Slots.{fields, p_at, pair_count};
 ghost use Rattle.slots.specs.Containing.{compare_numbers, within_slots, inside_of, largest_slot, Readable, ComparableSlots};

@@ -7,7 +7,7 @@ ghost use Rattle.zones.specs.Integers.{up};
 ghost use Rattle.zones.specs.Ranges.{AllBounded, Bounded, last_counts};
 ghost use Rattle.runs.specs.Limits.{scale};
 ghost use Rattle.slots.specs.Slots.{fields, slot_length, spare, m_at, p_at, no_origin, origin_along, is_along, head_of, slot_of};
-ghost use Rattle.slots.specs.Slots.{slot_origin, slot_pair, zone_of};
+ghost use Rattle.slots.specs.Slots.{slot_location, slot_origin, slot_pair, zone_of};
 ghost use Rattle.encoding.specs.Placing.{placed};
 
 use encoding::put;
@@ -99,6 +99,8 @@ fn headed(location: usize, origin: Origin) -> [i32; LONGEST]
 }
 
 // The slot of a zone, and zeros after it.
+// Its caller cuts them off. As an ArrayVec it proves, too, but a search of three clocks executes 2 % more, 833 M instructions for 815 M, and one of
+// eight 0.4 %: it keeps its length at each push.
 #[tactic(auto, using(crate::proofs::slot::Loops::encode_turns))]
 pub fn encode(location: usize, origin: Origin, z: [Pair; 81], size: usize) -> [i32; LONGEST]
     requires size_bound { (size ≤ 9) × (location < 256) }
@@ -121,6 +123,14 @@ fn put_pair(slot: &mut [i32; LONGEST], t: usize, q: Pair)
 {
     slot[FIRST_M + 2 * t] = q.m as i32;
     slot[FIRST_P + 2 * t] = q.p as i32;
+}
+
+// The location of a slot's zone.
+pub fn location_of(slot: &[i32]) -> i32
+    requires { fields ≤ length slot.now }
+    ensures { result ≡ slot_location slot.now }
+{
+    slot[0]
 }
 
 // Where the zone of a slot came from.

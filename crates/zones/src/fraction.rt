@@ -4,7 +4,7 @@ ghost use Rattle.zones.specs.Fractions.{lowered_by, gcd_of, lowest_terms};
 ghost use Rattle.zones.specs.Ranges.{Fits32};
 
 // n/d: the error e/s must stay below it.
-// A slot has any two numbers, and lowest terms are of any: so it is what multiplies that asks Fits32, and not the type.
+// What multiplies asks Fits32: the threshold of two Small pairs need not fit, and lowest terms are of any two numbers, so the type does not carry it.
 #[derive(Clone, Copy)]
 pub struct Fraction {
     pub n: u64,
@@ -12,7 +12,7 @@ pub struct Fraction {
 }
 
 impl Fraction {
-    // It is above every other.
+    // Document 01: "It starts at 1/0, no limit". It is above every other, so nothing that lowers a fraction asks whether there is one.
     pub const NO_LIMIT: Fraction = Fraction { n: 1, d: 0 };
 
     // The lower of the two; on equality the one that is there.
@@ -32,20 +32,19 @@ impl Fraction {
     pub fn lowest_terms(self) -> Fraction
         ensures { result ≡ lowest_terms self }
     {
-        let a = self.n;
-        let b = self.d;
-        let g = gcd(a, b);
+        let g = gcd(self.n, self.d);
         // 0/0 has nothing to divide by; by 1 there is no need to.
         if g <= 1 {
             return self;
         }
-        let n = a / g;
-        let d = b / g;
-        Fraction { n, d }
+        Fraction {
+            n: self.n / g,
+            d: self.d / g,
+        }
     }
 }
 
-// The fraction is lowered where it stands.
+// The fraction is lowered where it stands. `lowered` is the core by value, this the one thin function that it is lent to: document 01's form.
 pub(crate) fn lower(f: &mut Fraction, o: Fraction)
     requires { Fits32 f.old × Fits32 o }
     ensures { f.new ≡ lowered_by f.old o }

@@ -12,7 +12,7 @@ use crate::fraction::Fraction;
 use std::cmp::Ordering;
 
 // A pair stands for m + p × error. Of two pairs the smaller has the smaller m; at equal m, the smaller p.
-// A slot has any two numbers, and any two pairs are compared: so it is what adds and subtracts that asks Small, and not the type.
+// What adds and subtracts asks Small: a sum of two Small pairs need not be Small, so with Small in the type `sum` would still ask for its result's.
 #[derive(Clone, Copy, PartialEq, Eq)]
 pub struct Pair {
     pub m: i64,

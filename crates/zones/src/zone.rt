@@ -6,7 +6,7 @@ ghost use Rattle.zones.specs.Ranges.{LimitsReady};
 use crate::fraction::{Fraction, lower};
 use crate::pair::Pair;
 
-// A square of pairs, nine to a row, and the running fraction.
+// A square of pairs, nine to a row, and the running fraction: document 01's fixed array for up to nine indices, passed and returned by value.
 #[derive(Clone, Copy)]
 pub struct Work {
     pub zone: [Pair; 81],

@@ -39,12 +39,12 @@ pair_plain k h =
     (plain ((17 * (k / 9) + 13 * (k % 9)) % 31 + 1) ((13 * (k / 9) + 3 * (k % 9)) % 29) (omega arith) (omega arith))
 
 -- ---- the square
-places_size : (k : ℕ) → length (bench_places k) ≡ 81
+pub places_size : (k : ℕ) → length (bench_places k) ≡ 81
 unfolding bench_places first_work
 places_size zero = length-replicate 81 zero_pair
 places_size (suc k) = length-set (bench_places k) k (bench_pair k) ∙ places_size k
 
-places_at : (k j : ℕ) → k ≤ 81 → j < k → get_or (bench_places k) j zero_pair ≡ bench_pair j
+pub places_at : (k j : ℕ) → k ≤ 81 → j < k → get_or (bench_places k) j zero_pair ≡ bench_pair j
 unfolding bench_places
 places_at zero j hk hj = let z : ⊥ = omega arith in absurd z
 places_at (suc k) j hk hj = go (ℕ_discrete j k) (places_at k j (omega arith))

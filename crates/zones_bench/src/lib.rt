@@ -1,14 +1,18 @@
 // Reductions of a fixed zone, many times over, for a benchmark (bench/README.md).
 #![tactic(auto)]
 
-ghost use Rattle.std.specs.Prelude.{◌≡◌, ◌<◌, ◌≤◌};
+ghost use Rattle.std.specs.Prelude.{◌≡◌, ◌<◌, ◌≤◌, ◌*◌};
 ghost use Rattle.std.proofs.Props.{props};
-ghost use Rattle.zones_bench.specs.Bench.{bench_pair, bench_square, bench_work, probe_of, bench_once, bench_total, bench_of};
+ghost use Rattle.zones_bench.specs.Bench.{bench_pair, bench_square, bench_work, probe_of, bench_once, bench_total, bench_of, prime};
 
+use std::array;
 use zones::fraction::Fraction;
 use zones::pair::Pair;
 use zones::reduction::Unreduced;
 use zones::zone::Work;
+
+// The checksum's modulus.
+const PRIME: u64 = 1000003;
 
 // A checksum over `times` reductions of a zone of `size` indices; 0 where there is no such zone.
 #[unsafe(no_mangle)]
@@ -26,7 +30,8 @@ pub extern "C" fn zones_bench_reduce(size: usize, times: u64) -> u64
     bench.total(times)
 }
 
-// The square that every reduction begins with, but for the entry that is varied, and how many of its indices are reduced.
+// The square that every reduction begins with, but for the entry that is varied, and how many of its indices are reduced: document 01's fixed
+// array, and the size that C gives.
 #[derive(Drop)]
 struct Bench {
     square: [Pair; 81],
@@ -43,7 +48,7 @@ impl Bench {
     {
         let mut sum: u64 = 0;
         for t in 0..times {
-            sum = (sum + self.once(t)) % 1000003;
+            sum = (sum + self.once(t)) % PRIME;
         }
         sum
     }
@@ -51,7 +56,7 @@ impl Bench {
     // The probe after one reduction.
     #[tactic(auto, using(crate::proofs::Filling::work_ready), unfolding(crate::specs::Bench::bench_once))]
     fn once(&self, t: u64) -> u64
-        ensures { (result ≡ bench_once self.now.size t) × (result < 2000006) }
+        ensures { (result ≡ bench_once self.now.size t) × (result < 2 * prime) }
     {
         let unreduced = Unreduced {
             work: self.varied(t),
@@ -80,22 +85,17 @@ impl Bench {
     // What the checksum takes of a reduction: the error count of entry (0, size − 1), and the fraction's n.
     #[tactic(auto, using(crate::proofs::Filling::first_row), unfolding(crate::specs::Bench::probe_of))]
     fn probe(&self, w: Work) -> u64
-        ensures { (result ≡ probe_of self.now.size w) × (result < 2000006) }
+        ensures { (result ≡ probe_of self.now.size w) × (result < 2 * prime) }
     {
-        w.zone[self.size - 1].p % 1000003 + w.fraction.n % 1000003
+        w.zone[self.size - 1].p % PRIME + w.fraction.n % PRIME
     }
 }
 
 // The square, entry by entry.
-#[tactic(auto, unfolding(crate::specs::Bench::bench_places))]
 fn square() -> [Pair; 81]
     ensures { result ≡ bench_square }
 {
-    let mut z = Work::first().zone;
-    for at in 0..81 {
-        z[at] = pair_of(at);
-    }
-    z
+    array::from_fn(pair_of)
 }
 
 // The entry at a place.
