@@ -36,9 +36,8 @@ pub fn make_empty(cache: &mut [u8]) -> Result<(), Refusal>
     if cache.len() < HEADER {
         return Err(Refusal::CacheFull);
     }
-    let layout = Layout::version_1();
     put(cache, 0, &bytes_of(HEADER as u32));
-    put(cache, VERSION_AT, &[layout.version]);
+    put(cache, VERSION_AT, &[Layout::version_1().version]);
     Ok(())
 }
 
