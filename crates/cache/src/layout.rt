@@ -4,6 +4,8 @@ ghost use Rattle.cache.specs.Layouts.{Laid};
 use encoding::be32;
 
 // The header: four bytes of used length, then the version.
+pub const USED_AT: usize = 0;
+
 pub const VERSION_AT: usize = 4;
 
 pub const HEADER: usize = 5;
