@@ -4,12 +4,14 @@ ghost use Rattle.cache.specs.Layouts.{Laid};
 use encoding::be32;
 
 // The header: four bytes of used length, then the version.
+pub const USED_AT: usize = 0;
+
 pub const VERSION_AT: usize = 4;
 
 pub const HEADER: usize = 5;
 
 // The largest length that four bytes say.
-pub const LONGEST: usize = 4294967295;
+pub const LONGEST: usize = u32::MAX as usize;
 
 // The version's number, where the fields of a record stand, and the bytes before its automaton.
 #[derive(Clone, Copy)]

@@ -1,5 +1,4 @@
 // The cache of verdicts, document 01's shelf: asked first, and filled by the search.
-// The used length is u32 in the bytes and usize in the code, which have no `From` for each other: it is cast.
 #![tactic(auto)]
 
 mod layout;
@@ -8,7 +7,7 @@ mod records;
 
 ghost use Rattle.std.specs.Prelude.{◌≡◌, ◌+◌, ◌≤◌, false, length, MatchOption};
 ghost use Rattle.canonical.specs.Writing.{form_buffer};
-ghost use Rattle.cache.specs.Layouts.{header_length};
+ghost use Rattle.cache.specs.Layouts.{header_length, longest};
 ghost use Rattle.cache.specs.Versions.{version1};
 ghost use Rattle.cache.specs.Entries.{entry_length, entry_record};
 ghost use Rattle.cache.specs.Caches.{used_of, sound_as, sound};
@@ -21,11 +20,20 @@ ghost use Rattle.cache.specs.Growing.{Carried};
 use automata::refusals::Refusal;
 use canonical::write_canonical;
 use encoding::{be32, bytes_of, put};
-use layout::{HEADER, LONGEST, Layout, VERSION_AT};
+use layout::{HEADER, LONGEST, Layout, USED_AT, VERSION_AT};
 use record::Entry;
 use records::Records;
 use search::search;
 use search::verdict::Answer;
+
+// The used length, which is u32 in the bytes and usize in the code: it is cast there and back, since they have no `From` for each other.
+fn used(cache: &[u8]) -> usize
+    requires { header_length ≤ length cache.now }
+    ensures value { result ≡ used_of cache.now }
+    ensures fits { result ≤ longest }
+{
+    be32(cache, USED_AT) as usize
+}
 
 // An empty cache, or 12 if it has no room.
 #[tactic(auto, unfolding(crate::specs::Consulting::make_empty_reply, crate::specs::Consulting::make_empty_as))]
@@ -36,9 +44,8 @@ pub fn make_empty(cache: &mut [u8]) -> Result<(), Refusal>
     if cache.len() < HEADER {
         return Err(Refusal::CacheFull);
     }
-    let layout = Layout::version_1();
-    put(cache, 0, &bytes_of(HEADER as u32));
-    put(cache, VERSION_AT, &[layout.version]);
+    put(cache, USED_AT, &bytes_of(HEADER as u32));
+    put(cache, VERSION_AT, &[Layout::version_1().version]);
     Ok(())
 }
 
@@ -52,8 +59,7 @@ fn open_as(cache: &[u8], layout: Layout) -> Option<Records<'_>>
     if cache.len() < HEADER {
         return None;
     }
-    let used = be32(cache, 0) as usize;
-    let bytes = cache.get(HEADER..used)?;
+    let bytes = cache.get(HEADER..used(cache))?;
     let records = Records { bytes, layout };
     if cache[VERSION_AT] == layout.version && records.are_sound() && records.all_distinct() {
         Some(records)
@@ -100,10 +106,10 @@ fn append(cache: &mut [u8], entry: &Entry<'_>)
     requires { Room cache.old (entry_length entry.now) }
     ensures { cache.new ≡ appended cache.old (entry_record entry.now) }
 {
-    let used = be32(cache, 0) as usize;
+    let used = used(cache);
     let next = used + entry.length();
     entry.write(&mut cache[used..]);
-    put(cache, 0, &bytes_of(next as u32));
+    put(cache, USED_AT, &bytes_of(next as u32));
 }
 
 // The search of an automaton that is not in the sound cache: a verdict is filed, a refusal is not.
@@ -117,7 +123,7 @@ fn search_and_file(
     requires used_fits { (header_length ≤ used_of cache.old) × (used_of cache.old ≤ length cache.old) }
     ensures { Searches layout cache.old automaton.now store.old result cache.new store.new }
 {
-    let used = be32(cache, 0) as usize;
+    let used = used(cache);
     let length = layout.head + automaton.len();
     if cache.len() - used < length || LONGEST - used < length {
         return Err(Refusal::CacheFull);

@@ -28,7 +28,8 @@ use search::verdict::{Answer, Findings, Numbers};
 use zones::fraction::Fraction;
 
 // What a cache tells beside an answer: no exact fraction and no counts of dropped zones.
-fn filed(answer: Answer) -> Findings
+// They are zeros and no Option: include/robustness.h gives C eight numbers of every answer, and 0 for those that a cache has not.
+fn filed_findings(answer: Answer) -> Findings
     ensures { result ≡ filed answer }
 {
     Findings {
@@ -64,7 +65,7 @@ fn numbers(found: Findings) -> [u64; 8]
 fn write_over(numbers: [u64; 8], answer: &mut [u64])
     ensures { answer.new ≡ over numbers answer.old }
 {
-    let n = answer.len().min(8);
+    let n = answer.len().min(numbers.len());
     answer[..n].copy_from_slice(&numbers[..n]);
 }
 
@@ -78,6 +79,8 @@ fn number_of<T>(reply: &Result<T, Refusal>) -> u32
     }
 }
 
+// ---- what is told
+// One generic function in place of the three would take a closure that writes into what is lent: its contract would be as long as theirs together.
 // What is found: 0 with its numbers, or the refusal's number alone.
 #[tactic(auto, unfolding(crate::specs::Replies::findings_told))]
 fn tell(found: Result<Findings, Refusal>, answer: &mut [u64]) -> u32
@@ -116,7 +119,7 @@ fn tell_lookup(
     if let Ok(on_file) = found {
         *is_filed = u64::from(on_file.is_some());
         if let Some(x) = on_file {
-            write_over(numbers(filed(x)), answer);
+            write_over(numbers(filed_findings(x)), answer);
         }
     }
     number_of(&found)
@@ -244,5 +247,8 @@ pub extern "C" fn robustness_consult(
         ≡ told (consult_answer cache.old automaton.now (length form.old) (length store.old))
         answer.old }
 {
-    tell(consult(cache, automaton, form, store).map(filed), answer)
+    tell(
+        consult(cache, automaton, form, store).map(filed_findings),
+        answer,
+    )
 }

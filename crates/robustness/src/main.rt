@@ -14,12 +14,15 @@ use search::search;
 use std::io;
 use std::io::{Read, Write};
 
+// How many bytes of the input count: one more than an automaton has.
+const FRONT: usize = 21260;
+
 // The bytes of the input that count: the first 21,260, or all where there are fewer.
-fn read_front<R: Read>(input: &mut R) -> io::Result<ArrayVec<u8, 21260>>
+fn read_front<R: Read>(input: &mut R) -> io::Result<ArrayVec<u8, FRONT>>
     ensures { IfSome (R.remaining input.old) (λ all. IfOk result (λ bytes. bytes.items ≡ take 21260 all)) }
 {
     let mut bytes = ArrayVec::new();
-    io::copy(&mut input.take(21260), &mut bytes)?;
+    io::copy(&mut input.take(FRONT as u64), &mut bytes)?;
     Ok(bytes)
 }
 

@@ -56,9 +56,13 @@ impl<'a> Ready<'a> {
         if u64::from(SCALE) < t {
             return None;
         }
-        let mut state = self.state;
-        wait(&mut state.clocks, t, self.automaton.clocks);
-        Ready::at(self.automaton, state)
+        let mut clocks = self.state.clocks;
+        wait(&mut clocks[..self.automaton.clocks], t);
+        let later = State {
+            clocks,
+            ..self.state
+        };
+        Ready::at(self.automaton, later)
     }
 
     // The state after a jump by edge z: the guard must hold before the reset, the invariant at arrival after it.
@@ -67,18 +71,20 @@ impl<'a> Ready<'a> {
         ensures { Leads self.now.automaton.now.bytes.now
             (jump_move self.now.automaton.now.bytes.now self.now.state (capped z)) result }
     {
-        let automaton = self.automaton;
         let i = usize::try_from(z).ok()?;
-        if automaton.edges <= i {
+        if self.automaton.edges <= i {
             return None;
         }
-        let edge = automaton.edge(i);
-        if edge.from != self.state.location || !self.state.is_within(&automaton.guard(i)) {
+        let edge = self.automaton.edge(i);
+        if edge.from != self.state.location || !self.state.is_within(&self.automaton.guard(i)) {
             return None;
         }
-        let mut arrival = self.state;
-        arrival.location = edge.to;
-        reset(&mut arrival.clocks, edge.resets, automaton.clocks);
-        Ready::at(automaton, arrival)
+        let mut clocks = self.state.clocks;
+        reset(&mut clocks[..self.automaton.clocks], edge.resets);
+        let arrival = State {
+            location: edge.to,
+            clocks,
+        };
+        Ready::at(self.automaton, arrival)
     }
 }

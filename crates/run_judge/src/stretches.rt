@@ -61,6 +61,7 @@ pub(crate) fn passes<'a>(automaton: &'a Automaton<'a>, numbers: &'a [i64]) -> bo
         return false;
     };
     let mut left = Left { ready, numbers };
+    // A stretch without an answer has taken numbers. The loop ends by the answer: a `while` would have no condition but the same call.
     loop {
         if let Some(passed) = wait_step(&mut left, FURTHER) {
             return passed;

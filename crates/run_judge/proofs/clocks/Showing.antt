@@ -1,9 +1,9 @@
 -- What the tests and the steps of the clocks show, clock by clock.
 -- Assumes nothing.
 use Prim.Native.Nat.{ℕ, zero, suc, ◌+◌, ◌≤◌, ◌<◌}
-use mathlib.Core.Path.{◌≡◌, refl, sym, ◌∙◌, subst}
+use mathlib.Core.Path.{◌≡◌, refl, sym, ap, ◌∙◌, subst}
 use mathlib.Core.Bool.{Bool, true, false, cond}
-use mathlib.Core.List.{List}
+use mathlib.Core.List.{List, ◌++◌}
 use mathlib.Core.Logic.{◌↔◌, ◌⊎◌, inl, inr, ⊎_elim}
 use native.Mathlib.Omega.{arith}
 use native.Mathlib.Numerals.{add-one}
@@ -11,11 +11,13 @@ use native.Mathlib.Decide.{ℕ_discrete}
 use native.Mathlib.Nat.{not-suc-le-zero}
 use borrow.Author.Tests.{ltb-false, leb-true, le-leb, le-ltb}
 use lib.Dec.{ltb, leb, eqb}
-use lib.ListN.{length, get_or, set, length-set}
-use lib.Seq.{get_or-set_same, get_or-set_other}
+use lib.ListN.{length, get_or, set, take, drop, length-set, take-append-drop}
+use lib.Seq.{get_or-set_same, get_or-set_other, get_or-take, set-append_left, length-take-le}
+use Rattle.std.proofs.Common.{Fits, w64}
+use Rattle.runs.specs.Limits.{scale}
 use Rattle.runs.proofs.Contradictions.{true_false}
 use Rattle.automata.specs.Automata.{lo_at, hi_at, no_upper}
-use Rattle.run_judge.specs.Clocks.{holds, within_at, waited, reset_by}
+use Rattle.run_judge.specs.Clocks.{holds, within_at, waited, reset_by, LowClocks}
 
 -- ---- one limit
 pub record Held (lo hi y : ℕ) : Type 0 where
@@ -136,3 +138,40 @@ module _ (R : ℕ → Bool) (k : ℕ) (c d : List ℕ) (e : d ≡ reset_by R k c
 
 -- the ways through a turn of a reset
 pub ruleset reset_turns = (reset_put, reset_kept)
+
+-- a clock that the wait has not come to is as low as it was, so its sum fits
+pub waited_fits : (t k : ℕ) (c d : List ℕ) → d ≡ waited t k c → k < length d → LowClocks (length c) c → t ≤ scale → Fits w64 (get_or d k 0 + t)
+waited_fits t k c d e h low small =
+    let s = waited_changes t c in
+    let same : get_or d k 0 ≡ get_or c k 0 = ap (λ (l : List ℕ). get_or l k 0) e ∙ changed_past s k k (omega arith) in
+    let l : length d ≡ length c = ap length e ∙ changed-length s k in
+    omega (arith, same, low k (omega (arith, l, h)))
+
+-- ---- the clocks of an automaton are lent from the front of eight
+module _ (n : ℕ) (c : List ℕ) (h : n ≤ length c) where
+  waited_front : (t k : ℕ) → k ≤ n → waited t k (take n c) ++ drop n c ≡ waited t k c
+  unfolding waited
+  waited_front t zero l = take-append-drop n c
+  waited_front t (suc k) l =
+      sym (set-append_left (waited t k (take n c)) (drop n c) k _
+      (omega (arith, changed-length (waited_changes t (take n c)) k, length-take-le n c h)))
+      ∙ rw (get_or-take n c k 0 l, waited_front t k (omega arith)) refl
+
+  pub lent_waited : (t : ℕ) (d : List ℕ) → d ≡ waited t (length (take n c)) (take n c) → d ++ drop n c ≡ waited t n c
+  lent_waited t d e = rw (e, length-take-le n c h) (waited_front t n (omega arith))
+
+  reset_front : (R : ℕ → Bool) (k : ℕ) → k ≤ n → reset_by R k (take n c) ++ drop n c ≡ reset_by R k c
+  unfolding reset_by
+  reset_front R zero l = take-append-drop n c
+  reset_front R (suc k) l = go (R k) (reset_front R k (omega arith))
+    where
+      go : (t : Bool) → reset_by R k (take n c) ++ drop n c ≡ reset_by R k c
+          → cond t (set (reset_by R k (take n c)) k 0) (reset_by R k (take n c)) ++ drop n c ≡ cond t (set (reset_by R k c) k 0) (reset_by R k c)
+      go false e = e
+      go true e =
+          sym (set-append_left (reset_by R k (take n c)) (drop n c) k 0
+          (omega (arith, changed-length (reset_changes R (take n c)) k, length-take-le n c h)))
+          ∙ ap (λ (l : List ℕ). set l k 0) e
+
+  pub lent_reset : (R : ℕ → Bool) (d : List ℕ) → d ≡ reset_by R (length (take n c)) (take n c) → d ++ drop n c ≡ reset_by R n c
+  lent_reset R d e = rw (e, length-take-le n c h) (reset_front R n (omega arith))

@@ -3,10 +3,11 @@
 use Prim.Native.Nat.{ℕ, suc, ◌≤◌, ◌<◌}
 use mathlib.Core.Path.{◌≡◌, refl, sym, ap, ◌∙◌}
 use mathlib.Core.Bool.{Bool, true, false, cond}
-use mathlib.Core.List.{List}
+use mathlib.Core.List.{List, ◌++◌}
 use native.Mathlib.Omega.{arith}
 use borrow.Author.Tests.{lt-ltb, le-ltb, le-leb, lt-leb, eq-eqb, ne_eqb}
 use lib.IntN.{ℤ}
+use lib.ListN.{length, take, drop}
 use Rattle.std.specs.Prelude.{⊤, Option, Some, None, MatchOption}
 use Rattle.runs.specs.Limits.{scale}
 use Rattle.automata.specs.Automata.{clocks, edges, from}
@@ -18,6 +19,7 @@ use Rattle.run_judge.specs.declared.state.State.{State}
 use Rattle.run_judge.specs.Clocks.{within_at, meets_guard, waited, reset_by, marked_in}
 use Rattle.run_judge.specs.Moves.{arrived, wait_move, edge_move, jump_move}
 use Rattle.run_judge.specs.Numbers.{capped}
+use Rattle.run_judge.proofs.clocks.Showing.{lent_waited, lent_reset}
 use Rattle.run_judge.proofs.numbers.Numbers.{natural, natural_is, capped_beyond, capped_natural}
 
 -- an invariant or a guard, as it is fetched
@@ -31,10 +33,11 @@ module _ (b : List ℕ) (q : State) (z : ℤ) where
   unfolding wait_move
   wait_none e h = rw (lt-ltb scale (capped z) (capped_beyond z (suc scale) (omega arith) e h)) refl
 
-  pub wait_is : {t : ℕ} → natural z ≡ Some t → t ≤ scale → {n : ℕ} {d : List ℕ} → n ≡ clocks b → d ≡ waited t n q.clocks →
-      wait_move b q (capped z) ≡ arrived b (record { location = q.location; clocks = d })
+  pub wait_is : {t : ℕ} → natural z ≡ Some t → t ≤ scale → {n : ℕ} {d : List ℕ} → n ≡ clocks b → n ≤ length q.clocks →
+      d ≡ waited t (length (take n q.clocks)) (take n q.clocks) →
+      wait_move b q (capped z) ≡ arrived b (record { location = q.location; clocks = d ++ drop n q.clocks })
   unfolding wait_move
-  wait_is {t} e h en ed = rw (capped_natural z e h) (rw (le-ltb scale t h) (rw ed (rw en refl)))
+  wait_is {t} e h en k ed = rw (capped_natural z e h) (rw (le-ltb scale t h) (rw (lent_waited _ q.clocks k t _ ed) (rw en refl)))
 
   -- ---- a jump
   module _ (few : edges b ≤ 256) where
@@ -62,9 +65,10 @@ module _ (b : List ℕ) (q : State) (z : ℤ) where
         pub jump_unguarded : met ≡ false → jump_move b q (capped z) ≡ None
         jump_unguarded m = rw m at at_guard
 
-        pub jump_taken : met ≡ true → {n : ℕ} {d : List ℕ} → n ≡ clocks b → d ≡ reset_by (marked_in g.resets) n q.clocks →
-            jump_move b q (capped z) ≡ arrived b (record { location = g.to; clocks = d })
-        jump_taken m en ed = rw ed (rw en (rw m at at_guard))
+        pub jump_taken : met ≡ true → {n : ℕ} {d : List ℕ} → n ≡ clocks b → n ≤ length q.clocks →
+            d ≡ reset_by (marked_in g.resets) (length (take n q.clocks)) (take n q.clocks) →
+            jump_move b q (capped z) ≡ arrived b (record { location = g.to; clocks = d ++ drop n q.clocks })
+        jump_taken m en k ed = rw (lent_reset _ q.clocks k _ _ ed) (rw en (rw m at at_guard))
 
 -- ---- the ways out of a wait and of a jump
 pub ruleset wait_ways = (natural_is, wait_none)
