@@ -44,7 +44,7 @@ fn pair_count(slot: &[i32]) -> usize
 // Whether each of the new slot's pairs is the smaller or equal beside the old one's. The search
 // spends its time here: it stops at the first pair that is not.
 pub fn is_within(new: &[i32], old: &[i32]) -> bool
-    requires { (fields ≤ length new.now) × (length new.now ≡ length old.now) }
+    requires { (fields ≤ length new.now) × (length new.now ≤ length old.now) }
     ensures { result ≡ within_slots new.now old.now (pair_count new.now) }
 {
     (0..pair_count(new)).all(|t| compare_at(new, old, t).is_le())
