@@ -1,4 +1,5 @@
-// Document 01's card, a timed automaton as bytes: its parts, read where they lie.
+// Document 01's card, a timed automaton as bytes: its parts, read where they lie. That a part is there is asked of callers: the functions on the slice
+// are document 01's form ("a few thin fetch functions call covered ones on the slice"); `Automaton` and `Constraint` carry it.
 ghost use Rattle.std.specs.Prelude.{◌≡◌, ◌+◌, ◌*◌, ◌≤◌, ◌<◌, length};
 ghost use Rattle.automata.specs.Automata.{invariant_in, edge_in, reset_set};
 ghost use Rattle.automata.specs.Opened.{head_of, edge_there, limits_of, upper_of};
@@ -8,7 +9,10 @@ use crate::refusals::SCALE;
 use encoding::{be16, be32};
 
 // The hi of a guard without an upper limit.
-pub const NO_UPPER: u32 = 4294967295;
+pub const NO_UPPER: u32 = u32::MAX;
+
+// The length of the head, with length and version before it.
+pub const HEAD: usize = 11;
 
 // The counts, the start and the target: what stands behind the length and the version.
 #[derive(Clone, Copy)]
@@ -28,7 +32,7 @@ pub struct Edge {
     pub resets: [bool; 9],
 }
 
-// The limits of one clock, as they stand.
+// The limits of one clock, as they stand: `hi` is the number of the bytes, which the tests read; `upper` gives it as an Option.
 #[derive(Clone, Copy)]
 pub struct Limits {
     pub lo: u32,
@@ -58,13 +62,22 @@ impl Head {
 }
 
 // ---- where the parts stand
+// The counts are those of one byte and of two, as read: the length is held against the formula before it is known whether they are in range.
 // The place of the limits of location l, with n clocks.
 #[tactic(auto, unfolding(crate::specs::Automata::invariant_in))]
 pub fn invariant_in(n: usize, l: usize) -> usize
     requires { (n < 256) × (l < 256) }
     ensures { result ≡ invariant_in n l }
 {
-    11 + 8 * n * l
+    HEAD + 8 * n * l
+}
+
+// The bytes of an edge, with n clocks: its ends, its reset byte, its limits.
+pub fn edge_size(n: usize) -> usize
+    requires { n < 256 }
+    ensures { result ≡ 3 + 8 * n }
+{
+    3 + 8 * n
 }
 
 // The place of edge i, with n clocks and m locations.
@@ -73,7 +86,7 @@ pub fn edge_in(n: usize, m: usize, i: usize) -> usize
     requires { (n < 256) × (m < 256) × (i < 65536) }
     ensures { result ≡ edge_in n m i }
 {
-    11 + 8 * n * m + i * (3 + 8 * n)
+    HEAD + 8 * n * m + i * edge_size(n)
 }
 
 // For each clock by its number, whether the byte resets it. Clock 0 is none. Written out it needs no answer; `array::from_fn` needs thirty lines.

@@ -18,6 +18,7 @@ pub(crate) struct Whole<'a> {
 }
 
 impl<'a> Whole<'a> {
+    // Not `Automaton`'s two: these promise that the place is there, too, which the closures of `any` need.
     // The place of the limits of location l, which are there.
     #[tactic(auto, using(crate::proofs::fields::Places::places))]
     fn invariant_at(self, l: usize) -> usize
@@ -41,11 +42,10 @@ impl<'a> Whole<'a> {
     pub(crate) fn no_such_location(self) -> bool
         ensures { result ≡ no_such_location self.entry.bytes.now }
     {
-        let head = self.head;
-        misplaced(head.locations, head.start, head.target)
-            || (0..head.edges).any(|i| {
+        misplaced(self.head.locations, self.head.start, self.head.target)
+            || (0..self.head.edges).any(|i| {
                 let edge = Edge::read(self.bytes, self.edge_at(i));
-                misplaced(head.locations, edge.from, edge.to)
+                misplaced(self.head.locations, edge.from, edge.to)
             })
     }
 
