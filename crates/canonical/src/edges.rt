@@ -49,16 +49,10 @@ impl<'a> Edges<'a> {
     }
 
     // Whether each edge is less than the next.
-    #[tactic(auto, using(crate::proofs::edges::Rising::rising_turns))]
     pub fn is_rising(&self) -> bool
         ensures { result ≡ rising (first_edges self.now.size self.now.bytes.now self.now.count) }
     {
-        for i in 1..self.count {
-            if !less(self.nth(i - 1), self.nth(i)) {
-                return false;
-            }
-        }
-        true
+        (1..self.count).all(|i| less(self.nth(i - 1), self.nth(i)))
     }
 
     // Whether the first two edges fall.

@@ -30,7 +30,11 @@ fn write_edges(form: &mut [u8], order: &Order)
     ensures { form.new ≡ placed order.now.edges.at (listed_bytes order.now.edges.size order.now.edges.bytes.now order.now.numbers.items) form.old }
 {
     for (k, &i) in order.numbers.as_slice().iter().enumerate() {
-        put(form, order.edges.at + k * order.edges.size, order.edges.nth(usize::from(i)));
+        put(
+            form,
+            order.edges.at + k * order.edges.size,
+            order.edges.nth(usize::from(i)),
+        );
     }
 }
 
