@@ -1,12 +1,13 @@
 // Document 01's card, a timed automaton as bytes: its parts, read where they lie. That a part is there is asked of callers: the functions on the slice
 // are document 01's form ("a few thin fetch functions call covered ones on the slice"); `Automaton` and `Constraint` carry it.
 ghost use Rattle.std.specs.Prelude.{◌≡◌, ◌+◌, ◌*◌, ◌≤◌, ◌<◌, length};
-ghost use Rattle.automata.specs.Automata.{invariant_in, edge_in, reset_set};
+ghost use Rattle.automata.specs.Automata.{invariant_in, edge_in, in_byte, reset_set};
 ghost use Rattle.automata.specs.Opened.{head_of, edge_there, limits_of, upper_of};
 ghost use Rattle.automata.specs.Refusals.{out_of_counts, out_of_range};
 
 use crate::refusals::SCALE;
 use encoding::{be16, be32};
+use std::array;
 
 // The hi of a guard without an upper limit.
 pub const NO_UPPER: u32 = u32::MAX;
@@ -89,22 +90,20 @@ pub fn edge_in(n: usize, m: usize, i: usize) -> usize
     HEAD + 8 * n * m + i * edge_size(n)
 }
 
-// For each clock by its number, whether the byte resets it. Clock 0 is none. Written out it needs no answer; `array::from_fn` needs thirty lines.
-#[tactic(auto, unfolding(crate::specs::Automata::reset_set, crate::specs::Automata::firsts, crate::specs::Automata::in_byte))]
+// Whether a reset byte names clock x: bit 0 is clock 1, and clock 0 has none.
+#[tactic(auto, unfolding(crate::specs::Automata::in_byte))]
+fn in_byte(b: u8, x: usize) -> bool
+    requires { x ≤ 8 }
+    ensures { result ≡ in_byte b x }
+{
+    0 < x && (b >> (x - 1)) % 2 == 1
+}
+
+// For each clock by its number, whether the byte resets it.
 fn reset_set(b: u8) -> [bool; 9]
     ensures { result ≡ reset_set b }
 {
-    [
-        false,
-        b % 2 == 1,
-        b / 2 % 2 == 1,
-        b / 4 % 2 == 1,
-        b / 8 % 2 == 1,
-        b / 16 % 2 == 1,
-        b / 32 % 2 == 1,
-        b / 64 % 2 == 1,
-        b / 128 % 2 == 1,
-    ]
+    array::from_fn(|x| in_byte(b, x))
 }
 
 impl Edge {
