@@ -1,6 +1,6 @@
-// Document 01's card, a timed automaton as bytes: its parts, read where they lie. That a part is there is asked of callers: the functions on the slice
-// are document 01's form ("a few thin fetch functions call covered ones on the slice"); `Automaton` and `Constraint` carry it.
-ghost use Rattle.std.specs.Prelude.{◌≡◌, ◌+◌, ◌*◌, ◌≤◌, ◌<◌, length};
+// Document 01's card, a timed automaton as bytes: its parts, read where they lie. That a part is there is asked of callers: functions on the slice
+// are document 01's form ("a few thin fetch functions call covered ones on the slice"), and `Automaton` and `Constraint` carry it.
+ghost use Rattle.std.specs.Prelude.{true, false, ◌≡◌, ◌+◌, ◌*◌, ◌≤◌, ◌<◌, length};
 ghost use Rattle.automata.specs.Automata.{invariant_in, edge_in, in_byte, reset_set};
 ghost use Rattle.automata.specs.Opened.{head_of, edge_there, limits_of, upper_of};
 ghost use Rattle.automata.specs.Refusals.{out_of_counts, out_of_range};
@@ -133,11 +133,19 @@ impl Limits {
         }
     }
 
-    // Whether a lo or a hi is outside its range, which for a guard's hi has one number more: `may_lack` says which range it is.
-    pub(crate) fn out_of_range(self, may_lack: bool) -> bool
-        ensures { result ≡ out_of_range may_lack self.lo self.hi }
+    // Whether an invariant's lo or hi is outside its range.
+    pub(crate) fn invariant_out_of_range(self) -> bool
+        ensures { result ≡ out_of_range false self.lo self.hi }
     {
-        SCALE < self.lo || SCALE < self.hi && !(may_lack && self.hi == NO_UPPER)
+        SCALE < self.lo || SCALE < self.hi
+    }
+
+    // The same of a guard, whose hi may be absent.
+    #[tactic(auto, unfolding(crate::specs::Opened::upper_of))]
+    pub(crate) fn guard_out_of_range(self) -> bool
+        ensures { result ≡ out_of_range true self.lo self.hi }
+    {
+        SCALE < self.lo || self.upper().is_some_and(|hi| SCALE < hi)
     }
 
     // The hi, where there is one.

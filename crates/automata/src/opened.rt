@@ -84,7 +84,7 @@ impl<'a> Automaton<'a> {
         }
     }
 
-    // The guard of edge i.
+    // The guard of edge i. It and the invariant stay two: one for both would take the place, and ask of it what `Constraint` promises.
     #[tactic(auto, using(crate::proofs::fields::Places::places))]
     pub fn guard(&self, i: usize) -> Constraint<'a>
         requires { i < edges self.now.bytes.now }

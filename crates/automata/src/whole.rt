@@ -1,10 +1,11 @@
 // Bytes that are all there, and whether document 01's "Turned down" has 6, 7 or 8 for what they say.
-ghost use Rattle.std.specs.Prelude.{◌≡◌, ◌+◌, ◌*◌, ◌^◌, ◌≤◌, ◌<◌, length};
+ghost use Rattle.std.specs.Prelude.{Bool, ◌≡◌, ◌+◌, ◌*◌, ◌^◌, ◌≤◌, ◌<◌, length};
 ghost use Rattle.automata.specs.Accepted.{Complete};
 ghost use Rattle.automata.specs.Automata.{invariant_at, edge_at};
 ghost use Rattle.automata.specs.Opened.{head_of};
 ghost use Rattle.automata.specs.Refusals.{misplaced, no_such_location, no_such_clock, out_of_range_at, invariant_out_of_range};
 ghost use Rattle.automata.specs.Refusals.{guard_out_of_range, limit_out_of_range};
+ghost use Rattle.automata.specs.Testing.{TestsRange};
 
 use crate::fields::{Edge, Head, Limits, edge_in, invariant_in};
 
@@ -56,24 +57,30 @@ impl<'a> Whole<'a> {
         (0..self.head.edges).any(|i| bound <= u32::from(self.bytes[self.edge_at(i) + 2]))
     }
 
-    // Whether one of the limits at `at` is out of range.
-    fn out_of_range_at(self, may_lack: bool, at: usize) -> bool
-        requires { at + 8 * self.head.clocks ≤ length self.bytes.now }
-        ensures { result ≡ out_of_range_at self.entry.bytes.now may_lack at }
+    // Whether one clock's limits at `at` are out of range, by a test of an invariant's or a guard's.
+    fn out_of_range_at<F: Fn(Limits) -> bool>(self, at: usize, out: F) -> bool
+        requires place { at + 8 * self.head.clocks ≤ length self.bytes.now }
+        requires test { (limits : Limits) → F.pre out limits }
+        ensures { (may_lack : Bool) → TestsRange may_lack (F.post out) → result ≡ out_of_range_at self.entry.bytes.now may_lack at }
     {
-        (0..self.head.clocks).any(|x| Limits::read(self.bytes, at, x + 1).out_of_range(may_lack))
+        (0..self.head.clocks).any(|x| out(Limits::read(self.bytes, at, x + 1)))
     }
 
+    // This and the next stay two: one for both would take a count, a place and a test, which is all that they say.
     fn invariant_out_of_range(self) -> bool
         ensures { result ≡ invariant_out_of_range self.entry.bytes.now }
     {
-        (0..self.head.locations).any(|l| self.out_of_range_at(false, self.invariant_at(l)))
+        (0..self.head.locations).any(|l| {
+            self.out_of_range_at(self.invariant_at(l), Limits::invariant_out_of_range)
+        })
     }
 
     fn guard_out_of_range(self) -> bool
         ensures { result ≡ guard_out_of_range self.entry.bytes.now }
     {
-        (0..self.head.edges).any(|i| self.out_of_range_at(true, self.edge_at(i) + 3))
+        (0..self.head.edges).any(|i| {
+            self.out_of_range_at(self.edge_at(i) + 3, Limits::guard_out_of_range)
+        })
     }
 
     pub(crate) fn limit_out_of_range(self) -> bool
