@@ -100,7 +100,7 @@ impl<'a> Automaton<'a> {
     // Its edge i.
     #[tactic(auto, using(crate::proofs::fields::Places::places))]
     pub fn edge(&self, i: usize) -> Edge
-        requires { i < self.now.edges }
+        requires { i < edges self.now.bytes.now }
         ensures { result ≡ edge_of self.now.bytes.now i }
     {
         Edge::read(self.bytes, self.edge_at(i))
