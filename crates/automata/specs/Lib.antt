@@ -10,3 +10,4 @@ pub mod Canonical
 pub mod Constraints
 pub mod Forms
 pub mod Examples
+pub mod Testing

@@ -1,14 +1,19 @@
-// Document 01's card, a timed automaton as bytes: its parts, read where they lie.
-ghost use Rattle.std.specs.Prelude.{◌≡◌, ◌+◌, ◌*◌, ◌≤◌, ◌<◌, length};
-ghost use Rattle.automata.specs.Automata.{invariant_in, edge_in, reset_set};
+// Document 01's card, a timed automaton as bytes: its parts, read where they lie. That a part is there is asked of callers: functions on the slice
+// are document 01's form ("a few thin fetch functions call covered ones on the slice"), and `Automaton` and `Constraint` carry it.
+ghost use Rattle.std.specs.Prelude.{true, false, ◌≡◌, ◌+◌, ◌*◌, ◌≤◌, ◌<◌, length};
+ghost use Rattle.automata.specs.Automata.{invariant_in, edge_in, in_byte, reset_set};
 ghost use Rattle.automata.specs.Opened.{head_of, edge_there, limits_of, upper_of};
 ghost use Rattle.automata.specs.Refusals.{out_of_counts, out_of_range};
 
 use crate::refusals::SCALE;
 use encoding::{be16, be32};
+use std::array;
 
 // The hi of a guard without an upper limit.
-pub const NO_UPPER: u32 = 4294967295;
+pub const NO_UPPER: u32 = u32::MAX;
+
+// The length of the head, with length and version before it.
+pub const HEAD: usize = 11;
 
 // The counts, the start and the target: what stands behind the length and the version.
 #[derive(Clone, Copy)]
@@ -28,7 +33,7 @@ pub struct Edge {
     pub resets: [bool; 9],
 }
 
-// The limits of one clock, as they stand.
+// The limits of one clock, as they stand: `hi` is the number of the bytes, which the tests read; `upper` gives it as an Option.
 #[derive(Clone, Copy)]
 pub struct Limits {
     pub lo: u32,
@@ -58,13 +63,22 @@ impl Head {
 }
 
 // ---- where the parts stand
+// The counts are those of one byte and of two, as read: the length is held against the formula before it is known whether they are in range.
 // The place of the limits of location l, with n clocks.
 #[tactic(auto, unfolding(crate::specs::Automata::invariant_in))]
 pub fn invariant_in(n: usize, l: usize) -> usize
     requires { (n < 256) × (l < 256) }
     ensures { result ≡ invariant_in n l }
 {
-    11 + 8 * n * l
+    HEAD + 8 * n * l
+}
+
+// The bytes of an edge, with n clocks: its ends, its reset byte, its limits.
+pub fn edge_size(n: usize) -> usize
+    requires { n < 256 }
+    ensures { result ≡ 3 + 8 * n }
+{
+    3 + 8 * n
 }
 
 // The place of edge i, with n clocks and m locations.
@@ -73,25 +87,23 @@ pub fn edge_in(n: usize, m: usize, i: usize) -> usize
     requires { (n < 256) × (m < 256) × (i < 65536) }
     ensures { result ≡ edge_in n m i }
 {
-    11 + 8 * n * m + i * (3 + 8 * n)
+    HEAD + 8 * n * m + i * edge_size(n)
 }
 
-// For each clock by its number, whether the byte resets it. Clock 0 is none. Written out it needs no answer; `array::from_fn` needs thirty lines.
-#[tactic(auto, unfolding(crate::specs::Automata::reset_set, crate::specs::Automata::firsts, crate::specs::Automata::in_byte))]
+// Whether a reset byte names clock x: bit 0 is clock 1, and clock 0 has none.
+#[tactic(auto, unfolding(crate::specs::Automata::in_byte))]
+fn in_byte(b: u8, x: usize) -> bool
+    requires { x ≤ 8 }
+    ensures { result ≡ in_byte b x }
+{
+    0 < x && (b >> (x - 1)) % 2 == 1
+}
+
+// For each clock by its number, whether the byte resets it.
 fn reset_set(b: u8) -> [bool; 9]
     ensures { result ≡ reset_set b }
 {
-    [
-        false,
-        b % 2 == 1,
-        b / 2 % 2 == 1,
-        b / 4 % 2 == 1,
-        b / 8 % 2 == 1,
-        b / 16 % 2 == 1,
-        b / 32 % 2 == 1,
-        b / 64 % 2 == 1,
-        b / 128 % 2 == 1,
-    ]
+    array::from_fn(|x| in_byte(b, x))
 }
 
 impl Edge {
@@ -121,11 +133,19 @@ impl Limits {
         }
     }
 
-    // Whether a lo or a hi is outside its range, which for a guard's hi has one number more: `may_lack` says which range it is.
-    pub(crate) fn out_of_range(self, may_lack: bool) -> bool
-        ensures { result ≡ out_of_range may_lack self.lo self.hi }
+    // Whether an invariant's lo or hi is outside its range.
+    pub(crate) fn invariant_out_of_range(self) -> bool
+        ensures { result ≡ out_of_range false self.lo self.hi }
     {
-        SCALE < self.lo || SCALE < self.hi && !(may_lack && self.hi == NO_UPPER)
+        SCALE < self.lo || SCALE < self.hi
+    }
+
+    // The same of a guard, whose hi may be absent.
+    #[tactic(auto, unfolding(crate::specs::Opened::upper_of))]
+    pub(crate) fn guard_out_of_range(self) -> bool
+        ensures { result ≡ out_of_range true self.lo self.hi }
+    {
+        SCALE < self.lo || self.upper().is_some_and(|hi| SCALE < hi)
     }
 
     // The hi, where there is one.

@@ -11,7 +11,8 @@ use crate::constraint::Constraint;
 use crate::fields::{Edge, Head, edge_in, invariant_in};
 use crate::refusals::{Refusal, check};
 
-// An automaton that is not turned down, with the counts that it has.
+// An automaton that is not turned down, with the counts that it has. Document 01's form: "Struct with the card slice, n, m, E"; start and target are
+// read where they stand.
 #[derive(Clone, Copy)]
 pub struct Automaton<'a> {
     pub bytes: &'a [u8],
@@ -52,6 +53,7 @@ impl<'a> Automaton<'a> {
         Head::read(self.bytes).target
     }
 
+    // Not `Whole`'s two places, which ask for what is there: here the first edge that is not there has its place, too.
     // The place of the limits of location l.
     pub fn invariant_at(&self, l: usize) -> usize
         requires { l < 256 }
@@ -68,6 +70,7 @@ impl<'a> Automaton<'a> {
         edge_in(self.clocks, self.locations, i)
     }
 
+    // Locations and edges are numbers, and no type says that they are there: it would have to carry the automaton that they are of.
     // The invariant of location l.
     #[tactic(auto, using(crate::proofs::fields::Places::places))]
     pub fn invariant(&self, l: usize) -> Constraint<'a>
@@ -81,7 +84,7 @@ impl<'a> Automaton<'a> {
         }
     }
 
-    // The guard of edge i.
+    // The guard of edge i. It and the invariant stay two: one for both would take the place, and ask of it what `Constraint` promises.
     #[tactic(auto, using(crate::proofs::fields::Places::places))]
     pub fn guard(&self, i: usize) -> Constraint<'a>
         requires { i < edges self.now.bytes.now }
@@ -97,7 +100,7 @@ impl<'a> Automaton<'a> {
     // Its edge i.
     #[tactic(auto, using(crate::proofs::fields::Places::places))]
     pub fn edge(&self, i: usize) -> Edge
-        requires { i < self.now.edges }
+        requires { i < edges self.now.bytes.now }
         ensures { result ≡ edge_of self.now.bytes.now i }
     {
         Edge::read(self.bytes, self.edge_at(i))

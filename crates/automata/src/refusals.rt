@@ -4,7 +4,7 @@ ghost use Rattle.automata.specs.Numbers.{number, number_in};
 ghost use Rattle.automata.specs.Opened.{head_of};
 ghost use Rattle.automata.specs.Refusals.{refusal_of};
 
-use crate::fields::{Head, edge_in};
+use crate::fields::{HEAD, Head, edge_in};
 use crate::whole::Whole;
 use encoding::be32;
 
@@ -47,6 +47,7 @@ pub enum Refusal {
 }
 
 impl Refusal {
+    // A method and not `From`: `refusal.number()` says that it is the table's number, where `u32::from(refusal)` says only which type it is in.
     pub fn number(self) -> u32
         ensures { result ≡ number self }
     {
@@ -62,7 +63,7 @@ pub(crate) fn check(bytes: &[u8]) -> Result<Head, Refusal>
     ensures head { IfOk result (λ h. h ≡ head_of bytes.now) }
 {
     let length = bytes.len();
-    if length < 11 {
+    if length < HEAD {
         return Err(Refusal::TooShort);
     }
     if u32::try_from(length) != Ok(be32(bytes, 0)) {

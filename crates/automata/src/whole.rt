@@ -1,10 +1,11 @@
 // Bytes that are all there, and whether document 01's "Turned down" has 6, 7 or 8 for what they say.
-ghost use Rattle.std.specs.Prelude.{◌≡◌, ◌+◌, ◌*◌, ◌^◌, ◌≤◌, ◌<◌, length};
+ghost use Rattle.std.specs.Prelude.{Bool, ◌≡◌, ◌+◌, ◌*◌, ◌^◌, ◌≤◌, ◌<◌, length};
 ghost use Rattle.automata.specs.Accepted.{Complete};
 ghost use Rattle.automata.specs.Automata.{invariant_at, edge_at};
 ghost use Rattle.automata.specs.Opened.{head_of};
 ghost use Rattle.automata.specs.Refusals.{misplaced, no_such_location, no_such_clock, out_of_range_at, invariant_out_of_range};
 ghost use Rattle.automata.specs.Refusals.{guard_out_of_range, limit_out_of_range};
+ghost use Rattle.automata.specs.Testing.{TestsRange};
 
 use crate::fields::{Edge, Head, Limits, edge_in, invariant_in};
 
@@ -18,6 +19,7 @@ pub(crate) struct Whole<'a> {
 }
 
 impl<'a> Whole<'a> {
+    // Not `Automaton`'s two: these promise that the place is there, too, which the closures of `any` need.
     // The place of the limits of location l, which are there.
     #[tactic(auto, using(crate::proofs::fields::Places::places))]
     fn invariant_at(self, l: usize) -> usize
@@ -41,11 +43,10 @@ impl<'a> Whole<'a> {
     pub(crate) fn no_such_location(self) -> bool
         ensures { result ≡ no_such_location self.entry.bytes.now }
     {
-        let head = self.head;
-        misplaced(head.locations, head.start, head.target)
-            || (0..head.edges).any(|i| {
+        misplaced(self.head.locations, self.head.start, self.head.target)
+            || (0..self.head.edges).any(|i| {
                 let edge = Edge::read(self.bytes, self.edge_at(i));
-                misplaced(head.locations, edge.from, edge.to)
+                misplaced(self.head.locations, edge.from, edge.to)
             })
     }
 
@@ -56,24 +57,30 @@ impl<'a> Whole<'a> {
         (0..self.head.edges).any(|i| bound <= u32::from(self.bytes[self.edge_at(i) + 2]))
     }
 
-    // Whether one of the limits at `at` is out of range.
-    fn out_of_range_at(self, may_lack: bool, at: usize) -> bool
-        requires { at + 8 * self.head.clocks ≤ length self.bytes.now }
-        ensures { result ≡ out_of_range_at self.entry.bytes.now may_lack at }
+    // Whether one clock's limits at `at` are out of range, by a test of an invariant's or a guard's.
+    fn out_of_range_at<F: Fn(Limits) -> bool>(self, at: usize, out: F) -> bool
+        requires place { at + 8 * self.head.clocks ≤ length self.bytes.now }
+        requires test { (limits : Limits) → F.pre out limits }
+        ensures { (may_lack : Bool) → TestsRange may_lack (F.post out) → result ≡ out_of_range_at self.entry.bytes.now may_lack at }
     {
-        (0..self.head.clocks).any(|x| Limits::read(self.bytes, at, x + 1).out_of_range(may_lack))
+        (0..self.head.clocks).any(|x| out(Limits::read(self.bytes, at, x + 1)))
     }
 
+    // This and the next stay two: one for both would take a count, a place and a test, which is all that they say.
     fn invariant_out_of_range(self) -> bool
         ensures { result ≡ invariant_out_of_range self.entry.bytes.now }
     {
-        (0..self.head.locations).any(|l| self.out_of_range_at(false, self.invariant_at(l)))
+        (0..self.head.locations).any(|l| {
+            self.out_of_range_at(self.invariant_at(l), Limits::invariant_out_of_range)
+        })
     }
 
     fn guard_out_of_range(self) -> bool
         ensures { result ≡ guard_out_of_range self.entry.bytes.now }
     {
-        (0..self.head.edges).any(|i| self.out_of_range_at(true, self.edge_at(i) + 3))
+        (0..self.head.edges).any(|i| {
+            self.out_of_range_at(self.edge_at(i) + 3, Limits::guard_out_of_range)
+        })
     }
 
     pub(crate) fn limit_out_of_range(self) -> bool

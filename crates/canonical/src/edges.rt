@@ -5,9 +5,11 @@ ghost use Rattle.order.specs.Laid.{nth_edge, first_edges};
 ghost use Rattle.canonical.specs.Numbers.{falling};
 
 use crate::comparing::less;
+use automata::fields::edge_size;
 use automata::opened::Automaton;
 
-// The place of the first in the automaton, the bytes from there on, the size of each, and their number.
+// The place of the first in the automaton, the bytes from there on, the size of each, and their number. Edges are asked for by number, in any order,
+// which std's `chunks_exact` doesn't give.
 #[derive(Clone, Copy)]
 pub(crate) struct Edges<'a> {
     pub at: usize,
@@ -29,11 +31,12 @@ impl<'a> Edges<'a> {
         Edges {
             at,
             bytes: &automaton.bytes[at..],
-            size: 3 + 8 * automaton.clocks,
+            size: edge_size(automaton.clocks),
             count: automaton.edges,
         }
     }
 
+    // That an edge is there is asked here and where it is listed: a number with that fact would have to carry the edges that it is of.
     // The bytes of edge i.
     #[tactic(auto, unfolding(order::specs::Laid::edge_bytes))]
     pub fn nth(&self, i: usize) -> &'a [u8]
@@ -46,16 +49,10 @@ impl<'a> Edges<'a> {
     }
 
     // Whether each edge is less than the next.
-    #[tactic(auto, using(crate::proofs::edges::Rising::rising_turns))]
     pub fn is_rising(&self) -> bool
         ensures { result ≡ rising (first_edges self.now.size self.now.bytes.now self.now.count) }
     {
-        for i in 1..self.count {
-            if !less(self.nth(i - 1), self.nth(i)) {
-                return false;
-            }
-        }
-        true
+        (1..self.count).all(|i| less(self.nth(i - 1), self.nth(i)))
     }
 
     // Whether the first two edges fall.

@@ -18,6 +18,7 @@ use edges::Edges;
 use ordering::order_of;
 use writing::write_form;
 
+// An automaton and a lent buffer for its form stay two parameters: the C interface lends each with its own length.
 // Whether the edges rise, each less than the next.
 #[tactic(auto, using(crate::proofs::edges::Lying::rising_drawn))]
 fn in_order(automaton: &Automaton) -> bool

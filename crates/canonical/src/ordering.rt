@@ -39,15 +39,14 @@ impl<'a> Order<'a> {
         requires { x < self.now.edges.count }
         ensures { Found self.now.edges.size self.now.edges.bytes.now self.now.numbers.items x result }
     {
-        let edges = self.edges;
-        let edge = edges.nth(x);
+        let edge = self.edges.nth(x);
         let numbers = self.numbers.as_slice();
         let count = numbers.len();
         if count == 0 {
             return Some(0);
         }
         let last = count - 1;
-        if less(edges.nth(usize::from(numbers[last])), edge) {
+        if less(self.edges.nth(usize::from(numbers[last])), edge) {
             return Some(count);
         }
         let mut lo = 0;
@@ -55,13 +54,13 @@ impl<'a> Order<'a> {
         // `partition_point` asks for a test of any byte, where only listed numbers are of edges: it would hold each against their count first.
         while lo < hi {
             let mid = lo + (hi - lo) / 2;
-            if less(edges.nth(usize::from(numbers[mid])), edge) {
+            if less(self.edges.nth(usize::from(numbers[mid])), edge) {
                 lo = mid + 1;
             } else {
                 hi = mid;
             }
         }
-        if same(edge, edges.nth(usize::from(numbers[lo]))) {
+        if same(edge, self.edges.nth(usize::from(numbers[lo]))) {
             return None;
         }
         Some(lo)

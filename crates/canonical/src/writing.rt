@@ -6,6 +6,7 @@ ghost use Rattle.canonical.specs.Numbers.{listed_bytes};
 ghost use Rattle.canonical.specs.Parts.{Sorted, front_of};
 
 use crate::ordering::Order;
+use automata::fields::HEAD;
 use encoding::{bytes_of, put, two_bytes_of};
 
 // The head and the invariants: length and number of edges put right, all else as drawn.
@@ -19,7 +20,7 @@ fn write_front(form: &mut [u8], automaton: &[u8], at: usize, total: usize, count
     put(form, 0, &bytes_of(total as u32));
     put(form, 4, &automaton[4..9]);
     put(form, 9, &two_bytes_of(count as u32));
-    put(form, 11, &automaton[11..at]);
+    put(form, HEAD, &automaton[HEAD..at]);
 }
 
 // The listed edges, one after another.
@@ -28,9 +29,12 @@ fn write_edges(form: &mut [u8], order: &Order)
     requires { order.now.edges.at + length order.now.numbers.items * order.now.edges.size ≤ length form.old }
     ensures { form.new ≡ placed order.now.edges.at (listed_bytes order.now.edges.size order.now.edges.bytes.now order.now.numbers.items) form.old }
 {
-    let edges = order.edges;
     for (k, &i) in order.numbers.as_slice().iter().enumerate() {
-        put(form, edges.at + k * edges.size, edges.nth(usize::from(i)));
+        put(
+            form,
+            order.edges.at + k * order.edges.size,
+            order.edges.nth(usize::from(i)),
+        );
     }
 }
 

@@ -7,7 +7,8 @@ ghost use Rattle.encoding.specs.Placing.{placed};
 ghost use Rattle.encoding.specs.Bytes.{same_bytes, Four};
 
 // ---- numbers, by std's conversions: they are methods of each width, so one function for both would need a trait with these as its impls
-// A slice and a place stay two parameters: places are counted from an automaton's or a record's first byte, as the documents give them.
+// A slice and a place stay two parameters, and that the bytes are there is asked: places are counted from an automaton's or a record's first byte, as
+// the documents give them, and a slice cut at one would ask its caller for the same.
 // The number of the two bytes at `at`.
 #[tactic(auto, unfolding(crate::specs::Numbers::be16_at))]
 pub fn be16(s: &[u8], at: usize) -> u16
@@ -26,7 +27,8 @@ pub fn be32(s: &[u8], at: usize) -> u32
     u32::from_be_bytes([s[at], s[at + 1], s[at + 2], s[at + 3]])
 }
 
-// The last two bytes of a number.
+// `two_bytes_of` and `bytes_of` tie std's bytes to the formats' definitions once: a writer that called std would need the tie at each call.
+// The last two bytes of a number, of which the formats have none above 65,535: a u16 would ask callers to cut theirs.
 #[tactic(auto, unfolding(crate::specs::Numbers::be16))]
 pub fn two_bytes_of(x: u32) -> [u8; 2]
     ensures { result ≡ be16 x }
@@ -64,6 +66,7 @@ fn same_word(a: &[u8], b: &[u8], at: usize) -> bool
 
 // Document 02, Change 3: whether two strings of one length are the same, four bytes as one number, then the odd bytes, fewer than four. It goes from
 // both ends, since automata share long beginnings or long ends; the last two words may overlap.
+// That the lengths are equal is asked: a type of two such strings would be made by the one test in `same` for this one call.
 #[tactic(auto, using(crate::proofs::Words::words_differ))]
 fn same_by_words(a: &[u8], b: &[u8]) -> bool
     requires { length a.now ≡ length b.now }

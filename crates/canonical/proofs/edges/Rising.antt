@@ -1,56 +1,41 @@
--- Edge after edge: those from `at` on, of which n are left, rise as the whole does.
+-- Edges rise just where each that is not the first is more than the one before it.
 -- Assumes nothing.
-use Prim.Native.Nat.{ℕ, zero, suc, ◌+◌, ◌-◌, ◌*◌, ◌<◌, ◌≤◌}
-use mathlib.Core.Bool.{Bool, true, false}
-use mathlib.Core.List.{List, ◌∷◌}
-use mathlib.Core.Path.{◌≡◌, refl, sym, ap, ◌∙◌}
+use Prim.Native.Nat.{ℕ, zero, suc, ◌+◌, ◌-◌, ◌*◌}
+use mathlib.Core.Bool.{Bool, true, false, cond, ◌&&◌}
+use mathlib.Core.List.{List}
+use mathlib.Core.Path.{◌≡◌, refl, ap, ◌∙◌}
 use native.Mathlib.Nat.{suc-mul}
+use native.Mathlib.Numerals.{add-one}
 use native.Mathlib.Omega.{arith}
+use Rattle.std.specs.List.{list_all, range_with_len}
 use Rattle.order.specs.Edges.{bytes_less, rising}
-use Rattle.order.specs.Laid.{edge_bytes, nth_edge, edges_from}
+use Rattle.order.specs.Laid.{edge_bytes, nth_edge, edges_from, first_edges}
 
-module _ (size : ℕ) (s : List ℕ) (at n : ℕ) (h : 1 < n) where
-  two_edges : edges_from size s at n ≡ edge_bytes size s at ∷ edge_bytes size s (at + size) ∷ edges_from size s (at + size + size) (n - 1 - 1)
-  unfolding edges_from
-  two_edges = let e : n ≡ suc (suc (n - 1 - 1)) = omega arith in ap (edges_from size s at) e
+both : (a b : Bool) → (a && b) ≡ cond a b false
+both true b = refl
+both false b = refl
 
-  rest-edges : edges_from size s (at + size) (n - 1) ≡ edge_bytes size s (at + size) ∷ edges_from size s (at + size + size) (n - 1 - 1)
-  unfolding edges_from
-  rest-edges = let e : n - 1 ≡ suc (n - 1 - 1) = omega arith in ap (edges_from size s (at + size)) e
+module _ (size : ℕ) (s : List ℕ) where
+  abbrev pub more : ℕ → Bool
+  more i = bytes_less (nth_edge size s (i - 1)) (nth_edge size s i)
 
-  module _ {t : Bool} (e : t ≡ bytes_less (edge_bytes size s at) (edge_bytes size s (at + size))) where
-    not_rising : t ≡ false → rising (edges_from size s at n) ≡ false
-    unfolding rising
-    not_rising f = rw (two_edges, sym e ∙ f)
+  held : (k : ℕ) → more (suc k) ≡ bytes_less (nth_edge size s k) (edge_bytes size s (k * size + size))
+  held k = let e : suc k - 1 ≡ k = omega arith in (λ i. bytes_less (nth_edge size s (e i)) (edge_bytes size s (suc-mul k size i)))
 
-    rising_next : t ≡ true → rising (edges_from size s at n) ≡ rising (edges_from size s (at + size) (n - 1))
-    unfolding rising
-    rising_next f = rw (two_edges, rest-edges, sym e ∙ f)
+  from_edge : (k n : ℕ) → list_all more (range_with_len (suc k) n) ≡ rising (edges_from size s (k * size) (suc n))
+  unfolding rising edges_from
+  from_edge k zero = refl
+  from_edge k (suc n) =
+      let rest : list_all more (range_with_len (suc k + 1) n) ≡ rising (edges_from size s (k * size + size) (suc n)) =
+      ap (λ (j : ℕ). list_all more (range_with_len j n)) (add-one (suc k)) ∙ from_edge (suc k) n
+      ∙ ap (λ (j : ℕ). rising (edges_from size s j (suc n))) (suc-mul k size)
+      in
+      both (more (suc k)) (list_all more (range_with_len (suc k + 1) n)) ∙ (λ i. cond (held k i) (rest i) false)
 
--- edge i held against the one before it
-module _ (size : ℕ) (s : List ℕ) (n i : ℕ) (h : 1 ≤ i) (g : i < n) {t : Bool} (e : t ≡ bytes_less (nth_edge size s (i - 1)) (nth_edge size s i)) where
-  next : i * size ≡ (i - 1) * size + size
-  next = let k : i ≡ suc (i - 1) = omega arith in ap (λ (j : ℕ). j * size) k ∙ suc-mul (i - 1) size
-
-  held : t ≡ bytes_less (nth_edge size s (i - 1)) (edge_bytes size s ((i - 1) * size + size))
-  held = e ∙ ap (λ (k : ℕ). bytes_less (nth_edge size s (i - 1)) (edge_bytes size s k)) next
-
-  pub falls_here : t ≡ false → rising (edges_from size s ((i - 1) * size) (n - (i - 1))) ≡ false
-  falls_here = not_rising size s _ (n - (i - 1)) (omega arith) held
-
-  pub rises_on : t ≡ true
-      → rising (edges_from size s ((i + 1 - 1) * size) (n - (i + 1 - 1))) ≡ rising (edges_from size s ((i - 1) * size) (n - (i - 1)))
-  rises_on f =
-      let k : i + 1 - 1 ≡ i = omega arith in
-      let left : n - i ≡ n - (i - 1) - 1 = omega arith in
-      (λ j. rising (edges_from size s (k j * size) (n - k j))) ∙ (λ j. rising (edges_from size s (next j) (left j)))
-      ∙ sym (rising_next size s _ (n - (i - 1)) (omega arith) held f)
-
-pub rising_none : (size : ℕ) (s : List ℕ) (at n : ℕ) → n ≤ 1 → rising (edges_from size s at n) ≡ true
-unfolding rising edges_from
-rising_none size s at zero h = refl
-rising_none size s at (suc zero) h = refl
-rising_none size s at (suc (suc n)) h = absurd (omega arith)
-
--- what the code's loop lacks
-pub ruleset rising_turns = (falls_here, rises_on, rising_none)
+  pub all_more : (n : ℕ) → list_all more (range_with_len 1 (n - 1)) ≡ rising (first_edges size s n)
+  unfolding rising edges_from
+  all_more zero = refl
+  all_more (suc n) =
+      let left : suc n - 1 ≡ n = omega arith in
+      let at : 0 * size ≡ 0 = omega arith in
+      ap (λ (j : ℕ). list_all more (range_with_len 1 j)) left ∙ from_edge 0 n ∙ ap (λ (j : ℕ). rising (edges_from size s j (suc n))) at

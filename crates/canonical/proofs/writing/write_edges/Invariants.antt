@@ -5,4 +5,4 @@ use Rattle.canonical.specs.Numbers.{listed_bytes}
 use Rattle.canonical.proofs.writing.write_edges.Given as goal
 
 abbrev pub invariant-loop-k : goal.invariant-loop-k
-invariant-loop-k l = l.form ≡ placed l.edges.at (listed_bytes l.edges.size l.edges.bytes.now (take l.k l.i-items)) l.initial.form
+invariant-loop-k l = l.form ≡ placed l.order.edges.at (listed_bytes l.order.edges.size l.order.edges.bytes.now (take l.k l.i-items)) l.initial.form

@@ -7,4 +7,4 @@ use Rattle.automata.proofs.whole.Whole.out_of_range_at.Goals as goal
 
 pub returns : goal.returns
 unfolding out_of_range_at
-returns c = some_from_any c.any.ensures.ran (counted c.args.self.read).clocks≡ (λ x b q k. search (rules, tests))
+returns g c mayLack gives = some_from_any c.any.ensures.ran (counted c.args.self.read).clocks≡ (λ x b q k. search (rules, tests))
