@@ -86,5 +86,3 @@ work_ready t n h =
 pub first_row : (w : Work) (b : ℕ) → get_or w.zone b zero_pair ≡ entry w 0 b
 unfolding pair_at
 first_row w b = let e : 0 * 9 + b ≡ b = omega arith in rw e
-
--- ---- the sum, and the whole
