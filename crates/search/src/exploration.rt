@@ -19,7 +19,7 @@ use automata::fields::Edge;
 use automata::opened::Automaton;
 use automata::refusals::Refusal;
 use slots::containment::{inside_of, is_within, largest_count};
-use slots::slot::{Origin, decode, encode, keep, slot_length};
+use slots::slot::{Origin, decode, encode, keep, location_of, slot_length};
 use zones::fraction::Fraction;
 use zones::pair::Pair;
 use zones::reduction::Reduced;
@@ -42,7 +42,7 @@ fn find(store: &[i32], new: &[i32], count: usize, size: usize) -> Option<usize>
     for j in 0..count {
         let at = j * stride;
         let old = &store[at..at + stride];
-        if old[0] == new[0] && is_within(new, old) {
+        if location_of(old) == location_of(new) && is_within(new, old) {
             return Some(j);
         }
     }
@@ -202,10 +202,10 @@ impl<'a> Search<'a> {
         let mut next = 0;
         // Zones are kept while others are taken, so the count is no end that a range could name.
         while next < t.count {
-            let at = next * stride;
+            let slot = &store[next * stride..];
             // A cast, since usize has no From<i32>.
-            let l = store[at] as usize;
-            let z = decode(&store[at..], size);
+            let l = location_of(slot) as usize;
+            let z = decode(slot, size);
             t = self.expand(store, t, next, l, z);
             if t.has_ended() {
                 return t;

@@ -8,6 +8,7 @@ use lib.IntN.{ℤ, pos, nat_abs}
 use lib.Dec.{T}
 use mir.Syntax.{w32, w64}
 use mir.Val.{Fits, SFits, of_z, to_z}
+use lib.Seq.{get_or-drop}
 use lib.Signed.{◌≤ℤ◌, non_neg}
 use Rattle.zones.proofs.pairs.Integers.{le_make}
 use lib.ListN.{length, get_or, take, drop, drop_of_length-le}
@@ -21,7 +22,7 @@ use Rattle.search.specs.Exploring.{SoundState, SoundNode, SoundZone, Shown, Live
 use Rattle.search.specs.Instance.{ZoneState, ZoneNode, zones_of, following}
 use Rattle.reachability.specs.Search.{Came, by_edge, Nth, expand, take_from}
 use Rattle.automata.specs.Semantics.{system_of}
-use Rattle.slots.specs.Slots.{slot_length, p_at, zone_of}
+use Rattle.slots.specs.Slots.{slot_length, slot_location, p_at, zone_of}
 use Rattle.reachability.proofs.Accounts.{expand_drops}
 use Rattle.reachability.proofs.Judged.{take_none, take-one}
 use Rattle.reachability.proofs.Keeps.{Steady, expand_keeps}
@@ -33,7 +34,7 @@ use Rattle.search.proofs.exploration.Ending.{still, stays}
 use Rattle.search.proofs.exploration.Sounding.{follow_sound, offer_sound}
 use Rattle.slots.proofs.slot.Loops.{reads_p}
 use mir.ValLaws.{to_z-of_z}
-use Rattle.search.proofs.exploration.Stores.{SlotAt, location_at, slot_fits, lent_length}
+use Rattle.search.proofs.exploration.Stores.{SlotAt, location_at, slot_fits, lent_part, lent_length}
 
 -- ---- the number of a location, as the code reads it
 module _ {x : ℤ} {l : ℕ} (h : SFits w32 x) (e : x ≡ pos l) where
@@ -131,8 +132,11 @@ module _ {b : List ℕ} (a : Accepted b) where
       pub slot_inside : capacity * slot_length n ≤ length s₀ → at + slot_length n ≤ length s
       slot_inside long = slot_fits (slot_length n) h (live_slots b a long w.live) e
 
-      pub location : get_or s at (pos 0) ≡ pos here.node.at
-      location = location_at n (n≤ b a) s next here.node e slot
+      pub location : slot_location (take (length s - at) (drop at s)) ≡ pos here.node.at
+      location =
+          let z : at + 0 ≡ at = omega arith in
+          ap slot_location (lent_part s at) ∙ get_or-drop at s 0 (pos 0) ∙ ap (λ (i : ℕ). get_or s i (pos 0)) z
+          ∙ location_at n (n≤ b a) s next here.node e slot
 
       pub asks_decode : capacity * slot_length n ≤ length s₀ →
           ((n ≤ 9) × (slot_length n ≤ length (take (length s - at) (drop at s)))) ×
@@ -147,7 +151,7 @@ module _ {b : List ℕ} (a : Accepted b) where
         sound_zone = subst (SoundZone b) (sym zone≡) (record { ranged = sound-node.ranged; framed = sound-node.framed })
 
         -- s' and t' are what the expansion left
-        module _ {l : ℕ} (el : get_or s at (pos 0) ≡ pos l) {s' : List ℤ} {t' : Turn}
+        module _ {l : ℕ} (el : slot_location (take (length s - at) (drop at s)) ≡ pos l) {s' : List ℤ} {t' : Turn}
             (g : (c : Came) (p : List ℕ) → Continues b capacity s t
             (expand (system_of b) (zones_of b) capacity next (node_at l c p z) (edges b) 0) s' t') where
           abbrev expanded : ZoneState

@@ -44,11 +44,17 @@ module _ (c : In-loop-next) where
   below : c.loop-next.next < c.args.self.capacity
   below = few c.args.self.automaton.now.accepted (c.loop-next.invariant.2 c.requires.base c.requires.state c.requires.live) c.loop-next-test.true
 
-pub slice_copy_out-l : goal.slice_copy_out-l
-slice_copy_out-l c = omega (arith, inside (goal.at.slice_copy_out-l c).In-loop-next)
+pub slice_bounds-slot-start : goal.slice_bounds-slot-start
+slice_bounds-slot-start c = omega (arith, inside (goal.at.slice_bounds-slot-start c).In-loop-next)
 
-pub slice_bounds-decode-start : goal.slice_bounds-decode-start
-slice_bounds-decode-start c = omega (arith, inside (goal.at.slice_bounds-decode-start c).In-loop-next)
+pub location_of-l-requires : goal.location_of-l-requires
+location_of-l-requires c =
+    let places = goal.at.location_of-l-requires c in
+    omega (
+      arith,
+      (asks_decode c.args.self.automaton.now.accepted (on places.At-loop-next) c.loop-next-test.true (place≡ places.In-loop-next)
+          c.requires.long).0.1,
+    )
 
 pub decode-z-requires : goal.decode-z-requires
 decode-z-requires c =
@@ -80,7 +86,8 @@ module _ (c : After-expand-t) where
       let w = c.loop-next.invariant.2 s₀ q₀ h in
       let at = ap (λ (x : ℕ). c.loop-next.next * x) c.loop-next.invariant.1 in
       turned a w c.loop-next-test.true at (rw c.loop-next.invariant.0 at c.decode-z.ensures)
-      (read_location (search rules) (location a w c.loop-next-test.true at)) c.expand-t.ensures
+      (sym c.location_of-l.ensures ∙ read_location (search rules) (c.location_of-l.ensures ∙ location a w c.loop-next-test.true at))
+      c.expand-t.ensures
 
 pub shape_of-store-then-has_ended : goal.shape_of-store-then-has_ended
 shape_of-store-then-has_ended c =
@@ -112,13 +119,9 @@ returns c = record { shows = λ s₀ q₀ h. ends _ _ (c.loop-next.invariant.2 s
 
 pub overflow_cast-l : goal.overflow_cast-l
 overflow_cast-l c =
-    reads_location (search rules) (location c.args.self.automaton.now.accepted (on (goal.at.overflow_cast-l c).At-loop-next) c.loop-next-test.true
+    reads_location (search rules)
+    (c.location_of-l.ensures ∙ location c.args.self.automaton.now.accepted (on (goal.at.overflow_cast-l c).At-loop-next) c.loop-next-test.true
     (place≡ (goal.at.overflow_cast-l c).In-loop-next))
 
-pub offset_bounds-store-at-in-loop-next : goal.offset_bounds-store-at-in-loop-next
-offset_bounds-store-at-in-loop-next c =
-    let steps = goal.at.offset_bounds-store-at-in-loop-next c in
-    omega (arith, inside steps.In-loop-next, now steps.At-loop-next)
-
-pub slice_bounds-decode-count : goal.slice_bounds-decode-count
-slice_bounds-decode-count c = omega (arith, inside (goal.at.slice_bounds-decode-count c).In-loop-next)
+pub slice_bounds-slot-count : goal.slice_bounds-slot-count
+slice_bounds-slot-count c = omega (arith, inside (goal.at.slice_bounds-slot-count c).In-loop-next)
