@@ -15,7 +15,7 @@ pub(crate) fn holds(limits: Limits, y: u64) -> bool
 }
 
 // A wait adds its time units to the clocks.
-#[tactic(auto, unfolding(crate::specs::Clocks::waited), using(crate::proofs::clocks::Showing::waited_next, crate::proofs::clocks::Showing::waited_fits))]
+#[tactic(auto, unfolding(crate::specs::Clocks::waited), using(crate::proofs::clocks::Showing::wait_turns))]
 pub(crate) fn wait(clocks: &mut [u64], t: u64)
     requires { (t ≤ scale) × LowClocks (length clocks.old) clocks.old }
     ensures { clocks.new ≡ waited t (length clocks.old) clocks.old }

@@ -147,6 +147,9 @@ waited_fits t k c d e h low small =
     let l : length d ≡ length c = ap length e ∙ changed-length s k in
     omega (arith, same, low k (omega (arith, l, h)))
 
+-- a turn of a wait
+pub ruleset wait_turns = (waited_next, waited_fits)
+
 -- ---- the clocks of an automaton are lent from the front of eight
 module _ (n : ℕ) (c : List ℕ) (h : n ≤ length c) where
   waited_front : (t k : ℕ) → k ≤ n → waited t k (take n c) ++ drop n c ≡ waited t k c
