@@ -1,9 +1,9 @@
 -- Edges rise just where each that is not the first is more than the one before it.
 -- Assumes nothing.
-use Prim.Native.Nat.{ℕ, zero, suc, ◌+◌, ◌-◌, ◌*◌}
+use Prim.Native.Nat.{ℕ, zero, suc, ◌+◌, ◌-◌, ◌*◌, ◌<◌}
 use mathlib.Core.Bool.{Bool, true, false, cond, ◌&&◌}
-use mathlib.Core.List.{List}
-use mathlib.Core.Path.{◌≡◌, refl, ap, ◌∙◌}
+use mathlib.Core.List.{List, ◌∷◌}
+use mathlib.Core.Path.{◌≡◌, refl, sym, ap, ◌∙◌}
 use native.Mathlib.Nat.{suc-mul}
 use native.Mathlib.Numerals.{add-one}
 use native.Mathlib.Omega.{arith}
@@ -11,6 +11,26 @@ use Rattle.std.specs.List.{list_all, range_with_len}
 use Rattle.order.specs.Edges.{bytes_less, rising}
 use Rattle.order.specs.Laid.{edge_bytes, nth_edge, edges_from, first_edges}
 
+-- ---- the edges from `at` on, of which n are left: the first is held against the second
+module _ (size : ℕ) (s : List ℕ) (at n : ℕ) (h : 1 < n) where
+  two_edges : edges_from size s at n ≡ edge_bytes size s at ∷ edge_bytes size s (at + size) ∷ edges_from size s (at + size + size) (n - 1 - 1)
+  unfolding edges_from
+  two_edges = let e : n ≡ suc (suc (n - 1 - 1)) = omega arith in ap (edges_from size s at) e
+
+  rest-edges : edges_from size s (at + size) (n - 1) ≡ edge_bytes size s (at + size) ∷ edges_from size s (at + size + size) (n - 1 - 1)
+  unfolding edges_from
+  rest-edges = let e : n - 1 ≡ suc (n - 1 - 1) = omega arith in ap (edges_from size s (at + size)) e
+
+  module _ {t : Bool} (e : t ≡ bytes_less (edge_bytes size s at) (edge_bytes size s (at + size))) where
+    pub not_rising : t ≡ false → rising (edges_from size s at n) ≡ false
+    unfolding rising
+    not_rising f = rw (two_edges, sym e ∙ f)
+
+    pub rising_next : t ≡ true → rising (edges_from size s at n) ≡ rising (edges_from size s (at + size) (n - 1))
+    unfolding rising
+    rising_next f = rw (two_edges, rest-edges, sym e ∙ f)
+
+-- ---- all of them
 both : (a b : Bool) → (a && b) ≡ cond a b false
 both true b = refl
 both false b = refl
