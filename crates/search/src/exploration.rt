@@ -7,11 +7,10 @@ ghost use Rattle.automata.specs.Automata.{clocks, edges, locations, target, to};
 ghost use Rattle.search.specs.Exploring.{FirstHit, Shown, SoundResult, SoundZone, arrival_of, successor_of};
 ghost use Rattle.search.specs.Steps.{Goes, Judges, Tells, Expands, Takes};
 ghost use Rattle.automata.specs.Opened.{edge_of};
-ghost use Rattle.slots.specs.Slots.{slot_length, pair_count, Framed};
+ghost use Rattle.slots.specs.Slots.{slot_length, Framed};
 ghost use Rattle.search.specs.Store.{most_slots, capacity_of};
 ghost use Rattle.search.specs.Answers.{state_of};
-ghost use Rattle.search.specs.Outcomes.{Few, most_offers, contained_by};
-ghost use Rattle.slots.specs.Containing.{ComparableSlots, inside_slots, equal_slots};
+ghost use Rattle.search.specs.Outcomes.{most_offers};
 
 use crate::outcome::{Dropped, Outcome, Turn};
 use crate::successor::{enter, narrow};
@@ -32,21 +31,18 @@ const COUNTS: u64 = u16::MAX as u64;
 const SLOTS: usize = i32::MAX as usize;
 
 // The number of the oldest kept slot of the same location that contains the new one. `size ≤ 9`, here and below, is slots' clause.
-#[tactic(auto, using(crate::proofs::exploration::Stores::finding))]
+// Over the slots' numbers: of `chunks_exact` and `take` no lemma of the library tells the closure how long a slot is.
 fn find(store: &[i32], new: &[i32], count: usize, size: usize) -> Option<usize>
     requires { (size ≤ 9) × (count * slot_length size ≤ length store.now) × (length new.now ≡ slot_length size) }
     ensures { MatchOption result (FirstHit size new.now store.now count count)
         (λ j. (j < count) × FirstHit size new.now store.now count j) }
 {
     let stride = slot_length(size);
-    for j in 0..count {
+    (0..count).find(|&j| {
         let at = j * stride;
         let old = &store[at..at + stride];
-        if old[0] == new[0] && is_within(new, old) {
-            return Some(j);
-        }
-    }
-    None
+        old[0] == new[0] && is_within(new, old)
+    })
 }
 
 // A search of an automaton, in a store with places for `capacity` slots: what stays while the turn goes on. C lends the store, and each step
