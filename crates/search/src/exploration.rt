@@ -56,8 +56,8 @@ struct Search<'a> {
 
 impl<'a> Search<'a> {
     // A zone that has entered l, not the target: it is dropped inside a kept one, refused, or kept. Its location and its origin stay apart, here
-    // and below: `follow` has the origin of the zone that it was taken from and the location from the edge, as the definition's nodes have
-    // `came` apart from `at`, and a struct of the two would be made for one call and taken apart in the next.
+    // and below: `follow` has the origin from the taken zone and the location from the edge, the definition's nodes have `came` apart from `at`,
+    // and a struct of the two would be made for one call and taken apart in the next.
     fn judge(self, store: &mut [i32], turn: Turn, l: usize, origin: Origin, w: Work) -> Turn
         requires there { (l < locations self.automaton.now.bytes.now) × (l ≡ target self.automaton.now.bytes.now → ⊥) }
         requires going { Goes self most_offers store.old turn }

@@ -61,8 +61,8 @@ pub fn narrow(constraint: &Constraint, w: Work, settled: bool) -> Reduced
 {
     let size = constraint.clocks + 1;
     let met = meet(constraint, w, settled);
-    // The first middle index that counts: of two branches, the one that gives the zone back as it is, a search of 3 clocks took 2.8 in a
-    // hundred instructions more, and one of 8 clocks 3.9.
+    // The first middle index that counts: with a branch of its own that gives a settled zone back, a search of 3 clocks took 2.8 in a hundred
+    // instructions more, and one of 8 clocks 3.9.
     let first = if met.settled { size } else { 0 };
     let unreduced = Unreduced {
         work: met.work,
