@@ -4,6 +4,7 @@ use Rattle.reachability.specs.Search as definition
 use Rattle.automata.specs.Numbers.{number}
 use Rattle.automata.specs.declared.refusals.Refusal.{Refusal}
 use Rattle.slots.specs.declared.slot.Origin.{Origin}
+use Rattle.slots.specs.declared.containment.Inside.{Inside}
 use Rattle.zones.specs.Integers.{up}
 use Rattle.search.specs.Store.{origin_of, most_slots}
 use Rattle.zones.specs.declared.fraction.Fraction.{Fraction}
@@ -40,13 +41,13 @@ emptied_by t exact below =
     record { count = t.count; exact = exact; safe = lowered_by t.safe below; dropped = t.dropped; outcome = Going }
 
 -- a zone inside a kept one: both are
-abbrev pub contained_by : Turn → Fraction → Fraction → Bool → Turn
-contained_by t exact below equal =
+abbrev pub contained_by : Turn → Fraction → Inside → Turn
+contained_by t exact inside =
     record {
       count = t.count;
-      exact = lowered_by exact below;
-      safe = lowered_by t.safe below;
-      dropped = dropped_with t.dropped equal;
+      exact = lowered_by exact inside.below;
+      safe = lowered_by t.safe inside.below;
+      dropped = dropped_with t.dropped inside.equal;
       outcome = Going;
     }
 

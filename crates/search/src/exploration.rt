@@ -7,11 +7,10 @@ ghost use Rattle.automata.specs.Automata.{clocks, edges, locations, target, to};
 ghost use Rattle.search.specs.Exploring.{FirstHit, Shown, SoundResult, SoundZone, arrival_of, successor_of};
 ghost use Rattle.search.specs.Steps.{Goes, Judges, Tells, Expands, Takes};
 ghost use Rattle.automata.specs.Opened.{edge_of};
-ghost use Rattle.slots.specs.Slots.{slot_length, pair_count, Framed};
+ghost use Rattle.slots.specs.Slots.{slot_length, Framed};
 ghost use Rattle.search.specs.Store.{most_slots, capacity_of};
 ghost use Rattle.search.specs.Answers.{state_of};
-ghost use Rattle.search.specs.Outcomes.{Few, most_offers, contained_by};
-ghost use Rattle.slots.specs.Containing.{ComparableSlots, inside_slots, equal_slots};
+ghost use Rattle.search.specs.Outcomes.{most_offers};
 
 use crate::outcome::{Dropped, Outcome, Turn};
 use crate::successor::{enter, narrow};
@@ -26,42 +25,29 @@ use zones::reduction::Reduced;
 use zones::zone::Work;
 
 // A zone to be kept whose error count is larger is refused by 9.
-const COUNTS: u64 = 65535;
+const COUNTS: u64 = u16::MAX as u64;
 
 // The most slots that are used.
-const SLOTS: usize = 2147483647;
+const SLOTS: usize = i32::MAX as usize;
 
-// The number of the oldest kept slot of the same location that contains the new one.
-#[tactic(auto, using(crate::proofs::exploration::Stores::finding))]
+// The number of the oldest kept slot of the same location that contains the new one. `size ≤ 9`, here and below, is slots' clause.
+// Over the slots' numbers: of `chunks_exact` and `take` no lemma of the library tells the closure how long a slot is.
 fn find(store: &[i32], new: &[i32], count: usize, size: usize) -> Option<usize>
     requires { (size ≤ 9) × (count * slot_length size ≤ length store.now) × (length new.now ≡ slot_length size) }
     ensures { MatchOption result (FirstHit size new.now store.now count count)
         (λ j. (j < count) × FirstHit size new.now store.now count j) }
 {
     let stride = slot_length(size);
-    for j in 0..count {
+    (0..count).find(|&j| {
         let at = j * stride;
         let old = &store[at..at + stride];
-        if location_of(old) == location_of(new) && is_within(new, old) {
-            return Some(j);
-        }
-    }
-    None
+        location_of(old) == location_of(new) && is_within(new, old)
+    })
 }
 
-// The new zone is dropped inside the old one, which contains it: the test's thresholds lower both fractions.
-#[tactic(auto, using(slots::proofs::slot::Loops::slots_fit))]
-fn drop_inside(turn: Turn, exact: Fraction, new: &[i32], old: &[i32]) -> Turn
-    requires { ComparableSlots new.now old.now (pair_count new.now) × Fits32 exact × Fits32 turn.safe × Few most_offers turn.dropped }
-    ensures { result ≡ contained_by turn exact (inside_slots new.now old.now (pair_count new.now))
-        (equal_slots new.now old.now (pair_count new.now)) }
-{
-    let inside = inside_of(new, old);
-    turn.contained(exact, inside.below, inside.equal)
-}
-
-// A search of an automaton, in a store with places for `capacity` slots: what stays while the turn goes on. The store is lent to each step,
-// since a `&mut` field would have to be followed to its end in each contract.
+// A search of an automaton, in a store with places for `capacity` slots: what stays while the turn goes on. C lends the store, and each step
+// has it lent on: a `&mut` field would have to be followed to its end in each contract. The turn, with the count of the slots in use, goes
+// beside it, since each step gives back another; and `Goes` is of search, store and turn together, so it is a ghost field of none of them.
 #[derive(Clone, Copy)]
 struct Search<'a> {
     automaton: &'a Automaton<'a>,
@@ -69,8 +55,9 @@ struct Search<'a> {
 }
 
 impl<'a> Search<'a> {
-    // A zone that has entered l, not the target: it is dropped inside a kept one, refused, or kept. Its location and its origin stay apart:
-    // an edge tells the one and the loop over the edges the other, and `encode` takes both.
+    // A zone that has entered l, not the target: it is dropped inside a kept one, refused, or kept. Its location and its origin stay apart, here
+    // and below: `follow` has the origin from the taken zone and the location from the edge, the definition's nodes have `came` apart from `at`,
+    // and a struct of the two would be made for one call and taken apart in the next.
     fn judge(self, store: &mut [i32], turn: Turn, l: usize, origin: Origin, w: Work) -> Turn
         requires there { (l < locations self.automaton.now.bytes.now) × (l ≡ target self.automaton.now.bytes.now → ⊥) }
         requires going { Goes self most_offers store.old turn }
@@ -79,21 +66,21 @@ impl<'a> Search<'a> {
         ensures { Judges self.entry store.old turn l origin w store.new result }
     {
         let size = self.automaton.clocks + 1;
-        let count = turn.count;
         let numbers = encode(l, origin, w.zone, size);
         let stride = slot_length(size);
         let new = &numbers[..stride];
-        if let Some(j) = find(store, new, count, size) {
+        if let Some(j) = find(store, new, turn.count, size) {
             let at = j * stride;
-            return drop_inside(turn, w.fraction, new, &store[at..at + stride]);
+            let old = &store[at..at + stride];
+            return turn.contained(w.fraction, inside_of(new, old));
         }
         if COUNTS < largest_count(new) {
             return turn.refused(w.fraction, Refusal::ErrorCountTooLarge);
         }
-        if count < self.capacity {
-            keep(store, count * stride, new);
+        if turn.count < self.capacity {
+            keep(store, turn.count * stride, new);
             return Turn {
-                count: count + 1,
+                count: turn.count + 1,
                 exact: w.fraction,
                 outcome: Outcome::Going,
                 ..turn
@@ -122,7 +109,8 @@ impl<'a> Search<'a> {
     }
 
     // A settled zone enters l after a reset, and is judged. The start and the edges share this function, so that the compiler keeps it
-    // out of the loop over the edges and gives its steps one square.
+    // out of the loop over the edges and gives its steps one square. Its clauses of a zone that is settled and few in counts are no type's:
+    // `enter` and run_writer's `arrived` ask the same of squares of other makings, each proved at its call.
     fn arrive(
         self,
         store: &mut [i32],
@@ -173,6 +161,8 @@ impl<'a> Search<'a> {
         ensures { Expands self.entry store.old turn parent l z store.new result }
     {
         let mut t = turn;
+        // Made once, and given the running fraction at each edge: made anew for each, it took a search of 3 clocks 2.4 in a hundred
+        // instructions more, and one of 8 clocks 3.1.
         let mut w = Work {
             zone: z,
             fraction: t.exact,
@@ -238,10 +228,7 @@ pub fn explore(automaton: &Automaton, store: &mut [i32]) -> Turn
         count: 0,
         exact: Fraction::NO_LIMIT,
         safe: Fraction::NO_LIMIT,
-        dropped: Dropped {
-            again: 0,
-            inside: 0,
-        },
+        dropped: Dropped::NONE,
         outcome: Outcome::Going,
     };
     let l = automaton.start();

@@ -4,11 +4,13 @@ ghost use Rattle.zones.specs.Ranges.{Fits32};
 ghost use Rattle.search.specs.Outcomes.{outcome_of, has_ended, Few, most_offers, dropped_with, emptied_by, contained_by, refused_by};
 
 use automata::refusals::Refusal;
+use slots::containment::Inside;
 use slots::slot::Origin;
 use zones::fraction::Fraction;
 
 // A search that goes on, or has stopped: at the target, by a zone of the origin told, or by a refusal. One that goes on when
-// no zone is left to take holds.
+// no zone is left to take holds. The definition's three cases, and no ControlFlow of turns with `?`: the counts of a turn are read whichever it
+// is, so that both arms would hold them.
 #[derive(Clone, Copy)]
 pub enum Outcome {
     Going,
@@ -24,7 +26,13 @@ pub struct Dropped {
 }
 
 impl Dropped {
-    // With one zone more.
+    // Before any zone was dropped.
+    pub const NONE: Dropped = Dropped {
+        again: 0,
+        inside: 0,
+    };
+
+    // With one zone more. `Few` is asked where one is added, and is no ghost field: how many a step may have dropped grows with the search.
     #[tactic(auto, unfolding(crate::specs::Outcomes::dropped_with))]
     fn with(self, equal: bool) -> Dropped
         requires { Few most_offers self }
@@ -79,15 +87,15 @@ impl Turn {
         }
     }
 
-    // The search goes on after a zone that was dropped inside a kept one, equal to it or not: `below` lowers both fractions.
-    pub(crate) fn contained(self, exact: Fraction, below: Fraction, equal: bool) -> Turn
-        requires { Fits32 exact × Fits32 self.safe × Fits32 below × Few most_offers self.dropped }
-        ensures { result ≡ contained_by self exact below equal }
+    // The search goes on after a zone that was dropped inside a kept one: the test's lowest threshold lowers both fractions.
+    pub(crate) fn contained(self, exact: Fraction, inside: Inside) -> Turn
+        requires { Fits32 exact × Fits32 self.safe × Fits32 inside.below × Few most_offers self.dropped }
+        ensures { result ≡ contained_by self exact inside }
     {
         Turn {
-            exact: exact.lowered(below),
-            safe: self.safe.lowered(below),
-            dropped: self.dropped.with(equal),
+            exact: exact.lowered(inside.below),
+            safe: self.safe.lowered(inside.below),
+            dropped: self.dropped.with(inside.equal),
             outcome: Outcome::Going,
             ..self
         }

