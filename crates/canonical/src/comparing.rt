@@ -4,8 +4,8 @@ ghost use Rattle.order.specs.Edges.{bytes_less};
 
 use encoding::be32;
 
-// Whether bytes are less than as many others: four as one number, then the odd ones. By std's order of slices, `a < b`, a form takes 5.7 times as long
-// where edges differ late and stand in random order (measured).
+// Whether bytes are less than as many others: four as one number, then the odd ones.
+// By std's order of slices, `a < b`, a form takes 5.7 times as long where edges differ late and stand in random order (measured).
 #[tactic(auto, using(crate::proofs::comparing::Comparing::compared))]
 pub(crate) fn less(a: &[u8], b: &[u8]) -> bool
     requires { length a.now ≡ length b.now }
