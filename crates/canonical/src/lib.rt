@@ -18,7 +18,6 @@ use edges::Edges;
 use ordering::order_of;
 use writing::write_form;
 
-// An automaton and a lent buffer for its form stay two parameters: the C interface lends each with its own length.
 // Whether the edges rise, each less than the next.
 #[tactic(auto, using(crate::proofs::edges::Lying::rising_drawn))]
 fn in_order(automaton: &Automaton) -> bool
@@ -38,6 +37,7 @@ pub fn is_canonical(automaton: &[u8]) -> bool
     }
 }
 
+// An automaton and a lent buffer for its form stay two parameters: the C interface lends each with its own length.
 // The form of an automaton at the start of a lent buffer, and its length; the bytes past it are unchanged. A buffer that is too short is untouched.
 pub fn write_canonical(automaton: &[u8], form: &mut [u8]) -> Result<usize, Refusal>
     ensures value { result ≡ form_answer automaton.now (length form.old) }

@@ -1,4 +1,4 @@
-// The form of an automaton, written part after part.
+// The form of an automaton, written part after part. `form` is the buffer that a caller lends, beside what is written into it.
 ghost use Rattle.std.specs.Prelude.{◌≡◌, ◌+◌, ◌*◌, ◌≤◌, ◌<◌, length};
 ghost use Rattle.encoding.specs.Placing.{placed};
 ghost use Rattle.automata.specs.Canonical.{canonical_of};
