@@ -35,10 +35,7 @@ fn filed_findings(answer: Answer) -> Findings
     Findings {
         answer,
         exact: Fraction { n: 0, d: 0 },
-        dropped: Dropped {
-            again: 0,
-            inside: 0,
-        },
+        dropped: Dropped::NONE,
     }
 }
 

@@ -20,7 +20,8 @@ slot_within n s h k = omega (arith, mul-le-mul_right (slot_length n) k)
 
 pub find-requires-clause-callable : goal.find-requires-clause-callable
 find-requires-clause-callable c =
-    serves_from_Range (λ x q k. search (rules, tests)) (λ x h k. search (rules, tests, arith, slot_within c.args.size c.args.store.now c.requires.1 k))
+    serves_from_Range (λ x q k. search (rules, tests))
+    (λ x h k. search (rules, tests, arith, slot_within c.args.size c.args.store.now c.requires.1 k))
 
 -- the first hit, from what the library says of `find` over a range
 firsts : (n count : ℕ) (new s : List ℤ) (r : Option ℕ) →
