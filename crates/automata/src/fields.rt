@@ -33,7 +33,8 @@ pub struct Edge {
     pub resets: [bool; 9],
 }
 
-// The limits of one clock, as they stand: `hi` is the number of the bytes, which the tests read; `upper` gives it as an Option.
+// The limits of one clock, as they stand: `hi` is the number of the bytes, which the tests read, and the search of an invariant, which always has
+// one; `upper` gives it as an Option.
 #[derive(Clone, Copy)]
 pub struct Limits {
     pub lo: u32,
@@ -64,6 +65,7 @@ impl Head {
 
 // ---- where the parts stand
 // The counts are those of one byte and of two, as read: the length is held against the formula before it is known whether they are in range.
+// They are usize, as places are: of a u8 each use would convert, and a caller has a usize.
 // The place of the limits of location l, with n clocks.
 #[tactic(auto, unfolding(crate::specs::Automata::invariant_in))]
 pub fn invariant_in(n: usize, l: usize) -> usize
@@ -133,7 +135,7 @@ impl Limits {
         }
     }
 
-    // Whether an invariant's lo or hi is outside its range.
+    // Whether an invariant's lo or hi is outside its range. This and the next are handed on as tests: one for both would take a flag.
     pub(crate) fn invariant_out_of_range(self) -> bool
         ensures { result ≡ out_of_range false self.lo self.hi }
     {

@@ -124,6 +124,7 @@ fn search_and_file(
     ensures { Searches layout cache.old automaton.now store.old result cache.new store.new }
 {
     let used = used(cache);
+    // An entry's length, before there is an answer to make one of.
     let length = layout.head + automaton.len();
     if cache.len() - used < length || LONGEST - used < length {
         return Err(Refusal::CacheFull);

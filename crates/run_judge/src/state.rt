@@ -5,7 +5,8 @@ ghost use Rattle.run_judge.specs.Clocks.{within_at};
 use crate::clocks::holds;
 use automata::constraint::Constraint;
 
-// A location and eight clocks, clock 1 first, of which those of the automaton count: a length beside each would say that again.
+// A location and eight clocks, clock 1 first, of which those of the automaton count: a length beside each would say that again. It is no valuation
+// of witness, whose clocks are on the scale: a wait that is judged may pass it.
 #[derive(Clone, Copy)]
 pub(crate) struct State {
     pub location: usize,

@@ -1,5 +1,5 @@
 // "a wait is followed by a jump and a jump by a wait, waits at both ends": a run is judged in stretches of 64 numbers, so that the depth
-// of the calls does not grow with the buffer.
+// of the calls does not grow with the buffer. Wait step and jump step call each other, by document 01's form for this place, and so are no loop.
 ghost use Rattle.std.specs.Prelude.{◌≡◌};
 ghost use Rattle.run_judge.specs.Judging.{begins};
 ghost use Rattle.run_judge.specs.Stretches.{waits, jumps, Handed};

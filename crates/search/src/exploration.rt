@@ -31,7 +31,8 @@ const COUNTS: u64 = u16::MAX as u64;
 const SLOTS: usize = i32::MAX as usize;
 
 // The number of the oldest kept slot of the same location that contains the new one. `size ≤ 9`, here and below, is slots' clause.
-// Over the slots' numbers: of `chunks_exact` and `take` no lemma of the library tells the closure how long a slot is.
+// Over the slots' numbers: of `chunks_exact` and `take` no lemma of the library tells the closure how long a slot is. So a slot is cut out where
+// it is looked at, here, in `judge` and in `take`: a function for the two lines would say no more than they do.
 fn find(store: &[i32], new: &[i32], count: usize, size: usize) -> Option<usize>
     requires { (size ≤ 9) × (count * slot_length size ≤ length store.now) × (length new.now ≡ slot_length size) }
     ensures { MatchOption result (FirstHit size new.now store.now count count)
@@ -110,7 +111,7 @@ impl<'a> Search<'a> {
 
     // A settled zone enters l after a reset, and is judged. The start and the edges share this function, so that the compiler keeps it
     // out of the loop over the edges and gives its steps one square. Its clauses of a zone that is settled and few in counts are no type's:
-    // `enter` and run_writer's `arrived` ask the same of squares of other makings, each proved at its call.
+    // `enter` asks them, too, and `narrow` the like, of squares of other makings (the first zone, a guard's, a reset one), each proved at its call.
     fn arrive(
         self,
         store: &mut [i32],
