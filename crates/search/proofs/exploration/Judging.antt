@@ -1,7 +1,5 @@
 -- A zone that has entered a location, judged on the store: what each branch of the code shows is what the definition's offer comes to.
 -- Assumes nothing.
-use Rattle.reachability.specs.Search.{Result}
-use Rattle.reachability.specs.Search.{zone}
 use Rattle.zones.specs.declared.pair.Pair.{Pair}
 use Rattle.zones.specs.Reductions.{is_empty, safe_of}
 use Prim.Native.Nat.{ℕ, zero, suc, ◌+◌, ◌-◌, ◌*◌, ◌<◌, ◌≤◌}
@@ -24,9 +22,11 @@ use Rattle.std.specs.Prelude.{Option, Some}
 use Rattle.std.specs.Option.{unwrap_or}
 use Rattle.zones.specs.Ranges.{AllBounded, Sized, Fits32, counts, last_counts}
 use Rattle.runs.specs.Limits.{scale}
+use Rattle.search.specs.declared.outcome.Dropped.{Dropped}
+use Rattle.search.specs.declared.outcome.Outcome.{Outcome}
 use Rattle.search.specs.declared.outcome.Outcome.TheVariants.{Reached}
 use Rattle.search.specs.declared.outcome.Turn.{Turn}
-use Rattle.search.specs.Outcomes.{came_of, outcome_of, Few, most_offers, dropped_with, emptied_by, contained_by, kept_by, reached_by, refused_by}
+use Rattle.search.specs.Outcomes.{came_of, outcome_of, Honest, Few, most_offers, dropped_with, emptied_by, contained_by, kept_by, reached_by, refused_by}
 use Rattle.automata.specs.Accepted.{Accepted}
 use Rattle.automata.specs.Numbers.{number}
 use Rattle.automata.specs.declared.refusals.Refusal.{Refusal}
@@ -38,7 +38,7 @@ use Rattle.search.specs.Exploring.{FirstHit, SoundNode, SoundState, Shown, Live,
 use Rattle.search.specs.Exploring as exploring
 use Rattle.search.specs.Instance.{Fractions, fractions_of, ZoneState, ZoneNode, result_of, lowered_inside, overcounted, zones_of}
 use Rattle.reachability.specs.Search as defined
-use Rattle.reachability.specs.Search.{Came, first_zone, by_edge, reached, refused, ended, Nth, none, find, dropping, judge, offer}
+use Rattle.reachability.specs.Search.{Came, first_zone, by_edge, Result, zone, reached, refused, ended, Nth, none, find, dropping, judge, offer}
 use Rattle.automata.specs.Semantics.{system_of}
 use Rattle.slots.specs.Slots.{slot_length, spare, pair_count, p_at, head_of, slot_of, zone_of, Framed}
 use Rattle.slots.specs.Containing.{inside_of, largest_slot, Readable, ComparableSlots}
@@ -51,6 +51,24 @@ use Rattle.slots.proofs.slot.Codec.{equal_slots_lem, largest_slot_lem, slot_size
 use Rattle.slots.proofs.slot.Loops.{slots_fit}
 use Rattle.search.proofs.exploration.Stores.{slot_as, SlotAt, slot_at, store_length, store_more, hit_none, hit_first, slot_fits, lent_part}
 use Rattle.search.proofs.exploration.Stores.{slot_lent, lent_slot, hit_inside}
+
+-- what shows a state shows another of the same zones, where it has that one's fractions, counts and outcome
+shown_with : {n : ℕ} {s₀ : List ℤ} {q : ZoneState} {s : List ℤ} {t : Turn} → Shown n s₀ q s t →
+    {f : Fractions} {exact safe : Fraction} → exact ≡ f.exact → safe ≡ f.safe →
+    {again inside : ℕ} {dropped : Dropped} → dropped.again ≡ again → dropped.inside ≡ inside →
+    {x : defined.Outcome} {o : Outcome} → outcome_of o ≡ x → Honest o →
+    Shown n s₀ (record { kept = q.kept; frac = f; outcome = x; again = again; inside = inside }) s
+    (record { count = t.count; exact = exact; safe = safe; dropped = dropped; outcome = o })
+shown_with d e g a i x h = record {
+  number = d.number;
+  store = d.store;
+  exact = e;
+  safe = g;
+  again = a;
+  inside = i;
+  outcome = x;
+  honest = h;
+}
 
 -- the outcome that tells the origin is the definition's
 pub came_back : (c : Came) → came_of (origin_of c) ≡ c
@@ -157,41 +175,14 @@ module _ (b : List ℕ) (a : Accepted b) where
     stopped_by : {k : Refusal} →
         Shown n s₀ (defined.stopped q (fractions_of w.fraction turn.safe) (refused (number k))) s (refused_by turn w.fraction k)
     unfolding outcome_of
-    stopped_by = record {
-      number = d.shown.number;
-      store = d.shown.store;
-      exact = refl;
-      safe = refl;
-      again = d.shown.again;
-      inside = d.shown.inside;
-      outcome = refl;
-      honest = tt;
-    }
+    stopped_by = shown_with d.shown refl refl d.shown.again d.shown.inside refl tt
 
     -- and one with one zone dropped
     dropped_as : (x : Inside) {f : Fractions} {u : Bool} → x.equal ≡ u → lowered_by w.fraction x.below ≡ f.exact →
         lowered_by turn.safe x.below ≡ f.safe → Shown n s₀ (dropping q f u) s (contained_by turn w.fraction x)
     unfolding outcome_of dropping dropped_with
-    dropped_as x {u = true} e f g = rw e (record {
-      number = d.shown.number;
-      store = d.shown.store;
-      exact = f;
-      safe = g;
-      again = omega (arith, d.shown.again);
-      inside = d.shown.inside;
-      outcome = refl;
-      honest = tt;
-    })
-    dropped_as x {u = false} e f g = rw e (record {
-      number = d.shown.number;
-      store = d.shown.store;
-      exact = f;
-      safe = g;
-      again = d.shown.again;
-      inside = omega (arith, d.shown.inside);
-      outcome = refl;
-      honest = tt;
-    })
+    dropped_as x {u = true} e f g = rw e (shown_with d.shown f g (omega (arith, d.shown.again)) d.shown.inside refl tt)
+    dropped_as x {u = false} e f g = rw e (shown_with d.shown f g d.shown.again (omega (arith, d.shown.inside)) refl tt)
 
     -- it is inside a kept one: the oldest such counts
     judged_inside : j < turn.count → {L : ℕ} → L ≡ slot_length n → {x : Inside} →
@@ -391,16 +382,7 @@ module _ (b : List ℕ) (capacity : ℕ) (s : List ℤ) (turn : Turn) (l : ℕ) 
   pub gives_empty : is_empty r ≡ true → {t : Turn} → t ≡ emptied_by turn r.work.fraction (safe_of r) → Continues b capacity s turn offers s t
   unfolding result_of offer outcome_of
   gives_empty e f = record {
-    shows = λ s₀ q d. rw (e, f) (record {
-      number = d.shown.number;
-      store = d.shown.store;
-      exact = refl;
-      safe = refl;
-      again = d.shown.again;
-      inside = d.shown.inside;
-      outcome = refl;
-      honest = tt;
-    });
+    shows = λ s₀ q d. rw (e, f) (shown_with d.shown refl refl d.shown.again d.shown.inside refl tt);
   }
 
   pub gives_target : is_empty r ≡ false → l ≡ target b → Continues b capacity s turn offers s (reached_by turn r.work.fraction o)
@@ -410,16 +392,7 @@ module _ (b : List ℕ) (capacity : ℕ) (s : List ℤ) (turn : Turn) (l : ℕ) 
         λ s₀ q d. rw e
         (subst (λ (x : ZoneState). Shown (suc (clocks b)) s₀ x s (reached_by turn r.work.fraction o))
         (sym (computes (system_of b) (zones_of b) (was_target (eq-eqb l (target b) g))))
-        (record {
-          number = d.shown.number;
-          store = d.shown.store;
-          exact = refl;
-          safe = refl;
-          again = d.shown.again;
-          inside = d.shown.inside;
-          outcome = met_by p.told;
-          honest = well_told p.came p.told;
-        }));
+        (shown_with d.shown refl refl d.shown.again d.shown.inside (met_by p.told) (well_told p.came p.told)));
   }
 
   pub gives_judged : is_empty r ≡ false → {s' : List ℤ} {t : Turn} →
