@@ -26,7 +26,8 @@ use Rattle.search.specs.declared.outcome.Dropped.{Dropped}
 use Rattle.search.specs.declared.outcome.Outcome.{Outcome}
 use Rattle.search.specs.declared.outcome.Outcome.TheVariants.{Reached}
 use Rattle.search.specs.declared.outcome.Turn.{Turn}
-use Rattle.search.specs.Outcomes.{came_of, outcome_of, Honest, Few, most_offers, dropped_with, emptied_by, contained_by, kept_by, reached_by, refused_by}
+use Rattle.search.specs.Outcomes.{came_of, outcome_of, Honest, Few, most_offers}
+use Rattle.search.specs.Outcomes.{dropped_with, emptied_by, contained_by, kept_by, reached_by, refused_by}
 use Rattle.automata.specs.Accepted.{Accepted}
 use Rattle.automata.specs.Numbers.{number}
 use Rattle.automata.specs.declared.refusals.Refusal.{Refusal}
