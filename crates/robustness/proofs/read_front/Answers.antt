@@ -12,4 +12,4 @@ front known (Some all) limit most old got e f k h = search rules
 
 pub returns : goal.returns
 returns g c =
-    front _ _ _ _ _ _ (ap (λ r. g.R.Read.remaining r.now) c.take.ensures.inner) c.take.ensures.limit c.new-bytes.ensures (c.in_ok-copy.ensures.bytes)
+    front _ _ _ _ _ _ (ap (λ r. g.R.Read.remaining r.now) c.take.ensures.inner) c.take.ensures.limit c.requires (c.in_ok-copy.ensures.bytes)
