@@ -1,6 +1,4 @@
 // Where everything stands in a cache: its header, and the fields of a record, as a value for each version.
-ghost use Rattle.cache.specs.Layouts.{Laid};
-
 use encoding::be32;
 
 // The header: four bytes of used length, then the version.
@@ -22,16 +20,17 @@ pub struct Layout {
     pub d: usize,
     pub zones: usize,
     pub head: usize,
-    pub ghost laid: { Laid kind n d zones head },
 }
 
 impl Layout {
     ghost use Rattle.std.specs.Prelude.{◌≡◌, MatchOption};
+    ghost use Rattle.cache.specs.Layouts.{Laid};
     ghost use Rattle.cache.specs.Versions.{version1};
     ghost use Rattle.cache.specs.Records.{measured, Begins};
 
     pub(crate) fn version_1() -> Layout
-        ensures { result ≡ version1 }
+        ensures value { result ≡ version1 }
+        ensures laid { Laid result }
     {
         Layout {
             version: 1,
@@ -46,6 +45,7 @@ impl Layout {
     // The length of the record that the bytes begin with, none where they begin with none. It is cast, since usize has no `From` for u32.
     #[tactic(auto, unfolding(crate::specs::Records::measured))]
     pub(crate) fn measure(self, bytes: &[u8]) -> Option<usize>
+        requires { Laid self }
         ensures { MatchOption result (measured self bytes.now ≡ 0) (Begins self bytes.now) }
     {
         if bytes.len() < self.head {

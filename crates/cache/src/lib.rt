@@ -7,7 +7,7 @@ mod records;
 
 ghost use Rattle.std.specs.Prelude.{◌≡◌, ◌+◌, ◌≤◌, false, length, MatchOption};
 ghost use Rattle.canonical.specs.Writing.{form_buffer};
-ghost use Rattle.cache.specs.Layouts.{header_length, longest};
+ghost use Rattle.cache.specs.Layouts.{Laid, header_length, longest};
 ghost use Rattle.cache.specs.Versions.{version1};
 ghost use Rattle.cache.specs.Entries.{entry_length, entry_record};
 ghost use Rattle.cache.specs.Caches.{used_of, sound_as, sound};
@@ -54,6 +54,7 @@ pub fn make_empty(cache: &mut [u8]) -> Result<(), Refusal>
 // The records of a sound cache, none where it isn't sound.
 #[tactic(auto, unfolding(crate::specs::Caches::sound_as, crate::specs::Caches::sound_header))]
 fn open_as(cache: &[u8], layout: Layout) -> Option<Records<'_>>
+    requires { Laid layout }
     ensures { MatchOption result (sound_as layout cache.now ≡ false) (Opened layout cache.now) }
 {
     if cache.len() < HEADER {
@@ -120,6 +121,7 @@ fn search_and_file(
     automaton: &[u8],
     store: &mut [i32],
 ) -> Result<Answer, Refusal>
+    requires laid { Laid layout }
     requires used_fits { (header_length ≤ used_of cache.old) × (used_of cache.old ≤ length cache.old) }
     ensures { Searches layout cache.old automaton.now store.old result cache.new store.new }
 {

@@ -1,6 +1,7 @@
 // One record of a cache. Its numbers are cast to the u32 that their bytes hold, since no wider type has a `From` to it; `fits` says that they fit.
 ghost use Rattle.std.specs.Prelude.{◌≡◌, ◌≤◌, length};
 ghost use Rattle.encoding.specs.Placing.{placed};
+ghost use Rattle.cache.specs.Layouts.{Laid};
 ghost use Rattle.cache.specs.Records.{record_numbers, record_automaton, sound_record, filed_as, number_bytes, AnswerFits};
 
 use crate::layout::Layout;
@@ -14,6 +15,7 @@ use search::verdict::{Answer, Numbers};
 pub(crate) struct Record<'a> {
     pub(crate) bytes: &'a [u8],
     pub(crate) layout: Layout,
+    pub(crate) ghost laid: { Laid layout },
     pub(crate) ghost has_head: { layout.head ≤ length bytes.now },
 }
 
@@ -60,6 +62,7 @@ pub(crate) struct Entry<'a> {
     pub(crate) layout: Layout,
     pub(crate) answer: Answer,
     pub(crate) automaton: &'a [u8],
+    pub(crate) ghost laid: { Laid layout },
     pub(crate) ghost fits: { AnswerFits layout answer automaton.now },
 }
 

@@ -1,4 +1,6 @@
 // The records of a cache, one after another.
+ghost use Rattle.cache.specs.Layouts.{Laid};
+
 use crate::layout::Layout;
 use crate::record::Record;
 use encoding::same;
@@ -9,6 +11,7 @@ use search::verdict::Answer;
 pub(crate) struct Records<'a> {
     pub(crate) bytes: &'a [u8],
     pub(crate) layout: Layout,
+    pub(crate) ghost laid: { Laid layout },
 }
 
 impl<'a> Iterator for Records<'a> {

@@ -16,7 +16,7 @@ returns c =
     let e = c.args.entry.now in
     let r = entry_record e in
     let used = c.used-used in
-    let size = c.length.ensures ∙ sym (written_length e.layout (entry_numbers e) e.answer.zones e.automaton.now) in
+    let size = c.length.ensures ∙ sym (written_length e.laid (entry_numbers e) e.answer.zones e.automaton.now) in
     let next = c.bytes_of.ensures ∙ ap be32 (λ i. used.ensures.value i + size i) in
     let behind = lent_placed cache r used.result c.write.ensures ∙ ap (λ (n : ℕ). placed n r cache) used.ensures.value in
     c.put.ensures ∙ (λ i. placed 0 (next i) (behind i))

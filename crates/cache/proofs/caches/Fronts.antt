@@ -11,7 +11,7 @@ use native.Mathlib.Omega.{arith}
 use Rattle.encoding.specs.Numbers.{be32}
 use Rattle.encoding.proofs.Numbers.{be32-back}
 use Rattle.cache.specs.declared.layout.Layout.{Layout}
-use Rattle.cache.specs.Layouts.{header_length, version_at, longest}
+use Rattle.cache.specs.Layouts.{header_length, version_at, longest, Laid}
 use Rattle.encoding.specs.Placing.{placed}
 use Rattle.cache.specs.Records.{measured, sound_record, record_automaton}
 use Rattle.cache.specs.Lookups.{look_up, is_absent}
@@ -94,10 +94,10 @@ with_front {p = p} f r h =
       bytes = drop-append-le 1 (drop version_at p) r (omega (arith, tail, f.long)) ∙ ap (λ (t : List ℕ). t ++ r) (drop-drop 1 version_at p ∙ f.bytes);
     }
 
-with_fine : (L : Layout) {s : List ℕ} → Fine L s → (r : List ℕ) → measured L r ≡ length r → 0 < length r → sound_record L r ≡ true
+with_fine : {L : Layout} → Laid L → {s : List ℕ} → Fine L s → (r : List ℕ) → measured L r ≡ length r → 0 < length r → sound_record L r ≡ true
     → is_absent (look_up L (records_in L s) (record_automaton L r)) ≡ true → Fine L (s ++ r)
-with_fine L {s} k r e h g a =
-    let more : records_in L (s ++ r) ≡ records_in L s ++ (r ∷ []) = records_append L r e h s k.filled in
+with_fine {L} laid {s} k r e h g a =
+    let more : records_in L (s ++ r) ≡ records_in L s ++ (r ∷ []) = records_append laid r e h s k.filled in
     record {
       filled = rw more (omega (arith, total-append (records_in L s) r, k.filled, length-append s r));
       each = rw more (sound-append L (records_in L s) r k.each g);
@@ -117,16 +117,16 @@ module _ {L : Layout} (c r : List ℕ) (k : Sound L c) (room : Room c (length r)
   appended_is : Front L (with (take (used_of c) c) r) (record_bytes c ++ r)
   appended_is = with_front (sound_front L c k) r (omega (arith, length-take-le (used_of c) c k.most, room.bytes))
 
-  module _ (e : measured L r ≡ length r) (h : 0 < length r) where
+  module _ (laid : Laid L) (e : measured L r ≡ length r) (h : 0 < length r) where
     pub appended_records : records_of L (appended c r) ≡ records_of L c ++ (r ∷ [])
     appended_records =
         ap (records_of L) appended_front ∙ front_records appended_is (drop (used_of c + length r) c)
-        ∙ records_append L r e h (record_bytes c) k.fine.filled
+        ∙ records_append laid r e h (record_bytes c) k.fine.filled
 
     pub appended-sound : sound_record L r ≡ true → is_absent (look_up L (records_of L c) (record_automaton L r)) ≡ true
         → sound_as L (appended c r) ≡ true
     appended-sound g a =
-        ap (sound_as L) appended_front ∙ front_sound appended_is (drop (used_of c + length r) c) (with_fine L k.fine r e h g a)
+        ap (sound_as L) appended_front ∙ front_sound appended_is (drop (used_of c + length r) c) (with_fine laid k.fine r e h g a)
 
 -- ---- the used bytes lent again, with others behind them
 module _ (L : Layout) (c : List ℕ) (sound≡ : sound_as L c ≡ true) (rest : List ℕ) where

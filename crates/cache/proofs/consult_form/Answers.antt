@@ -15,7 +15,7 @@ returns-in_err-answer c =
 -- where the automaton is absent the cache is sound
 pub search_and_file-requires : goal.search_and_file-requires
 unfolding look_up_as sound_as sound_header
-search_and_file-requires c = grind (arith, common_steps)
+search_and_file-requires c = record { laid = c.version_1.ensures.laid; used_fits = grind (arith, common_steps) }
 
 pub returns-in-Some : goal.returns-in-Some
 unfolding answer_to consult_answer_as searched consult_cache_as consult_store_as

@@ -22,7 +22,7 @@ use Rattle.search.specs.Verdicts.{numbers_of}
 use Rattle.search.specs.Answers.{search_answer}
 use Rattle.search.proofs.answers.Given.{promised}
 use Rattle.cache.specs.declared.layout.Layout.{Layout}
-use Rattle.cache.specs.Layouts.{header_length, longest}
+use Rattle.cache.specs.Layouts.{header_length, longest, Laid}
 use Rattle.encoding.specs.Placing.{placed}
 use Rattle.cache.specs.Records.{measured, answer_record}
 use Rattle.cache.specs.Lookups.{look_up, is_absent}
@@ -71,7 +71,7 @@ module _ (L : Layout) (c : List ℕ) (h : header_length ≤ length c) where
 
   empty_laid : make_empty_as L c ≡ empty_header L ++ rest
   unfolding placed
-  empty_laid = sym (empty-made L c h) ∙ simp zero-add
+  empty_laid = sym (empty-made L c h).1 ∙ simp zero-add
 
   pub empty_records : records_of L (make_empty_as L c) ≡ []
   empty_records = ap (records_of L) empty_laid ∙ front_records (empty_front L) rest ∙ no_records L
@@ -80,7 +80,7 @@ module _ (L : Layout) (c : List ℕ) (h : header_length ≤ length c) where
   empty-sound = ap (sound_as L) empty_laid ∙ front_sound (empty_front L) rest (empty_fine L)
 
 -- ---- the record of a verdict that the search gave
-module _ (L : Layout) (c b : List ℕ) (amount : ℕ) (a : Answer)
+module _ {L : Layout} (laid : Laid L) (c b : List ℕ) (amount : ℕ) (a : Answer)
     (t : Asked L c b None) (f : full c (L.head + length b) ≡ false) (e : search_answer b amount ≡ Ok a) where
   abbrev new : List ℕ
   new = answer_record L a b
@@ -92,7 +92,7 @@ module _ (L : Layout) (c b : List ℕ) (amount : ℕ) (a : Answer)
   facts = sound_facts L c t.sound
 
   size : length new ≡ L.head + length b
-  size = written_length L _ _ b
+  size = written_length laid _ _ b
 
   room : Room c (length new)
   room = has_room c (length new) facts.least (ap (full c) size ∙ f)
@@ -101,36 +101,36 @@ module _ (L : Layout) (c b : List ℕ) (amount : ℕ) (a : Answer)
   short = omega (arith, room.bytes, size)
 
   measured_all : measured L new ≡ length new
-  measured_all = written-measured L _ _ b (given_fits b a given short)
+  measured_all = written-measured laid _ _ b (given_fits b a given short)
 
   pub filed_records : records_of L (appended c new) ≡ records_of L c ++ (new ∷ [])
-  filed_records = appended_records c new facts room measured_all (omega (arith, size, L.laid))
+  filed_records = appended_records c new facts room laid measured_all (omega (arith, size, laid))
 
   pub filed-sound : is_canonical b ≡ true → sound_as L (appended c new) ≡ true
   filed-sound ok =
-      appended-sound c new facts room measured_all (omega (arith, size, L.laid)) (record_sound L b a given short ok)
-      (rw (written_automaton L _ _ b, t.there) refl)
+      appended-sound c new facts room laid measured_all (omega (arith, size, laid)) (record_sound laid b a given short ok)
+      (rw (written_automaton laid _ _ b, t.there) refl)
 
   -- what is looked up there: what was there, else the new verdict of b
   pub filed_there : (x : List ℕ) → look_up L (records_of L (appended c new)) x
       ≡ cond (is_absent (look_up L (records_of L c) x)) (cond (same_bytes b x) (Some a) None) (look_up L (records_of L c) x)
   unfolding look_up
   filed_there x =
-      let own = written_automaton L (numbers_of a.verdict) a.zones b in
-      rw (filed_records, look_append L (records_of L c) new x, own, filed-back L b a given short) refl
+      let own = written_automaton laid (numbers_of a.verdict) a.zones b in
+      rw (filed_records, look_append L (records_of L c) new x, own, filed-back laid b a given short) refl
 
-pub sound_stays : (L : Layout) (c b : List ℕ) (amount : ℕ) → is_canonical b ≡ true → sound_as L c ≡ true
+pub sound_stays : {L : Layout} → Laid L → (c b : List ℕ) (amount : ℕ) → is_canonical b ≡ true → sound_as L c ≡ true
     → sound_as L (consult_cache_as L c b amount) ≡ true
-sound_stays L c b amount ok h = go (way L c b amount)
+sound_stays {L} laid c b amount ok h = go (way L c b amount)
   where
     go : {r : Result Answer Refusal} {c' : List ℕ} → Way L c b amount r c' → sound_as L c' ≡ true
     go (told a s f) = h
     go (turned_down k f) = h
     go (stopped k s f) = h
-    go (filed a s f e) = filed-sound L c b amount a s f e ok
+    go (filed a s f e) = filed-sound laid c b amount a s f e ok
 
 -- ---- a record is written exactly where a verdict was reached that was not there
-module _ (L : Layout) (c b : List ℕ) (amount : ℕ) where
+module _ {L : Layout} (laid : Laid L) (c b : List ℕ) (amount : ℕ) where
   -- the records that an answer to an automaton that is not there leaves
   abbrev Left : Result Answer Refusal → List (List ℕ) → Type 0
   Left (Ok a) rs = rs ≡ records_of L c ++ (answer_record L a b ∷ [])
@@ -140,7 +140,7 @@ module _ (L : Layout) (c b : List ℕ) (amount : ℕ) where
   left h (told a s f) = cc (answered L c b (Some a) s)
   left h (turned_down k f) = refl
   left h (stopped k s f) = refl
-  left h (filed a s f e) = filed_records L c b amount a s f e
+  left h (filed a s f e) = filed_records laid c b amount a s f e
 
   pub files : (a : Answer) → look_up_as L c b ≡ Ok None → consult_answer_as L c b amount ≡ Ok a
       → records_of L (consult_cache_as L c b amount) ≡ records_of L c ++ (answer_record L a b ∷ [])
@@ -160,27 +160,27 @@ abbrev Known : Layout → List ℕ → List ℕ → Result Answer Refusal → Ty
 Known L c b (Ok a) = Asked L c b (Some a)
 Known L c b (Err k) = Unit {0}
 
-known_once : (L : Layout) (c b : List ℕ) (amount : ℕ) → is_canonical b ≡ true → {r : Result Answer Refusal} {c' : List ℕ} → Way L c b amount r c'
-    → Known L c' b r
-known_once L c b amount ok (told a s f) = s
-known_once L c b amount ok (turned_down k f) = tt
-known_once L c b amount ok (stopped k s f) = tt
-known_once L c b amount ok (filed a s f e) = record {
-  sound = filed-sound L c b amount a s f e ok;
-  there = filed_there L c b amount a s f e b ∙ rw (s.there, equal_same b);
+known_once : {L : Layout} → Laid L → (c b : List ℕ) (amount : ℕ) → is_canonical b ≡ true → {r : Result Answer Refusal} {c' : List ℕ}
+    → Way L c b amount r c' → Known L c' b r
+known_once laid c b amount ok (told a s f) = s
+known_once laid c b amount ok (turned_down k f) = tt
+known_once laid c b amount ok (stopped k s f) = tt
+known_once laid c b amount ok (filed a s f e) = record {
+  sound = filed-sound laid c b amount a s f e ok;
+  there = filed_there laid c b amount a s f e b ∙ rw (s.there, equal_same b);
 }
 
-pub known_answer : (L : Layout) (c b : List ℕ) (amount : ℕ) → is_canonical b ≡ true → (a : Answer)
+pub known_answer : {L : Layout} → Laid L → (c b : List ℕ) (amount : ℕ) → is_canonical b ≡ true → (a : Answer)
     → consult_answer_as L c b amount ≡ Ok a → Asked L (consult_cache_as L c b amount) b (Some a)
-known_answer L c b amount ok a e =
-    subst (Known L (consult_cache_as L c b amount) b) e (known_once L c b amount ok (way L c b amount))
+known_answer {L} laid c b amount ok a e =
+    subst (Known L (consult_cache_as L c b amount) b) e (known_once laid c b amount ok (way L c b amount))
 
-pub known_stays : (L : Layout) (c b x : List ℕ) (amount : ℕ) → is_canonical b ≡ true → (a : Answer)
+pub known_stays : {L : Layout} → Laid L → (c b x : List ℕ) (amount : ℕ) → is_canonical b ≡ true → (a : Answer)
     → Asked L c x (Some a) → {r : Result Answer Refusal} {c' : List ℕ} → Way L c b amount r c' → Asked L c' x (Some a)
-known_stays L c b x amount ok a h (told u s f) = h
-known_stays L c b x amount ok a h (turned_down k f) = h
-known_stays L c b x amount ok a h (stopped k s f) = h
-known_stays L c b x amount ok a h (filed u s f e) = record {
-  sound = filed-sound L c b amount u s f e ok;
-  there = filed_there L c b amount u s f e x ∙ rw h.there;
+known_stays laid c b x amount ok a h (told u s f) = h
+known_stays laid c b x amount ok a h (turned_down k f) = h
+known_stays laid c b x amount ok a h (stopped k s f) = h
+known_stays laid c b x amount ok a h (filed u s f e) = record {
+  sound = filed-sound laid c b amount u s f e ok;
+  there = filed_there laid c b amount u s f e x ∙ rw h.there;
 }

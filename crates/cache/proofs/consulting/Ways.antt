@@ -12,7 +12,7 @@ use Rattle.std.specs.Prelude.{Option, Some, None, Result, Ok, Err}
 use Rattle.automata.specs.declared.refusals.Refusal.{Refusal}
 use Rattle.automata.specs.declared.refusals.Refusal.TheVariants.{CacheFull}
 use Rattle.search.specs.declared.verdict.Answer.{Answer}
-use Rattle.search.specs.Answers.{search_answer}
+use Rattle.search.specs.Answers.{search_answer, search_store}
 use Rattle.cache.specs.declared.layout.Layout.{Layout}
 use Rattle.cache.specs.Records.{answer_record}
 use Rattle.cache.specs.Lookups.{look_up}
@@ -52,10 +52,11 @@ module _ (L : Layout) (c b : List ℕ) where
     unfolding consult_answer_as consult_cache_as consult_store_as searched answer_to
     full_all f amount s = grind (arith, common_steps)
 
-    searched_all : full c (L.head + length b) ≡ false → (amount : ℕ)
+    searched_all : full c (L.head + length b) ≡ false → (amount : ℕ) (s : List ℤ)
         → (consult_answer_as L c b amount ≡ search_answer b amount) × (consult_cache_as L c b amount ≡ filing L c b (search_answer b amount))
-    unfolding consult_answer_as consult_cache_as searched answer_to
-    searched_all f amount = grind (arith, common_steps)
+        × (consult_store_as L c b s ≡ search_store b s)
+    unfolding consult_answer_as consult_cache_as consult_store_as searched answer_to
+    searched_all f amount s = grind (arith, common_steps)
 
 -- ---- the ways that a consulting goes, with its answer and the cache that it leaves
 pub data Way (L : Layout) (c b : List ℕ) (amount : ℕ) : Result Answer Refusal → List ℕ → Type 0 where
@@ -81,7 +82,7 @@ module _ (L : Layout) (c b : List ℕ) (amount : ℕ) where
   way_absent : look_up_as L c b ≡ Ok None → (t : Bool) → full c (L.head + length b) ≡ t → Goes
   way_absent e true f = let q = full_all L c b e f in stands q (turned_down CacheFull q)
   way_absent e false f =
-      let q = searched_all L c b e f amount in
+      let q = searched_all L c b e f amount [] in
       rw (q.0, q.1) (way_searched (asked L c b None e) f (search_answer b amount) refl)
 
   pub way : Goes

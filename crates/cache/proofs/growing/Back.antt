@@ -12,6 +12,7 @@ use Rattle.canonical.specs.Writing.{form_refusal}
 use Rattle.canonical.proofs.Answers.{Writing, written, refused, writing, form_free}
 use Rattle.std.specs.Prelude.{Some, Ok}
 use Rattle.search.specs.declared.verdict.Answer.{Answer}
+use Rattle.cache.specs.Layouts.{Laid}
 use Rattle.cache.specs.Versions.{version1}
 use Rattle.cache.specs.Caches.{sound}
 use Rattle.cache.specs.Consulting.{look_up_as}
@@ -22,6 +23,9 @@ use Rattle.cache.proofs.consulting.Ways.{Asked, answered, told_all, way}
 use Rattle.cache.proofs.consulting.Filing.{empty-sound, sound_stays, known_answer, known_stays}
 use Rattle.cache.proofs.consulting.Drawn.{looks_form, answers_form, leaves_form, stores_form, answers_refused, leaves-refused}
 
+pub laid : Laid version1
+laid = record { kind_at = refl; n_at = refl; d_at = refl; zones_at = refl; head_ends = refl }
+
 -- the form of an automaton is one that is filed
 form_ok : (b : List ℕ) (room : ℕ) → form_refusal b room ≡ 0 → is_canonical (canonical_of b) ≡ true
 unfolding is_canonical
@@ -31,7 +35,7 @@ pub consult_sound : (c b : List ℕ) (room amount : ℕ) → sound c ≡ true �
 consult_sound c b room amount h = go (writing b room)
   where
     go : Writing b room → sound (consult_cache c b room amount) ≡ true
-    go (written z) = ap sound (leaves_form c b room z amount) ∙ sound_stays version1 c (canonical_of b) amount (form_ok b room z) h
+    go (written z) = ap sound (leaves_form c b room z amount) ∙ sound_stays laid c (canonical_of b) amount (form_ok b room z) h
     go (refused n) = ap sound (leaves-refused c b room n amount) ∙ h
 
 pub grown_sound : (c : List ℕ) → Grown c → sound c ≡ true
@@ -49,7 +53,7 @@ known_consulted c b x room amount a h = go (writing b room)
 
     go : Writing b room → Known (consult_cache c b room amount)
     go (written z) = subst Known (sym (leaves_form c b room z amount))
-        (known_stays version1 c (canonical_of b) x amount (form_ok b room z) a h (way version1 c (canonical_of b) amount))
+        (known_stays laid c (canonical_of b) x amount (form_ok b room z) a h (way version1 c (canonical_of b) amount))
     go (refused n) = subst Known (sym (leaves-refused c b room n amount)) h
 
 known_later : (c x : List ℕ) (a : Answer) → Asked version1 c x (Some a) → {c' : List ℕ} → Later c c'
@@ -80,7 +84,7 @@ known_found c b room amount a e = go (writing b room)
   where
     go : Writing b room → Asked version1 (consult_cache c b room amount) (canonical_of b) (Some a)
     go (written z) = subst (λ (y : List ℕ). Asked version1 y (canonical_of b) (Some a)) (sym (leaves_form c b room z amount))
-        (known_answer version1 c (canonical_of b) amount (form_ok b room z) a (sym (answers_form c b room z amount) ∙ e))
+        (known_answer laid c (canonical_of b) amount (form_ok b room z) a (sym (answers_form c b room z amount) ∙ e))
     go (refused n) = let z : ◌≡◌ {A = ℕ} 0 1 = cc (sym (answers_refused c b room n amount) ∙ e) in absurd (omega arith)
 
 pub given_back : (c b : List ℕ) (room amount : ℕ) (a : Answer) → consult_answer c b room amount ≡ Ok a

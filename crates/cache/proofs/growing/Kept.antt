@@ -25,7 +25,7 @@ use Rattle.cache.proofs.caches.Fronts.{lent_records}
 use Rattle.cache.proofs.consulting.Ways.{answered, Way, told, turned_down, stopped, filed, way}
 use Rattle.cache.proofs.consulting.Filing.{empty_records, filed_there}
 use Rattle.cache.proofs.consulting.Drawn.{leaves_form, leaves-refused}
-use Rattle.cache.proofs.growing.Back.{grown_sound}
+use Rattle.cache.proofs.growing.Back.{laid, grown_sound}
 
 -- ---- what is filed is the search's
 -- of a verdict; nothing of the rest
@@ -50,7 +50,7 @@ way_kept c b amount x h (filed a s f e) =
     let p = promised b amount in
     let old = look_up version1 (records_of version1 c) x in
     let new : Kept b (Some a) = (subst (Robust b) e p.robust, subst (Lasting b) e (lasting b amount)) in
-    rw (filed_there version1 c b amount a s f e x) (either x (is_absent old) _ old (kept_under b x a new (same_bytes b x) refl) h)
+    rw (filed_there laid c b amount a s f e x) (either x (is_absent old) _ old (kept_under b x a new (same_bytes b x) refl) h)
 
 consult_kept : (c b : List ℕ) (room amount : ℕ) (x : List ℕ) → Kept x (look_up version1 (records_of version1 c) x)
     → Kept x (look_up version1 (records_of version1 (consult_cache c b room amount)) x)

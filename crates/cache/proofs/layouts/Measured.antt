@@ -9,6 +9,7 @@ use native.Mathlib.Omega.{arith}
 use Rattle.std.proofs.lemmas.Grind.{common_steps}
 use Rattle.encoding.specs.Numbers.{be16_at, be32_at}
 use Rattle.cache.specs.declared.layout.Layout.{Layout}
+use Rattle.cache.specs.Layouts.{Laid}
 use Rattle.cache.specs.Records.{measured}
 
 module _ (L : Layout) (s : List ℕ) where
@@ -39,8 +40,8 @@ append-be32 (a ∷ b ∷ []) r h = absurd (omega arith)
 append-be32 (a ∷ b ∷ c ∷ []) r h = absurd (omega arith)
 append-be32 (a ∷ b ∷ c ∷ d ∷ s) r h = refl
 
-pub measured-append : (L : Layout) (s r : List ℕ) → 0 < measured L s → measured L (s ++ r) ≡ measured L s
-measured-append L s r h =
+pub measured-append : {L : Layout} → Laid L → (s r : List ℕ) → 0 < measured L s → measured L (s ++ r) ≡ measured L s
+measured-append {L} laid s r h =
     let w = whole L s in
     let g : L.head ≤ measured L s = w.least h in
     measured_field L (s ++ r) (measured L s) (append-be32 s r (omega (arith, w.short)) ∙ sym (w.field h)) g

@@ -18,7 +18,7 @@ use Rattle.search.specs.Given.{Given}
 use Rattle.search.specs.Verdicts.{numbers_of, verdict_of, sound_numbers}
 use Rattle.search.proofs.answers.Numbers.{numbers-back, numbers_are_sound, numbers-short}
 use Rattle.cache.specs.declared.layout.Layout.{Layout}
-use Rattle.cache.specs.Layouts.{longest}
+use Rattle.cache.specs.Layouts.{Laid, longest}
 use Rattle.cache.specs.Records.{record_numbers, record_zones, record_automaton, measured, sound_record, filed_as, number_bytes, record_of}
 use Rattle.cache.specs.Records.{answer_record, Fits, AnswerFits}
 use Rattle.cache.proofs.layouts.Measured.{measured_field}
@@ -33,7 +33,7 @@ be32_behind p x rest at e h =
     be32-drop at (p ++ (be32 x ++ rest)) ∙ ap (λ (s : List ℕ). be32_at s 0) (drop_at p (be32 x ++ rest) at e) ∙ be32-back x rest (omega arith)
 
 -- ---- the fields of a record: each behind those before it
-module _ (L : Layout) (x : Numbers) (zones : ℕ) (b : List ℕ) where
+module _ {L : Layout} (laid : Laid L) (x : Numbers) (zones : ℕ) (b : List ℕ) where
   abbrev whole : List ℕ
   whole = record_of L x zones b
 
@@ -42,11 +42,11 @@ module _ (L : Layout) (x : Numbers) (zones : ℕ) (b : List ℕ) where
 
   pub written_length : length whole ≡ L.head + length b
   unfolding record_of number_bytes be32
-  written_length = omega (arith, L.laid)
+  written_length = omega (arith, laid)
 
   pub written_automaton : record_automaton L whole ≡ b
   unfolding record_of number_bytes be32
-  written_automaton = drop_at (size ++ (number_bytes x ++ be32 zones)) b L.head (omega (arith, L.laid))
+  written_automaton = drop_at (size ++ (number_bytes x ++ be32 zones)) b L.head (omega (arith, laid))
 
   module _ (fits : Fits L x zones b) where
     pub written-measured : measured L whole ≡ length whole
@@ -58,14 +58,14 @@ module _ (L : Layout) (x : Numbers) (zones : ℕ) (b : List ℕ) where
     written-numbers : record_numbers L whole ≡ x
     unfolding record_of number_bytes be32
     written-numbers = λ i. record {
-      kind = get_or_at size x.kind (be32 x.n ++ (be32 x.d ++ (be32 zones ++ b))) 0 L.kind (omega (arith, L.laid)) i;
-      n = be32_behind (size ++ (x.kind ∷ [])) x.n (be32 x.d ++ (be32 zones ++ b)) L.n (omega (arith, L.laid)) fits.numbers_fit.n_fits i;
-      d = be32_behind (size ++ (x.kind ∷ be32 x.n)) x.d (be32 zones ++ b) L.d (omega (arith, L.laid)) fits.numbers_fit.d_fits i;
+      kind = get_or_at size x.kind (be32 x.n ++ (be32 x.d ++ (be32 zones ++ b))) 0 L.kind (omega (arith, laid)) i;
+      n = be32_behind (size ++ (x.kind ∷ [])) x.n (be32 x.d ++ (be32 zones ++ b)) L.n (omega (arith, laid)) fits.numbers_fit.n_fits i;
+      d = be32_behind (size ++ (x.kind ∷ be32 x.n)) x.d (be32 zones ++ b) L.d (omega (arith, laid)) fits.numbers_fit.d_fits i;
     }
 
     written_zones : record_zones L whole ≡ zones
     unfolding record_of number_bytes be32
-    written_zones = be32_behind (size ++ number_bytes x) zones b L.zones (omega (arith, L.laid)) fits.zones_fit
+    written_zones = be32_behind (size ++ number_bytes x) zones b L.zones (omega (arith, laid)) fits.zones_fit
 
 -- ---- a verdict that is given out
 pub given_fits : {L : Layout} (b : List ℕ) (a : Answer) → Given b (Ok a) → L.head + length b ≤ longest → AnswerFits L a b
@@ -73,7 +73,7 @@ given_fits b a g h =
     let s = numbers-short b a.verdict a.zones g in
     record { size_fits = h; numbers_fit = record { n_fits = omega arith; d_fits = omega arith }; zones_fit = omega arith }
 
-module _ (L : Layout) (b : List ℕ) (a : Answer) (g : Given b (Ok a)) (short : L.head + length b ≤ longest) where
+module _ {L : Layout} (laid : Laid L) (b : List ℕ) (a : Answer) (g : Given b (Ok a)) (short : L.head + length b ≤ longest) where
   abbrev x : Numbers
   x = numbers_of a.verdict
 
@@ -81,15 +81,15 @@ module _ (L : Layout) (b : List ℕ) (a : Answer) (g : Given b (Ok a)) (short : 
   fits = given_fits b a g short
 
   numbers : record_numbers L (answer_record L a b) ≡ x
-  numbers = written-numbers L x a.zones b fits
+  numbers = written-numbers laid x a.zones b fits
 
   pub filed-back : filed_as L (answer_record L a b) ≡ a
   filed-back = λ i. record {
     verdict = (ap verdict_of numbers ∙ numbers-back b a.verdict a.zones g) i;
-    zones = written_zones L x a.zones b fits i;
+    zones = written_zones laid x a.zones b fits i;
   }
 
   pub record_sound : is_canonical b ≡ true → sound_record L (answer_record L a b) ≡ true
   unfolding sound_record
   record_sound ok =
-      (λ i. sound_numbers (numbers i) && is_canonical (written_automaton L x a.zones b i)) ∙ rw (numbers_are_sound b a.verdict a.zones g, ok)
+      (λ i. sound_numbers (numbers i) && is_canonical (written_automaton laid x a.zones b i)) ∙ rw (numbers_are_sound b a.verdict a.zones g, ok)

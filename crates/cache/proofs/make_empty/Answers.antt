@@ -16,6 +16,6 @@ unfolding empty_header be32
 returns-clause-cache_after c =
     let a = c.args in
     let one = rw c.bytes_of.ensures at c.put.ensures in
-    let version = ap (λ (L : Layout). L.version ∷ []) c.version_1.ensures in
+    let version = ap (λ (L : Layout). L.version ∷ []) c.version_1.ensures.value in
     let two = goes_on a.cache.now (be32 header_length) (version1.version ∷ []) 0 version_at (omega arith) (omega arith) in
-    two one version c.put-2.ensures ∙ empty-made version1 a.cache.now (omega arith)
+    two one version c.put-2.ensures ∙ (empty-made version1 a.cache.now (omega arith)).1

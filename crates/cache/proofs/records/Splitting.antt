@@ -10,6 +10,7 @@ use native.Mathlib.Nat.{eq-zero-or-pos}
 use native.Mathlib.Omega.{arith}
 use Rattle.std.proofs.lemmas.Grind.{common_steps}
 use Rattle.cache.specs.declared.layout.Layout.{Layout}
+use Rattle.cache.specs.Layouts.{Laid}
 use Rattle.cache.specs.Records.{measured, Begins}
 use Rattle.cache.specs.Caches.{split, records_in, total}
 use Rattle.cache.proofs.layouts.Measured.{measured-le, measured-append}
@@ -51,10 +52,9 @@ module _ (L : Layout) where
       split_same (length s) (suc (length s)) s (omega arith) (omega arith) ∙ split_more (length s) s h
       ∙ ap (λ (rs : List (List ℕ)). take (measured L s) s ∷ rs) (split_same (length s) (length rest) rest (omega arith) (omega arith))
 
-  pub records_begun : (s : List ℕ) {n : ℕ} → Begins L s n → {r rest : List ℕ} → r ≡ take n s → rest ≡ drop n s
+  pub records_begun : Laid L → (s : List ℕ) {n : ℕ} → Begins L s n → {r rest : List ℕ} → r ≡ take n s → rest ≡ drop n s
       → records_in L s ≡ r ∷ records_in L rest
-  records_begun s b e f =
-      let laid = L.laid in
+  records_begun laid s b e f =
       rw (e, f, ← b.is) (records_more s (omega (arith, b.is, b.least, laid)))
 
   total_more : (s : List ℕ) → 0 < measured L s → total (records_in L s) ≡ measured L s + total (records_in L (drop (measured L s) s))
@@ -64,7 +64,7 @@ module _ (L : Layout) where
       ∙ ap (λ (n : ℕ). n + total (records_in L (drop (measured L s) s))) (length-take-le (measured L s) s (measured-le L s))
 
 -- ---- one more at the end: of bytes that records fill
-module _ (L : Layout) (r : List ℕ) (e : measured L r ≡ length r) (h : 0 < length r) where
+module _ {L : Layout} (laid : Laid L) (r : List ℕ) (e : measured L r ≡ length r) (h : 0 < length r) where
   records_one : records_in L r ≡ r ∷ []
   records_one = grind (arith, common_steps, records_more L r, no_records L, take-length r, drop-length r)
 
@@ -79,7 +79,7 @@ module _ (L : Layout) (r : List ℕ) (e : measured L r ≡ length r) (h : 0 < le
   append_more : (s : List ℕ) → 0 < measured L s → records_in L (drop (measured L s) s ++ r) ≡ records_in L (drop (measured L s) s) ++ (r ∷ [])
       → records_in L (s ++ r) ≡ records_in L s ++ (r ∷ [])
   append_more s p rest =
-      let k = measured-append L s r p in
+      let k = measured-append laid s r p in
       let most = measured-le L s in
       grind (
         arith,

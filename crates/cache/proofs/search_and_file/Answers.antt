@@ -6,4 +6,6 @@ use Rattle.cache.proofs.search_and_file.Goals as goal
 
 pub invariant_of-entry : goal.invariant_of-entry
 unfolding answer_in
-invariant_of-entry c = record { fits = given_fits _ _ (rw c.in_ok-answer.was at c.search.ensures.promised.given) (omega arith) }
+invariant_of-entry c =
+    let given = rw c.in_ok-answer.was at c.search.ensures.promised.given in
+    record { laid = c.requires.laid; fits = given_fits _ _ given (omega arith) }

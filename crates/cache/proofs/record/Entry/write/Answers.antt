@@ -15,7 +15,7 @@ unfolding record_of number_bytes be32
 returns c =
     let e = c.args.self.now in
     let L = e.layout in
-    let laid = L.laid in
+    let laid = e.laid in
     let x = numbers_of e.answer.verdict in
     let z = e.answer.zones in
     let b = e.automaton.now in

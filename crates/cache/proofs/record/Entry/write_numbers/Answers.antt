@@ -11,7 +11,7 @@ unfolding number_bytes be32
 returns c =
     let e = c.args.self.now in
     let L = e.layout in
-    let laid = L.laid in
+    let laid = e.laid in
     let room = c.requires in
     let x = c.from-x.result in
     let s = c.args.free.now in

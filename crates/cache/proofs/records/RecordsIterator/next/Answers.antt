@@ -13,12 +13,12 @@ returns-clause-steps c =
       layout = refl;
       rest_layout = refl;
       bytes = rw (parts.front, parts.back) (sym (take-append-drop _ _));
-      records = records_begun w.layout w.bytes.now c.in_ok-length.ensures parts.front parts.back;
+      records = records_begun w.layout w.laid w.bytes.now c.in_ok-length.ensures parts.front parts.back;
     }
 
 pub returns-clause-goes : goal.returns-clause-goes
 returns-clause-goes c =
     let w = c.args.self.now in
     let parts = c.split_at.ensures in
-    let more = records_begun w.layout w.bytes.now c.in_ok-length.ensures parts.front parts.back in
+    let more = records_begun w.layout w.laid w.bytes.now c.in_ok-length.ensures parts.front parts.back in
     record { on = λ f. (tt, tt, omega (arith, ap length more)); keeps = tt; rests = λ f. tt }
