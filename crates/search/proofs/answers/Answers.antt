@@ -94,12 +94,11 @@ module _ (b : List ℕ) (ok : refusal_of b ≡ 0) (s s' : List ℤ) (t : Turn) (
       let c = capacity_of (suc (clocks b)) (length s) in
       omega (arith, h.number, search_room (system_of b) (zones_of b) c, capacity_small (suc (clocks b)) (length s))
 
-  pub searched_findings : {r : Result Findings Refusal} → r ≡ turn_findings t.outcome (fractions_of t.exact t.safe) t.count t.dropped →
+  pub searched_findings : {r : Result Findings Refusal} → r ≡ findings_of (outcome_of t.outcome) (fractions_of t.exact t.safe) t.count t.dropped →
       r ≡ search_findings b (length s)
   unfolding state_findings
   searched_findings e =
       e
-      ∙ turn_found t.outcome (fractions_of t.exact t.safe) t.count t.dropped
       ∙ (λ i. findings_of (h.outcome i) (fractions_of (h.exact i) (h.safe i)) (h.number i) (record { again = h.again i; inside = h.inside i }))
       ∙ sym (found_accepted b ok (length s))
 
