@@ -1,7 +1,5 @@
 -- The documents' lines, and one with longer numbers.
 use Rattle.std.specs.Prelude.{ℕ, List, [], ◌∷◌, ◌≡◌, Result, Ok, Err}
-use Rattle.automata.specs.declared.refusals.Refusal.{Refusal}
-use Rattle.automata.specs.declared.refusals.Refusal.TheVariants.{StoreFull}
 use Rattle.search.specs.declared.verdict.Findings.{Findings}
 use Rattle.search.specs.declared.verdict.Holding.TheVariants.{AnyError, Below}
 use Rattle.search.specs.declared.verdict.Verdict.{Verdict}
@@ -10,7 +8,7 @@ use Rattle.zones.specs.Fractions.{no_limit}
 use Rattle.robustness.specs.Lines.{line_of}
 
 pub record Example : Type 0 where
-  pub findings : Result Findings Refusal
+  pub findings : Result Findings ℕ
   pub line : List ℕ
 
 abbrev pub AllRight : List Example → Type 0
@@ -18,7 +16,7 @@ AllRight [] = Unit {0}
 AllRight (x ∷ xs) = (line_of x.findings ≡ x.line) × AllRight xs
 
 -- a verdict, the zones kept, and those dropped as again and as inside; the line does not have the exact fraction
-abbrev found : Verdict → ℕ → ℕ → ℕ → Result Findings Refusal
+abbrev found : Verdict → ℕ → ℕ → ℕ → Result Findings ℕ
 found v zones again inside =
     Ok (record { answer = record { verdict = v; zones = zones }; exact = no_limit; dropped = record { again = again; inside = inside } })
 
@@ -44,7 +42,7 @@ examples =
     }
     -- `refused 10`
     ∷ record {
-      findings = Err StoreFull;
+      findings = Err 10;
       line = 114 ∷ 101 ∷ 102 ∷ 117 ∷ 115 ∷ 101 ∷ 100 ∷ 32 ∷ 49 ∷ 48 ∷ 10 ∷ [];
     }
     -- longer numbers

@@ -49,6 +49,11 @@ unfoldable pub decimal : ℕ → List ℕ
 decimal n = digits_of n n
 
 -- ---- the line
+-- what is found, with the number of a refusal
+abbrev pub numbered : Result Findings Refusal → Result Findings ℕ
+numbered (Ok x) = Ok x
+numbered (Err k) = Err (number k)
+
 unfoldable pub holding_text : Holding → List ℕ
 holding_text AnyError = any
 holding_text (Below f) = decimal f.n ++ (47 ∷ decimal f.d)
@@ -57,12 +62,12 @@ unfoldable pub verdict_text : Verdict → List ℕ
 verdict_text Reached = reached
 verdict_text (Holds h) = holds ++ holding_text h
 
-unfoldable pub findings_text : Result Findings Refusal → List ℕ
+unfoldable pub findings_text : Result Findings ℕ → List ℕ
 findings_text (Ok x) =
     verdict_text x.answer.verdict ++ ((zones_word ++ decimal x.answer.zones) ++
     ((again_word ++ decimal x.dropped.again) ++ (inside_word ++ decimal x.dropped.inside)))
-findings_text (Err k) = refused ++ decimal (number k)
+findings_text (Err k) = refused ++ decimal k
 
 -- with the end of the line
-unfoldable pub line_of : Result Findings Refusal → List ℕ
+unfoldable pub line_of : Result Findings ℕ → List ℕ
 line_of r = findings_text r ++ (10 ∷ [])

@@ -1,10 +1,10 @@
 // The documents' line for what a search finds, in texts whose types bound their length.
+// A refusal is any number, as the definition has it: `answer` hands over that of the table.
 // Pushed, and not printed by `Display`: no contract says when a `write!` is `Ok`, and the line is always made.
 ghost use Rattle.std.specs.Prelude.{◌≡◌};
 ghost use Rattle.robustness.specs.Lines.{decimal, holding_text, verdict_text, findings_text, line_of};
 
 use arrayvec::ArrayString;
-use automata::refusals::Refusal;
 use itoa::Buffer;
 use search::outcome::Dropped;
 use search::verdict::{Answer, Findings, Holding, Verdict};
@@ -50,7 +50,7 @@ fn verdict_text(v: Verdict) -> ArrayString<47>
 }
 
 #[tactic(auto, unfolding(crate::specs::Lines::findings_text))]
-fn findings_text(found: Result<Findings, Refusal>) -> ArrayString<131>
+fn findings_text(found: Result<Findings, u32>) -> ArrayString<131>
     ensures { result.bytes ≡ findings_text found }
 {
     let mut text = ArrayString::new();
@@ -68,7 +68,7 @@ fn findings_text(found: Result<Findings, Refusal>) -> ArrayString<131>
         }
         Err(k) => {
             text.push_str("refused ");
-            text.push_str(&decimal(u64::from(k.number())));
+            text.push_str(&decimal(u64::from(k)));
         }
     }
     text
@@ -76,7 +76,7 @@ fn findings_text(found: Result<Findings, Refusal>) -> ArrayString<131>
 
 // The whole line, its end included.
 #[tactic(auto, unfolding(crate::specs::Lines::line_of))]
-pub fn line_of(found: Result<Findings, Refusal>) -> ArrayString<132>
+pub fn line_of(found: Result<Findings, u32>) -> ArrayString<132>
     ensures { result.bytes ≡ line_of found }
 {
     let mut line = ArrayString::new();

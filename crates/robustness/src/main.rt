@@ -6,10 +6,11 @@ mod line;
 ghost use Rattle.std.specs.Prelude.{◌≡◌, IfOk, IfSome, OnOk, [], take};
 ghost use Rattle.std.specs.Io.KnownBytes.{Appends};
 ghost use Rattle.search.specs.Answers.{search_findings};
-ghost use Rattle.robustness.specs.Lines.{line_of};
+ghost use Rattle.robustness.specs.Lines.{line_of, numbered};
 
 use crate::line::line_of;
 use arrayvec::ArrayVec;
+use automata::refusals::Refusal;
 use search::search;
 use std::io;
 use std::io::{Read, Write};
@@ -30,12 +31,12 @@ fn read_front<R: Read>(input: &mut R, bytes: &mut ArrayVec<u8, FRONT>) -> io::Re
 // Writes the line of what is found of an automaton with a store of 16,384 numbers.
 fn answer<R: Read, W: Write>(input: &mut R, output: &mut W) -> io::Result<()>
     ensures { IfSome (R.remaining input.old) (λ all. OnOk result
-        (Appends (W.contents output.old) (W.contents output.new) (line_of (search_findings (take 21260 all) 16384)))) }
+        (Appends (W.contents output.old) (W.contents output.new) (line_of (numbered (search_findings (take 21260 all) 16384))))) }
 {
     let mut bytes = ArrayVec::new();
     read_front(input, &mut bytes)?;
     let mut store = [0i32; 16384];
-    let line = line_of(search(bytes.as_slice(), &mut store));
+    let line = line_of(search(bytes.as_slice(), &mut store).map_err(Refusal::number));
     output.write_all(line.as_bytes())
 }
 

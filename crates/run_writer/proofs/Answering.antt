@@ -12,7 +12,6 @@ use Rattle.automata.specs.Numbers.{number}
 use Rattle.automata.specs.Refusals.{refusal_of}
 use Rattle.automata.specs.declared.refusals.Refusal.{Refusal}
 use Rattle.automata.specs.declared.refusals.Refusal.TheVariants.{RunTooLong}
-use Rattle.automata.proofs.accepting.Numbering.{above}
 use Rattle.automata.specs.Semantics.{system_of}
 use Rattle.automata.proofs.accepting.Accepting.{accepted}
 use Rattle.reachability.specs.Branches.{Branch, path_of}
@@ -26,13 +25,13 @@ use Rattle.run_judge.proofs.passing.Passing.{written-length, passes_judged}
 use Rattle.runs.specs.Written.{written}
 use Rattle.search.specs.declared.outcome.Outcome as told
 use Rattle.search.specs.declared.outcome.Outcome.TheVariants.{Going, Reached, Refused}
-use Rattle.search.specs.declared.outcome.Turn.{Turn}
+use Rattle.search.specs.Outcomes.{SearchTurn as Turn}
 use Rattle.search.specs.Answers.{findings_of, dropped_in, state_findings, state_of, search_findings}
 use Rattle.search.specs.Exploring.{Shown}
 use Rattle.search.specs.Instance.{zones_of, meaning_of}
 use Rattle.search.specs.Outcomes.{came_of, outcome_of, Honest}
 use Rattle.search.specs.Store.{capacity_of}
-use Rattle.search.proofs.answers.Answers.{found_accepted}
+use Rattle.search.proofs.answers.Answers.{found_accepted, not_accepted}
 use Rattle.search.proofs.instance.Obeys.{laws}
 use Rattle.slots.specs.declared.slot.Origin.{Origin}
 use Rattle.run_writer.specs.Branch.{kept_of, Ended, Standing, Stands, jumps_before}
@@ -63,7 +62,7 @@ module _ (b : List ℕ) (amount : ℕ) {ns : List ℤ} (n : run_numbers b amount
 -- refused at reading
 pub refused_none : (b : List ℕ) (amount : ℕ) (k : Refusal) → number k ≡ refusal_of b → run_numbers b amount ≡ []
 unfolding run_numbers
-refused_none b amount k e = rw (run_numbers, ne_eqb (refusal_of b) 0 (λ z. absurd (omega (arith, e, above k)))) refl
+refused_none b amount k e = rw (run_numbers, ne_eqb (refusal_of b) 0 (not_accepted b k e)) refl
 
 pub refused_tells : (b : List ℕ) (amount : ℕ) (run : List ℤ) (k : Refusal) → Tells b amount run (Err k)
 unfolding Tells
@@ -92,7 +91,7 @@ module _ (b : List ℕ) (ok : refusal_of b ≡ 0) (s s' : List ℤ) (t : Turn) (
     unfolding outcome_of
     missed P y n = subst P h.outcome (go t.outcome refl)
       where
-        go : (x : told.Outcome) → t.outcome ≡ x → P (outcome_of x)
+        go : (x : told.Outcome Refusal) → t.outcome ≡ x → P (outcome_of x)
         go Going e = y
         go (Reached o) e = absurd (g o e)
         go (Refused k) e = n (number k)

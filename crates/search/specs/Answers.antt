@@ -8,6 +8,8 @@ use Rattle.reachability.specs.Search.{Outcome, going, ended, reached, refused}
 use Rattle.zones.specs.declared.fraction.Fraction.{Fraction}
 use Rattle.zones.specs.Fractions.{lowest_terms}
 use Rattle.search.specs.declared.outcome.Dropped.{Dropped}
+use Rattle.search.specs.declared.outcome.Outcome as told
+use Rattle.search.specs.declared.outcome.Outcome.TheVariants as stopped
 use Rattle.search.specs.declared.verdict.Answer.{Answer}
 use Rattle.search.specs.declared.verdict.Findings.{Findings}
 use Rattle.search.specs.declared.verdict.Verdict.{Verdict}
@@ -21,10 +23,20 @@ use Rattle.search.specs.Verdicts.{holding_of}
 abbrev pub found_of : Verdict → Fraction → ℕ → Dropped → Findings
 found_of v exact zones dropped = record { answer = record { verdict = v; zones = zones }; exact = lowest_terms exact; dropped = dropped }
 
+-- what is found where it went to its end
+abbrev pub holding_found : Fractions → ℕ → Dropped → Findings
+holding_found f zones d = found_of (Holds (holding_of (lowest_terms f.safe))) f.exact zones d
+
 unfoldable pub findings_of : Outcome → Fractions → ℕ → Dropped → Result Findings Refusal
-findings_of going f zones d = Ok (found_of (Holds (holding_of (lowest_terms f.safe))) f.exact zones d)
+findings_of going f zones d = Ok (holding_found f zones d)
 findings_of (ended (reached c)) f zones d = Ok (found_of Reached f.exact zones d)
 findings_of (ended (refused k)) f zones d = Err (named k)
+
+-- the same of where the code stopped, refused by whatever it may be: where that is a refusal of the table, it is `findings_of`
+unfoldable pub turn_findings : {R : Type 0} → told.Outcome R → Fractions → ℕ → Dropped → Result Findings R
+turn_findings stopped.Going f zones d = Ok (holding_found f zones d)
+turn_findings (stopped.Reached o) f zones d = Ok (found_of Reached f.exact zones d)
+turn_findings (stopped.Refused k) f zones d = Err k
 
 abbrev pub dropped_in : ZoneState → Dropped
 dropped_in q = record { again = q.again; inside = q.inside }

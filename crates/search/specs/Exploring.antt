@@ -9,7 +9,7 @@ use Rattle.zones.specs.Ranges.{Ranged, Sized, Fits32, counts, last_counts}
 use Rattle.runs.specs.Limits.{scale}
 use Rattle.zones.specs.Successors.{enter_of, follow_of}
 use Rattle.zones.specs.Zones.{reset_of}
-use Rattle.search.specs.declared.outcome.Turn.{Turn}
+use Rattle.search.specs.Outcomes.{SearchTurn as Turn}
 use Rattle.search.specs.Outcomes.{outcome_of, Honest, Few}
 use Rattle.automata.specs.Automata.{clocks, locations, to, guard_of, invariant_of, resets_of}
 use Rattle.search.specs.Instance.{ZoneNode, ZoneState, work_of, result_of, zones_of}

@@ -18,16 +18,20 @@ use Rattle.search.specs.declared.outcome.Outcome.TheVariants.{Going, Reached, Re
 unfoldable pub came_of : Origin → definition.Came
 came_of o = elim o.parent [ pos j ↦ definition.by_edge j (up o.edge) | negsuc n ↦ definition.first_zone ]
 
-unfoldable pub outcome_of : Outcome → definition.Outcome
+unfoldable pub outcome_of : Outcome Refusal → definition.Outcome
 outcome_of Going = definition.going
 outcome_of (Reached o) = definition.ended (definition.reached (came_of o))
 outcome_of (Refused k) = definition.ended (definition.refused (number k))
 
 -- the origin told is one that a slot tells
-abbrev pub Honest : Outcome → Type 0
+abbrev pub Honest : Outcome Refusal → Type 0
 Honest Going = Unit {0}
 Honest (Reached o) = origin_of (came_of o) ≡ o
 Honest (Refused k) = Unit {0}
+
+-- a turn of the search, which refuses by the table
+abbrev pub SearchTurn : Type 0
+SearchTurn = Turn Refusal
 
 -- ---- the turns after t, the exact fraction being `exact`
 -- "counted as again when every pair equals that of the kept zone, and as inside otherwise"
@@ -36,12 +40,12 @@ dropped_with d true = record { again = d.again + 1; inside = d.inside }
 dropped_with d false = record { again = d.again; inside = d.inside + 1 }
 
 -- an empty zone: the safe fraction is lowered by `below`
-abbrev pub emptied_by : Turn → Fraction → Fraction → Turn
+abbrev pub emptied_by : SearchTurn → Fraction → Fraction → SearchTurn
 emptied_by t exact below =
     record { count = t.count; exact = exact; safe = lowered_by t.safe below; dropped = t.dropped; outcome = Going }
 
 -- a zone inside a kept one: both are
-abbrev pub contained_by : Turn → Fraction → Inside → Turn
+abbrev pub contained_by : SearchTurn → Fraction → Inside → SearchTurn
 contained_by t exact inside =
     record {
       count = t.count;
@@ -52,15 +56,15 @@ contained_by t exact inside =
     }
 
 -- a zone that is kept
-abbrev pub kept_by : Turn → Fraction → Turn
+abbrev pub kept_by : SearchTurn → Fraction → SearchTurn
 kept_by t exact = record { count = t.count + 1; exact = exact; safe = t.safe; dropped = t.dropped; outcome = Going }
 
 -- a zone at the target, of the origin o
-abbrev pub reached_by : Turn → Fraction → Origin → Turn
+abbrev pub reached_by : SearchTurn → Fraction → Origin → SearchTurn
 reached_by t exact o = record { count = t.count; exact = exact; safe = t.safe; dropped = t.dropped; outcome = Reached o }
 
 -- a refusal by k
-abbrev pub refused_by : Turn → Fraction → Refusal → Turn
+abbrev pub refused_by : SearchTurn → Fraction → Refusal → SearchTurn
 refused_by t exact k = record { count = t.count; exact = exact; safe = t.safe; dropped = t.dropped; outcome = Refused k }
 
 -- ---- no more zones were dropped than were offered: one, and of each kept zone at most 256. So no count overflows

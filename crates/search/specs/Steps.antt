@@ -8,7 +8,7 @@ use Rattle.automata.specs.Semantics.{system_of}
 use Rattle.reachability.specs.Search.{Came, judge, expand, take_from}
 use Rattle.slots.specs.declared.slot.Origin.{Origin}
 use Rattle.search.specs.declared.exploration.Search.{Search}
-use Rattle.search.specs.declared.outcome.Turn.{Turn}
+use Rattle.search.specs.Outcomes.{SearchTurn as Turn}
 use Rattle.search.specs.Exploring.{Going, Continues, Led, Offers, node_at}
 use Rattle.search.specs.Instance.{ZoneState, fractions_of, zones_of}
 

@@ -8,10 +8,9 @@ pub mod verdict;
 
 ghost use Rattle.std.specs.Prelude.{◌≡◌, ◌≤◌, length};
 ghost use Rattle.search.specs.Instance.{fractions_of};
-ghost use Rattle.search.specs.Outcomes.{outcome_of};
 ghost use Rattle.search.specs.Promised.{Promised};
 ghost use Rattle.search.specs.Store.{most_slots};
-ghost use Rattle.search.specs.Answers.{found_of, findings_of, search_findings, search_store};
+ghost use Rattle.search.specs.Answers.{found_of, turn_findings, search_findings, search_store};
 
 use automata::opened::Automaton;
 use automata::refusals::Refusal;
@@ -20,7 +19,7 @@ use outcome::{Outcome, Turn};
 use verdict::{Answer, Findings, Holding, Verdict};
 
 // What is found with a verdict.
-fn found(verdict: Verdict, t: Turn) -> Findings
+fn found<R: Copy>(verdict: Verdict, t: Turn<R>) -> Findings
     requires { t.count ≤ most_slots }
     ensures { result ≡ found_of verdict t.exact t.count t.dropped }
 {
@@ -36,9 +35,10 @@ fn found(verdict: Verdict, t: Turn) -> Findings
 }
 
 // What the search has found, from where it stopped.
-pub fn findings(t: Turn) -> Result<Findings, Refusal>
+#[tactic(auto, unfolding(crate::specs::Answers::turn_findings))]
+pub fn findings<R: Copy>(t: Turn<R>) -> Result<Findings, R>
     requires { t.count ≤ most_slots }
-    ensures { result ≡ findings_of (outcome_of t.outcome) (fractions_of t.exact t.safe) t.count t.dropped }
+    ensures { result ≡ turn_findings t.outcome (fractions_of t.exact t.safe) t.count t.dropped }
 {
     match t.outcome {
         Outcome::Going => {

@@ -10,12 +10,12 @@ use zones::fraction::Fraction;
 
 // A search that goes on, or has stopped: at the target, by a zone of the origin told, or by a refusal. One that goes on when
 // no zone is left to take holds. The definition's three cases, and no ControlFlow of turns with `?`: the counts of a turn are read whichever it
-// is, so that both arms would hold them.
+// is, so that both arms would hold them. A caller of `findings` may refuse by what it likes, any number too; the search refuses by the table.
 #[derive(Clone, Copy)]
-pub enum Outcome {
+pub enum Outcome<R = Refusal> {
     Going,
     Reached(Origin),
-    Refused(Refusal),
+    Refused(R),
 }
 
 // How many zones were dropped by containment: as again, of which every pair equals that of the kept zone, and as inside.
@@ -54,12 +54,12 @@ impl Dropped {
 
 // The number of kept zones, the exact and the safe fraction, the zones dropped, and the outcome so far.
 #[derive(Clone, Copy)]
-pub struct Turn {
+pub struct Turn<R = Refusal> {
     pub count: usize,
     pub exact: Fraction,
     pub safe: Fraction,
     pub dropped: Dropped,
-    pub outcome: Outcome,
+    pub outcome: Outcome<R>,
 }
 
 impl Turn {

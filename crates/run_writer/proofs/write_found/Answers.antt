@@ -7,7 +7,7 @@ use lib.ListN.{length, drop}
 use native.Mathlib.Omega.{arith}
 use Rattle.automata.specs.Refusals.{refusal_of}
 use Rattle.automata.proofs.accepting.Accepting.{free}
-use Rattle.search.proofs.answers.Answers.{count_small, searched_findings, searched_store}
+use Rattle.search.proofs.answers.Answers.{turn_found, count_small, searched_findings, searched_store}
 use Rattle.runs.specs.Written.{written}
 use Rattle.search.specs.Answers.{state_of}
 use Rattle.search.specs.Outcomes.{came_of}
@@ -73,7 +73,7 @@ returns c =
     let o = ok (goal.at.returns c).Start in
     let b = c.args.automaton.now.bytes.now in
     let same = c.explore-turn.auto.store in
-    let found = searched_findings _ o _ _ _ h c.findings.ensures in
+    let found = searched_findings _ o _ _ _ h (c.findings.ensures ∙ turn_found _ _ _ _) in
     elim c.match-turn.branch [
       | in-Reached+else-run-k w ↦
           let g = w.in-Reached.is in

@@ -8,7 +8,7 @@ use denote.Ref.{Bor}
 use lib.ListN.{length}
 use native.Mathlib.Omega.{arith}
 use Rattle.std.proofs.lemmas.Result.{err_from_is_err_and}
-use Rattle.search.proofs.answers.Answers.{refused_findings, refused_store}
+use Rattle.search.proofs.answers.Answers.{refused_findings, refused_store, not_accepted}
 use Rattle.run_writer.proofs.Answering.{refused_none, refused_tells, room_findings, room_buffer}
 use Rattle.run_writer.proofs.write_run.Goals as goal
 
@@ -20,7 +20,7 @@ returns-in_err-automaton c =
     let none = refused_none c.args.automaton.now (length c.args.store.now) k e in
     rw (p.1, p.2) (record {
       value = refused_findings _ k e _ ∙ room_findings _ _ none _ (omega arith);
-      store_after = refused_store _ k e _;
+      store_after = refused_store _ (not_accepted _ k e) _;
       run_after = room_buffer _ _ none _ (omega arith);
       tells = refused_tells _ _ _ _;
     })

@@ -12,7 +12,7 @@ use native.Mathlib.Nat.{eq-zero-or-pos}
 use native.Mathlib.Omega.{arith}
 use Rattle.zones.specs.declared.fraction.Fraction.{Fraction}
 use Rattle.search.specs.declared.outcome.Dropped.{Dropped}
-use Rattle.search.specs.declared.outcome.Turn.{Turn}
+use Rattle.search.specs.Outcomes.{SearchTurn as Turn}
 use Rattle.search.specs.declared.verdict.Findings.{Findings}
 use Rattle.search.specs.declared.verdict.Holding.{Holding}
 use Rattle.search.specs.declared.verdict.Verdict.TheVariants.{Holds}
@@ -28,17 +28,17 @@ use Rattle.automata.specs.declared.refusals.Refusal.{Refusal}
 use Rattle.automata.proofs.accepting.Numbering.{above, named_number}
 use Rattle.search.specs.Exploring.{Shown}
 use Rattle.search.specs.Outcomes.{outcome_of}
-use Rattle.search.specs.Instance.{fractions_of, zones_of}
+use Rattle.search.specs.Instance.{Fractions, fractions_of, zones_of}
 use Rattle.automata.specs.Semantics.{system_of}
 use Rattle.search.specs.Store.{most_slots, capacity_of}
 use Rattle.search.specs.Verdicts.{holding_of}
 use Rattle.zones.specs.Fractions.{lowest_terms}
-use Rattle.search.specs.Answers.{found_of, findings_of, state_findings, state_of, search_findings, search_store}
+use Rattle.search.specs.Answers.{found_of, findings_of, turn_findings, state_findings, state_of, search_findings, search_store}
 use Rattle.reachability.proofs.Keeps.{search_room}
 use Rattle.search.proofs.exploration.Stores.{capacity_small}
 
 -- ---- what is found, by the outcome x with which the search stopped
-module _ {x : Outcome} (exact safe : Fraction) (zones : ℕ) (d : Dropped) where
+module _ {x : Outcome Refusal} (exact safe : Fraction) (zones : ℕ) (d : Dropped) where
   pub finds_holding : x ≡ Going → {h : Holding} {y : Findings} → h ≡ holding_of (lowest_terms safe) → y ≡ found_of (Holds h) exact zones d →
       Ok y ≡ findings_of (outcome_of x) (fractions_of exact safe) zones d
   unfolding outcome_of findings_of
@@ -52,6 +52,13 @@ module _ {x : Outcome} (exact safe : Fraction) (zones : ℕ) (d : Dropped) where
   pub finds_refused : {k : Refusal} → x ≡ outcome.Refused k → Err k ≡ findings_of (outcome_of x) (fractions_of exact safe) zones d
   unfolding outcome_of findings_of
   finds_refused {k = k} e = rw e (ap Err (sym (named_number k)))
+
+-- refused by the table, a turn of the code has found what the definition has
+pub turn_found : (x : Outcome Refusal) (f : Fractions) (zones : ℕ) (d : Dropped) → turn_findings x f zones d ≡ findings_of (outcome_of x) f zones d
+unfolding turn_findings
+turn_found Going f zones d = finds_holding f.exact f.safe zones d refl refl refl
+turn_found (Reached o) f zones d = finds_reached f.exact f.safe zones d refl refl
+turn_found (outcome.Refused k) f zones d = finds_refused f.exact f.safe zones d refl
 
 -- ---- what is found, by whether the bytes are refused
 module _ (b : List ℕ) where
@@ -68,14 +75,17 @@ module _ (b : List ℕ) where
   by_refusal amount P f g = ⊎_elim (λ e. rw (found_accepted e amount) (f e)) (λ p. rw (found-refused p amount) (g p)) (eq-zero-or-pos (refusal_of b))
 
 -- ---- refused at reading
+pub refused_store : (b : List ℕ) → (refusal_of b ≡ 0 → ⊥) → (s : List ℤ) → s ≡ search_store b s
+unfolding search_store
+refused_store b h s = rw (search_store, ne_eqb (refusal_of b) 0 h) refl
+
 module _ (b : List ℕ) (k : Refusal) (e : number k ≡ refusal_of b) where
+  pub not_accepted : refusal_of b ≡ 0 → ⊥
+  not_accepted z = omega (arith, e, above k)
+
   pub refused_findings : (amount : ℕ) → Err k ≡ search_findings b amount
   refused_findings amount =
       ap Err (sym (named_number k) ∙ ap named e) ∙ sym (found-refused b (omega (arith, e, above k)) amount)
-
-  pub refused_store : (s : List ℤ) → s ≡ search_store b s
-  unfolding search_store
-  refused_store s = rw (search_store, ne_eqb (refusal_of b) 0 (λ z. absurd (omega (arith, e, above k)))) refl
 
 -- ---- searched
 module _ (b : List ℕ) (ok : refusal_of b ≡ 0) (s s' : List ℤ) (t : Turn) (h : Shown (suc (clocks b)) s (state_of b (length s)) s' t) where

@@ -16,7 +16,7 @@ use Rattle.zones.specs.Successors.{meet_of}
 use Rattle.zones.specs.Zones.{set_of}
 use Rattle.automata.specs.declared.fields.Edge.{Edge}
 use Rattle.search.specs.Outcomes.{emptied_by}
-use Rattle.search.specs.declared.outcome.Turn.{Turn}
+use Rattle.search.specs.Outcomes.{SearchTurn as Turn}
 use Rattle.automata.specs.Accepted.{Accepted}
 use Rattle.automata.specs.Automata.{clocks, edges, locations, to, guard_of, resets_of, invariant_of}
 use Rattle.search.specs.Exploring.{Offers, arrival_of, successor_of, SoundResult, SoundZone}

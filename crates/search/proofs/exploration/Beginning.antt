@@ -17,7 +17,7 @@ use Rattle.automata.specs.declared.opened.Automaton.{Automaton}
 use Rattle.automata.proofs.fields.Counting.{size≡}
 use Rattle.automata.proofs.fields.Resets.{none_reset}
 use Rattle.search.specs.declared.outcome.Outcome.TheVariants.{Going}
-use Rattle.search.specs.declared.outcome.Turn.{Turn}
+use Rattle.search.specs.Outcomes.{SearchTurn as Turn}
 use Rattle.search.specs.Outcomes.{outcome_of, has_ended, most_offers}
 use Rattle.automata.specs.Accepted.{Accepted}
 use Rattle.automata.specs.Automata.{clocks, start, invariant_of}

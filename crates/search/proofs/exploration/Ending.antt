@@ -9,7 +9,7 @@ use Rattle.runs.proofs.Contradictions.{true_false}
 use Rattle.zones.specs.declared.pair.Pair.{Pair}
 use Rattle.reachability.specs.Search.{Zones, Outcome, going, ended}
 use Rattle.reachability.proofs.Later.{Later}
-use Rattle.search.specs.declared.outcome.Turn.{Turn}
+use Rattle.search.specs.Outcomes.{SearchTurn as Turn}
 use Rattle.automata.specs.Automata.{clocks}
 use Rattle.search.specs.Exploring.{SoundState, Shown, Live}
 use Rattle.search.specs.Instance.{Fractions, ZoneState}

@@ -11,7 +11,7 @@ use native.Mathlib.Omega.{arith}
 use Rattle.zones.specs.declared.pair.Pair.{Pair}
 use Rattle.zones.specs.declared.zone.Work.{Work}
 use Rattle.zones.specs.Ranges.{Fits32}
-use Rattle.search.specs.declared.outcome.Turn.{Turn}
+use Rattle.search.specs.Outcomes.{SearchTurn as Turn}
 use Rattle.search.specs.Outcomes.{Few, outcome_of, has_ended, most_offers}
 use Rattle.automata.specs.Accepted.{Accepted}
 use Rattle.automata.specs.Automata.{clocks, edges, from, to}

@@ -25,7 +25,7 @@ use Rattle.runs.specs.Limits.{scale}
 use Rattle.search.specs.declared.outcome.Dropped.{Dropped}
 use Rattle.search.specs.declared.outcome.Outcome.{Outcome}
 use Rattle.search.specs.declared.outcome.Outcome.TheVariants.{Reached}
-use Rattle.search.specs.declared.outcome.Turn.{Turn}
+use Rattle.search.specs.Outcomes.{SearchTurn as Turn}
 use Rattle.search.specs.Outcomes.{came_of, outcome_of, Honest, Few, most_offers}
 use Rattle.search.specs.Outcomes.{dropped_with, emptied_by, contained_by, kept_by, reached_by, refused_by}
 use Rattle.automata.specs.Accepted.{Accepted}
@@ -57,7 +57,7 @@ use Rattle.search.proofs.exploration.Stores.{slot_lent, lent_slot, hit_inside}
 shown_with : {n : ℕ} {s₀ : List ℤ} {q : ZoneState} {s : List ℤ} {t : Turn} → Shown n s₀ q s t →
     {f : Fractions} {exact safe : Fraction} → exact ≡ f.exact → safe ≡ f.safe →
     {again inside : ℕ} {dropped : Dropped} → dropped.again ≡ again → dropped.inside ≡ inside →
-    {x : defined.Outcome} {o : Outcome} → outcome_of o ≡ x → Honest o →
+    {x : defined.Outcome} {o : Outcome Refusal} → outcome_of o ≡ x → Honest o →
     Shown n s₀ (record { kept = q.kept; frac = f; outcome = x; again = again; inside = inside }) s
     (record { count = t.count; exact = exact; safe = safe; dropped = dropped; outcome = o })
 shown_with d e g a i x h = record {

@@ -14,7 +14,7 @@ use Rattle.zones.proofs.pairs.Integers.{le_make}
 use lib.ListN.{length, get_or, take, drop, drop_of_length-le}
 use native.Mathlib.Omega.{arith}
 use Rattle.zones.specs.declared.pair.Pair.{Pair}
-use Rattle.search.specs.declared.outcome.Turn.{Turn}
+use Rattle.search.specs.Outcomes.{SearchTurn as Turn}
 use Rattle.search.specs.Outcomes.{Few, outcome_of, has_ended}
 use Rattle.automata.specs.Accepted.{Accepted}
 use Rattle.automata.specs.Automata.{clocks, edges, to}

@@ -2,7 +2,7 @@
 -- Assumes nothing.
 use Prim.Native.Nat.{ℕ, suc}
 use mathlib.Core.List.{List}
-use mathlib.Core.Path.{◌≡◌, sym, ap, subst}
+use mathlib.Core.Path.{◌≡◌, sym, ap, ◌∙◌, subst}
 use denote.Ref.{Bor}
 use Rattle.std.proofs.lemmas.Result.{err_from_is_err_and}
 use lib.ListN.{length}
@@ -11,7 +11,7 @@ use Rattle.automata.specs.Refusals.{refusal_of}
 use Rattle.search.specs.Answers.{state_of}
 use Rattle.search.specs.Exploring.{Shown}
 use Rattle.search.specs.Promised.{Promised}
-use Rattle.search.proofs.answers.Answers.{refused_findings, refused_store, count_small, searched_findings, searched_store}
+use Rattle.search.proofs.answers.Answers.{turn_found, refused_findings, refused_store, not_accepted, count_small, searched_findings, searched_store}
 use Rattle.search.proofs.answers.Given.{promised}
 use Rattle.search.proofs.search.Goals as goal
 use Rattle.search.proofs.search.Goals.{In_ok-automaton, After-explore}
@@ -23,7 +23,7 @@ returns-in_err-automaton c =
     let found = refused_findings _ c.in_err-automaton.field-0.0 e _ in
     rw (p.1, p.2) (record {
       value = found;
-      store_after = refused_store _ c.in_err-automaton.field-0.0 e _;
+      store_after = refused_store _ (not_accepted _ c.in_err-automaton.field-0.0 e) _;
       promised = subst (Promised _ _) (sym found) (promised _ _);
     })
 
@@ -43,7 +43,7 @@ findings-requires c = count_small _ (ok (goal.at.findings-requires c).In_ok-auto
 pub returns : goal.returns
 returns c =
     let here = goal.at.returns c in
-    let found = searched_findings _ (ok here.In_ok-automaton) _ _ _ (shown here.After-explore) c.findings.ensures in
+    let found = searched_findings _ (ok here.In_ok-automaton) _ _ _ (shown here.After-explore) (c.findings.ensures ∙ turn_found _ _ _ _) in
     record {
       value = found;
       store_after = searched_store _ (ok here.In_ok-automaton) _ _ _ (shown here.After-explore);
