@@ -24,7 +24,7 @@ outer_equal a b j o = ext_get_or 0 a b o.size (grind (arith, o.front, o.back))
 
 module _ (a b : List ℕ) (i j : ℕ) (o : Outer a b i j) where
   -- the bytes from i to m agree too, and those from n to j
-  wider : (m n : ℕ) → ((k : ℕ) → i ≤ k → k < m → get_or a k 0 ≡ get_or b k 0) → ((k : ℕ) → n ≤ k → k < j → get_or a k 0 ≡ get_or b k 0)
+  pub wider : (m n : ℕ) → ((k : ℕ) → i ≤ k → k < m → get_or a k 0 ≡ get_or b k 0) → ((k : ℕ) → n ≤ k → k < j → get_or a k 0 ≡ get_or b k 0)
       → Outer a b m n
   wider m n f g = record {
     size = o.size;

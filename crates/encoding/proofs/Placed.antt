@@ -5,6 +5,7 @@ use mathlib.Core.List.{List, ◌++◌, append_assoc}
 use mathlib.Core.Path.{◌≡◌, sym, ap, ◌∙◌}
 use lib.ListN.{length, take, drop, length-append}
 use lib.Seq.{drop-drop}
+use native.Mathlib.Nat.{zero-add}
 use native.Mathlib.Omega.{arith}
 use Rattle.std.proofs.lemmas.Grind.{common_steps}
 use Rattle.encoding.specs.Placing.{placed}
@@ -15,10 +16,15 @@ pub part_placed : {X : Type 0} (s xs : List X) (at n : ℕ) {ys : List X} → n 
 unfolding placed
 part_placed s xs at n e f = rw (f, e) (simp drop-drop)
 
+-- of all that follows, n are taken by another front
+pub lent_tail : {X : Type 0} (s ys front : List X) (at n : ℕ) → ys ≡ front ++ drop n (take (length s - at) (drop at s))
+    → take at s ++ (ys ++ drop (length s - at) (drop at s)) ≡ take at s ++ (front ++ drop (at + n) s)
+lent_tail s ys front at n e = grind (arith, common_steps, e)
+
 pub lent_placed : {X : Type 0} (s xs : List X) (at : ℕ) {ys : List X} → ys ≡ placed 0 xs (take (length s - at) (drop at s))
     → take at s ++ (ys ++ drop (length s - at) (drop at s)) ≡ placed at xs s
 unfolding placed
-lent_placed s xs at e = grind (arith, common_steps, e)
+lent_placed s xs at e = lent_tail s _ xs at (length xs) (rw zero-add at e)
 
 -- ---- what begins with xs at a place begins with xs and ys, once ys are put behind xs
 behind : {X : Type 0} (s xs ys : List X) (at to : ℕ) → at ≤ length s → to ≡ at + length xs → placed to ys (placed at xs s) ≡ placed at (xs ++ ys) s

@@ -32,7 +32,7 @@ pub extern "C" fn zones_bench_reduce(size: usize, times: u64) -> u64
 
 // The square that every reduction begins with, but for the entry that is varied, and how many of its indices are reduced: document 01's fixed
 // array, and the size that C gives.
-#[derive(Drop)]
+#[derive(Clone, Copy)]
 struct Bench {
     square: [Pair; 81],
     size: usize,

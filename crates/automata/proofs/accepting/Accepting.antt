@@ -22,7 +22,7 @@ use Rattle.automata.proofs.fields.Resets.{no_bit}
 use Rattle.automata.proofs.accepting.Some.{fails, none}
 
 -- a test that fails
-neither : (a b : Bool) → (a || b) ≡ false → (a ≡ false) × (b ≡ false)
+pub neither : (a b : Bool) → (a || b) ≡ false → (a ≡ false) × (b ≡ false)
 neither true b e = true_false e
 neither false b e = (refl, e)
 
@@ -77,10 +77,10 @@ present : {lo hi : ℕ} → InRange false lo hi → eqb hi no_upper ≡ false
 present r = search (rules, tests)
 
 -- ---- all of them
-module _ (s : List ℕ) (p : Passed s) where
-  complete : Complete s
-  complete = search (rules, tests)
+pub complete : (s : List ℕ) → 11 ≤ length s → counts_out_of_range s ≡ false → length s ≡ formula s → Complete s
+complete s h e g = search (rules, tests)
 
+module _ (s : List ℕ) (p : Passed s) where
   edge_ends : (i : ℕ) → i < edges s → misplaced (locations s) (from s i) (to s i) ≡ false
   edge_ends = fails _ (edges s) (neither (misplaced (locations s) (start s) (target s)) _ p.places).1
 
@@ -100,7 +100,7 @@ module _ (s : List ℕ) (p : Passed s) where
   unfolding resets_of invariant_of guard_of limits_at
   passed_all =
       record {
-        complete = complete;
+        complete = complete s p.head p.counts p.size;
         field = p.field;
         version≡ = p.version≡;
         start< = search (rules, tests);

@@ -186,8 +186,9 @@ home-kept R y size k h a b ha hb = go (dec_lt (home R a * 9 + home R b) k)
     go (no l) = d.rest (home R a * 9 + home R b) (omega arith)
 
 -- one place more, as the code counts it
-pub home_is : (R : ℕ → Bool) (i : ℕ) {a : ℕ} → i < 9 → ((R i ≡ true) × (a ≡ 0)) ⊎ ((R i ≡ false) × (a ≡ i)) → (a < 9) × (a ≡ home R i)
-home_is R i h = ⊎_elim (λ x. (omega (arith, x.1), x.1 ∙ sym (home_goes R i x.0))) (λ x. (omega (arith, x.1), x.1 ∙ sym (home_stays R i x.0)))
+pub home_is : (R : ℕ → Bool) (i : ℕ) {a : ℕ} → ((R i ≡ true) × (a ≡ 0)) ⊎ ((R i ≡ false) × (a ≡ i)) → (i < 9 → a < 9) × (a ≡ home R i)
+home_is R i =
+    ⊎_elim (λ x. ((λ h. omega (arith, x.1)), x.1 ∙ sym (home_goes R i x.0))) (λ x. ((λ h. omega (arith, x.1)), x.1 ∙ sym (home_stays R i x.0)))
 
 pub reset_next : (R : ℕ → Bool) (y : List Pair) (i j : ℕ) → length y ≡ 81 → i < 9 → j < 9 → {u : List Pair} {a b : ℕ} →
     u ≡ reset_places R y (i * 9 + j) y → a ≡ home R i → b ≡ home R j →

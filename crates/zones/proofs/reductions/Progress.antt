@@ -179,6 +179,9 @@ is_none (Some x) f = true_false f
 
 -- ---- as the code counts: w is the zone after k middle indices, and d what its diagonal shows
 module _ (n k : ℕ) (w₀ w : Work) (d : Option Fraction) (e : reduce_steps n k w₀ ≡ leaves w d) where
+  pub reduced_end : k ≡ n → leaves w d ≡ reduce_steps n n w₀
+  reduced_end h = sym e ∙ ap (λ (x : ℕ). reduce_steps n x w₀) h
+
   pub reduced_stop : is_some d ≡ true → k ≤ n → leaves w d ≡ reduce_steps n n w₀
   reduced_stop f h = sym (stays n k w₀ (ap is_empty e ∙ f) n h ∙ e)
 
@@ -187,14 +190,11 @@ module _ (n k : ℕ) (w₀ w : Work) (d : Option Fraction) (e : reduce_steps n k
   seen_live f = is_none d f ∙ seen_none w
 
 -- and v the zone after one more
-module _ (n k : ℕ) (w₀ w : Work) (e : reduce_steps n k w₀ ≡ non_empty w) where
-  pub reduced_end : k ≡ n → non_empty w ≡ reduce_steps n n w₀
-  reduced_end h = sym e ∙ ap (λ (x : ℕ). reduce_steps n x w₀) h
+module _ (n k : ℕ) (w₀ w : Work) (e : reduce_steps n k w₀ ≡ non_empty w) (v : Work) (g : v ≡ round_steps n k n w)
+    {s : Option Fraction} (h : s ≡ seen_in n v) where
+  pub reduced_next : reduce_steps n (k + 1) w₀ ≡ leaves v s
+  unfolding reduce_steps
+  reduced_next = rw add-one (ap (after_middle n k) e ∙ after_round n k w g h)
 
-  module _ (v : Work) (g : v ≡ round_steps n k n w) {s : Option Fraction} (h : s ≡ seen_in n v) where
-    pub reduced_next : reduce_steps n (k + 1) w₀ ≡ leaves v s
-    unfolding reduce_steps
-    reduced_next = rw add-one (ap (after_middle n k) e ∙ after_round n k w g h)
-
-    pub stopped_next : is_some s ≡ true → k < n → leaves v s ≡ reduce_steps n n w₀
-    stopped_next f l = reduced_stop n (k + 1) w₀ v s reduced_next f (omega arith)
+  pub stopped_next : is_some s ≡ true → k < n → leaves v s ≡ reduce_steps n n w₀
+  stopped_next f l = reduced_stop n (k + 1) w₀ v s reduced_next f (omega arith)

@@ -84,4 +84,4 @@ loop-k-preserved c =
     )
 
 pub returns : goal.returns
-returns c = reduced_end _ _ _ _ c.loop-k.invariant.3 (omega arith)
+returns c = reduced_end _ _ _ _ _ c.loop-k.invariant.3 (omega arith)

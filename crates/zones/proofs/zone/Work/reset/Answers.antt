@@ -17,14 +17,16 @@ loop-i-init c = (refl, refl)
 row : (c : Joined-marked-i) →
     (c.if-marked-i.a < 9) × (c.if-marked-i.a ≡ home (set_of c.args.marked) c.loop-i.i)
 row c =
-    home_is _ _ (omega arith) (elim c.if-marked-i.branch
-    [ then-marked-i w ↦ inl (w.if-marked-i.true, w.a-is) | else-marked-i w ↦ inr (w.if-marked-i.false, w.a-is) ])
+    let h = home_is _ _ (elim c.if-marked-i.branch
+    [ then-marked-i w ↦ inl (w.if-marked-i.true, w.a-is) | else-marked-i w ↦ inr (w.if-marked-i.false, w.a-is) ]) in
+    (h.0 (omega arith), h.1)
 
 column : (c : Joined-marked-j) →
     (c.if-marked-j.b < 9) × (c.if-marked-j.b ≡ home (set_of c.args.marked) c.loop-j.j)
 column c =
-    home_is _ _ (omega arith) (elim c.if-marked-j.branch
-    [ then-marked-j w ↦ inl (w.if-marked-j.true, w.b-is) | else-marked-j w ↦ inr (w.if-marked-j.false, w.b-is) ])
+    let h = home_is _ _ (elim c.if-marked-j.branch
+    [ then-marked-j w ↦ inl (w.if-marked-j.true, w.b-is) | else-marked-j w ↦ inr (w.if-marked-j.false, w.b-is) ]) in
+    (h.0 (omega arith), h.1)
 
 pub loop-j-init : goal.loop-j-init
 loop-j-init c = let none : c.loop-i.i * 9 ≡ c.loop-i.i * 9 + 0 = omega arith in (refl, λ y size e. reset_as _ y none e)
