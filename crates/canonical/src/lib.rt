@@ -15,7 +15,7 @@ ghost use Rattle.canonical.specs.Writing.{form_answer, form_buffer};
 use automata::opened::Automaton;
 use automata::refusals::Refusal;
 use edges::Edges;
-use ordering::order_of;
+use ordering::Order;
 use writing::write_form;
 
 // Whether the edges rise, each less than the next.
@@ -45,7 +45,8 @@ pub fn write_canonical(automaton: &[u8], form: &mut [u8]) -> Result<usize, Refus
     ensures form_laws { refusal_of automaton.now ≡ 0 → FormLaws automaton.now }
 {
     let automaton = Automaton::open(automaton)?;
-    let order = order_of(Edges::of(&automaton));
+    let mut order = Order::new(Edges::of(&automaton));
+    order.list_all();
     let total = order.edges.at + order.numbers.len() * order.edges.size;
     if form.len() < total {
         return Err(Refusal::FormTooLong);

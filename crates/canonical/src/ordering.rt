@@ -22,7 +22,7 @@ pub(crate) struct Order<'a> {
 impl<'a> Order<'a> {
     // None is listed yet.
     #[tactic(auto, unfolding(order::specs::Edges::rising))]
-    fn new(edges: Edges<'a>) -> Self
+    pub fn new(edges: Edges<'a>) -> Self
         ensures same { result.edges ≡ edges.entry }
         ensures empty { result.numbers.items ≡ [] }
     {
@@ -78,30 +78,33 @@ impl<'a> Order<'a> {
             self.numbers.insert(at, x as u8);
         }
     }
-}
 
-// All of them; `taken` gives the edge that is taken after i others.
-#[tactic(auto, using(crate::proofs::ordering::Ordering::order_none, crate::proofs::ordering::Ordering::order_more))]
-fn taken_by<'a, F: Fn(usize) -> usize>(edges: Edges<'a>, taken: F) -> Order<'a>
-    requires { (down : Bool) × Takes down edges.count (F.pre taken) (F.post taken) }
-    ensures same { result.edges ≡ edges.entry }
-    ensures lists { Lists edges.entry.size edges.entry.bytes.now edges.entry.count result.numbers.items }
-{
-    let mut order = Order::new(edges);
-    for i in 0..edges.count {
-        order.insert(taken(i));
+    // All of them, where none is listed yet; `taken` gives the edge that is taken after i others.
+    #[tactic(auto, using(crate::proofs::ordering::Ordering::order_none, crate::proofs::ordering::Ordering::order_more))]
+    fn list<F: Fn(usize) -> usize>(&mut self, taken: F)
+        requires empty { self.old.numbers.items ≡ [] }
+        requires takes { (down : Bool) × Takes down self.old.edges.count (F.pre taken) (F.post taken) }
+        ensures same { self.new.edges ≡ self.old.edges }
+        ensures lists { Lists self.old.edges.size self.old.edges.bytes.now self.old.edges.count self.new.numbers.items }
+    {
+        for i in 0..self.edges.count {
+            self.insert(taken(i));
+        }
     }
-    order
-}
 
-// All of them. Where the first two fall they are taken from the last to the first: edges in falling order are then behind all that are listed, too.
-pub(crate) fn order_of<'a>(edges: Edges<'a>) -> Order<'a>
-    ensures same { result.edges ≡ edges.entry }
-    ensures lists { Lists edges.entry.size edges.entry.bytes.now edges.entry.count result.numbers.items }
-{
-    if edges.falls() {
-        taken_by(edges, |i| edges.count - 1 - i)
-    } else {
-        taken_by(edges, |i| i)
+    // All of them, where none is listed yet. Where the first two fall they are taken from the last to the first: edges in falling order are then
+    // behind all that are listed, too. They are listed in place: given by value the order is cleared and copied once more, and the form of a small
+    // automaton takes half as long again (measured).
+    pub fn list_all(&mut self)
+        requires { self.old.numbers.items ≡ [] }
+        ensures same { self.new.edges ≡ self.old.edges }
+        ensures lists { Lists self.old.edges.size self.old.edges.bytes.now self.old.edges.count self.new.numbers.items }
+    {
+        let count = self.edges.count;
+        if self.edges.falls() {
+            self.list(|i| count - 1 - i);
+        } else {
+            self.list(|i| i);
+        }
     }
 }
