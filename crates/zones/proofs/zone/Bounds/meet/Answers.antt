@@ -9,6 +9,7 @@ use Rattle.zones.proofs.ranges.Ranges.{both_narrow, here, least_bounded, most_bo
 use Rattle.zones.proofs.zone.Bounds.meet.Goals as goal
 use Rattle.zones.proofs.zone.Bounds.meet.Goals.{Joined-hi, in-Some, in_default}
 
+-- before what is required, so that a body which meets another hi is refused here
 joined : (c : Joined-hi) → c.match-hi.met ≡ upper_met_if c.args.hi c.args.self
 unfolding upper_met_if
 joined c = elim c.match-hi.branch [
