@@ -34,11 +34,11 @@ none_less (pos n) = omega arith
 none_less (negsuc n) = omega arith
 
 -- the pair of row 0, and of column 0
-in_row : (z : List Pair) (x : ℕ) → get_or z x zero_pair ≡ pair_at z 0 x
+pub in_row : (z : List Pair) (x : ℕ) → get_or z x zero_pair ≡ pair_at z 0 x
 unfolding pair_at
 in_row z x = let e : x ≡ 0 * 9 + x = omega arith in ap (λ (k : ℕ). get_or z k zero_pair) e
 
-in_column : (z : List Pair) (x : ℕ) → get_or z (x * 9) zero_pair ≡ pair_at z x 0
+pub in_column : (z : List Pair) (x : ℕ) → get_or z (x * 9) zero_pair ≡ pair_at z x 0
 unfolding pair_at
 in_column z x = let e : x * 9 ≡ x * 9 + 0 = omega arith in ap (λ (k : ℕ). get_or z k zero_pair) e
 

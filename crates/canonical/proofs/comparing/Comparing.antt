@@ -21,13 +21,13 @@ use Rattle.canonical.specs.Comparing.{less_from}
 
 -- ---- byte by byte
 module _ (s t : List ℕ) (k : ℕ) (p : k < length s) (q : k < length t) where
-  rest-less : get_or s k 0 < get_or t k 0 → less_from s t k ≡ true
+  pub rest-less : get_or s k 0 < get_or t k 0 → less_from s t k ≡ true
   rest-less l = rw (drop-cons s k 0, drop-cons t k 0) (head-less _ _ _ _ l)
 
-  rest_more : get_or t k 0 < get_or s k 0 → less_from s t k ≡ false
+  pub rest_more : get_or t k 0 < get_or s k 0 → less_from s t k ≡ false
   rest_more l = rw (drop-cons s k 0, drop-cons t k 0) (head_more _ _ _ _ l)
 
-  rest_next : get_or s k 0 ≡ get_or t k 0 → less_from s t k ≡ less_from s t (k + 1)
+  pub rest_next : get_or s k 0 ≡ get_or t k 0 → less_from s t k ≡ less_from s t (k + 1)
   rest_next l = rw (add-one k, drop-cons s k 0, drop-cons t k 0) (head_same _ _ _ _ l)
 
 pub rest_none : (s t : List ℕ) (k : ℕ) → length s ≤ k → length t ≤ k → less_from s t k ≡ false

@@ -27,7 +27,7 @@ module _ (size : ℕ) (s : List ℕ) (ns : List ℕ) (r : rising (numbered size 
   edges_rise : Rising listed
   edges_rise = rises listed r
 
-  put_numbered : numbered size s (insert ns k x) ≡ take k listed ++ (nth_edge size s x ∷ drop k listed)
+  pub put_numbered : numbered size s (insert ns k x) ≡ take k listed ++ (nth_edge size s x ∷ drop k listed)
   put_numbered =
       let f = nth_edge size s in
       map-append f (take k ns) (x ∷ drop k ns) ∙ (λ i. sym (take-map f k ns) i ++ (f x ∷ sym (drop-map f k ns) i))

@@ -45,7 +45,7 @@ module _ (b : List ℕ) (o : Order) (s : Sorted b o) where
   pub total_is : {n : ℕ} → n ≡ length o.numbers.items → o.edges.at + n * o.edges.size ≡ length (canonical_of b)
   total_is e = (λ i. o.edges.at + e i * o.edges.size) ∙ form_length_is ∙ sym (form_length_lem b s.complete)
 
-  total-small : length (canonical_of b) < 4294967296
+  pub total-small : length (canonical_of b) < 4294967296
   total-small = omega (arith, form_length_lem b s.complete, small b s.complete)
 
   -- ---- what its front asks of a buffer of n bytes that has room for it

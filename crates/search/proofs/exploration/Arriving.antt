@@ -59,13 +59,13 @@ module _ (b : List ℕ) (a : Accepted b) (i : ℕ) (hi : i < edges b) (w : Work)
 
       -- with the edge as it was fetched
       module _ {edge : Edge} (f : edge ≡ edge_of b i) where
-        edge_to : edge.to ≡ to b i
+        pub edge_to : edge.to ≡ to b i
         edge_to = ap (λ (x : Edge). x.to) f
 
         pub arrives_at : edge.to < locations b
         arrives_at = subst (λ (l : ℕ). l < locations b) (sym edge_to) (a.to< i hi)
 
-        follows : arrival_of b edge.to (set_of edge.resets) r.work ≡ successor_of b i w
+        pub follows : arrival_of b edge.to (set_of edge.resets) r.work ≡ successor_of b i w
         follows =
             let R = resets_are b a i hi (ap (λ (x : Edge). x.resets) f) in
             (λ k. arrival_of b (edge_to k) (R k) r.work)
