@@ -31,7 +31,7 @@ use Rattle.run_judge.specs.Moves.{arrived, first_move, wait_move, jump_move}
 use Rattle.run_judge.specs.Numbers.{capped, count_of, announced, Announced}
 use Rattle.run_judge.specs.Passing.{Passes}
 use Rattle.run_judge.proofs.numbers.Numbers.{capped_fits, count_same}
-use Rattle.run_judge.proofs.stretches.Ending.{begins_none, begins_some}
+use Rattle.run_judge.proofs.stretches.Ending.{passes_none, passes_some, begins_none, begins_some}
 use Rattle.run_judge.proofs.stretches.Following.{waits_follow, jumps_follow, step_some, step_made}
 use Rattle.run_judge.proofs.passing.Agreeing.{Agrees, start_agrees}
 use Rattle.run_judge.proofs.passing.Telling.{reset_of, wait_tells, jump_tells, wait_made, jump_made, waits_agree, jumps_agree}
@@ -205,12 +205,10 @@ module _ (b : List ℕ) (r : List ℤ) where
   free_says f e g = rw (eq-eqb (refusal_of b) 0 f) (rw g (rw e refl))
 
   pub none_says : refusal_of b ≡ 0 → announced r ≡ 0 → Ok false ≡ judgement_of b r
-  unfolding passes_to
-  none_says f e = free_says f refl (rw (eq-eqb (announced r) 0 e) refl)
+  none_says f e = free_says f refl (passes_none b r (announced r) e)
 
   pub some_says : refusal_of b ≡ 0 → {zs : List ℤ} {t : Bool} → Announced r zs → t ≡ begins b zs → Ok t ≡ judgement_of b r
-  unfolding passes_to
-  some_says f e g = free_says f refl (rw (ne_eqb (announced r) 0 (λ z. absurd (omega (arith, e.some)))) (g ∙ ap (begins b) e.numbers))
+  some_says f e g = free_says f refl (g ∙ ap (begins b) e.numbers ∙ passes_some b r (announced r) (λ z. absurd (omega (arith, e.some))))
 
   judged_passes : judgement_of b r ≡ Ok true → Passes b r
   unfolding judgement_of
