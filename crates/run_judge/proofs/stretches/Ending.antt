@@ -2,19 +2,21 @@
 -- Assumes nothing.
 use Prim.Native.Nat.{ℕ, ◌<◌}
 use mathlib.Core.Path.{◌≡◌, refl, sym, ◌∙◌}
-use mathlib.Core.Bool.{Bool, false}
+use mathlib.Core.Bool.{Bool, false, cond}
 use mathlib.Core.List.{List}
 use borrow.Author.Tests.{eq-eqb, ne_eqb}
 use denote.Ref.{Bor}
 use lib.IntN.{ℤ}
-use lib.ListN.{length}
+use lib.ListN.{length, replicate}
 use lib.Seq.{slice}
 use Rattle.std.specs.Prelude.{Some, None}
+use Rattle.automata.specs.Automata.{start}
 use Rattle.run_judge.specs.declared.state.State.{State}
 use Rattle.run_judge.specs.declared.steps.Ready.{Ready}
 use Rattle.run_judge.specs.declared.stretches.Left.{Left}
+use Rattle.run_judge.specs.Clocks.{meets_invariant}
 use Rattle.run_judge.specs.Judging.{waits_from, begins, passes_to}
-use Rattle.run_judge.specs.Moves.{first_move}
+use Rattle.run_judge.specs.Moves.{arrived, first_move}
 use Rattle.run_judge.specs.Steps.{Leads}
 use Rattle.run_judge.specs.Stretches.{waits, Rest, Handed}
 
@@ -27,6 +29,11 @@ module _ (b : List ℕ) (r : List ℤ) (end : ℕ) where
   pub passes_some : (end ≡ 0 → ⊥) → begins b (slice 1 end r) ≡ passes_to b r end
   unfolding passes_to
   passes_some h = rw (ne_eqb end 0 h) refl
+
+pub started : (b : List ℕ) {t : Bool} → meets_invariant b (start b) (replicate 8 0) ≡ t →
+    first_move b ≡ cond t (Some (record { location = start b; clocks = replicate 8 0 })) None
+unfolding first_move arrived
+started b e = rw e refl
 
 module _ (b : List ℕ) (zs : List ℤ) where
   pub begins_none : first_move b ≡ None → begins b zs ≡ false
