@@ -1,5 +1,5 @@
 -- The clocks of a state in whole time units with no loosening: eight numbers, clock 1 first, of which those of the automaton count.
-use Rattle.std.specs.Prelude.{ℕ, zero, suc, ◌+◌, ◌≤◌, ◌<◌, Bool, true, false, cond, List, ltb, leb, eqb, get_or, set}
+use Rattle.std.specs.Prelude.{ℕ, zero, suc, ◌+◌, ◌≤◌, ◌<◌, ◌≡◌, Bool, true, false, cond, List, ltb, leb, eqb, length, get_or, set}
 use Rattle.runs.specs.Limits.{scale}
 use Rattle.automata.specs.Automata.{clocks, locations, invariant_at, edge_at, lo_at, hi_at, no_upper}
 
@@ -32,10 +32,18 @@ reset_by R (suc k) c = cond (R k) (set (reset_by R k c) k 0) (reset_by R k c)
 abbrev pub marked_in : List Bool → ℕ → Bool
 marked_in marks x = get_or marks (suc x) false
 
--- ---- states from which the sums of a step fit: so small are the first n clocks
-abbrev pub LowClocks : ℕ → List ℕ → Type 0
-LowClocks n c = (x : ℕ) → x < n → get_or c x 0 ≤ scale
+-- ---- states from which the sums of a step fit
+pub record LowClocks (c : List ℕ) : Type 0 where
+  pub size : length c ≡ 8
+  pub low : (x : ℕ) → x < 8 → get_or c x 0 ≤ scale
 
 pub record CanStep (b : List ℕ) (l : ℕ) (c : List ℕ) : Type 0 where
   pub location : l < locations b
-  pub low : LowClocks (clocks b) c
+  pub clocks : LowClocks c
+
+-- the same of clocks that are lent for a wait, and of those of a state behind the first n
+abbrev pub LowLent : List ℕ → Type 0
+LowLent c = (x : ℕ) → x < length c → get_or c x 0 ≤ scale
+
+abbrev pub LowBehind : ℕ → List ℕ → Type 0
+LowBehind n c = (x : ℕ) → n ≤ x → x < 8 → get_or c x 0 ≤ scale

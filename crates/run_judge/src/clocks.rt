@@ -1,7 +1,7 @@
 // The clocks of a state in whole time units with no loosening: whether one is within its limits, and what a wait and a reset leave.
 ghost use Rattle.std.specs.Prelude.{◌≡◌, ◌≤◌, length};
 ghost use Rattle.runs.specs.Limits.{scale};
-ghost use Rattle.run_judge.specs.Clocks.{holds, waited, reset_by, marked_in, LowClocks};
+ghost use Rattle.run_judge.specs.Clocks.{holds, waited, reset_by, marked_in, LowLent};
 
 use automata::fields::{Limits, NO_UPPER};
 
@@ -17,7 +17,7 @@ pub(crate) fn holds(limits: Limits, y: u64) -> bool
 // A wait adds its time units to the clocks.
 #[tactic(auto, unfolding(crate::specs::Clocks::waited), using(crate::proofs::clocks::Showing::wait_turns))]
 pub(crate) fn wait(clocks: &mut [u64], t: u64)
-    requires { (t ≤ scale) × LowClocks (length clocks.old) clocks.old }
+    requires { (t ≤ scale) × LowLent clocks.old }
     ensures { clocks.new ≡ waited t (length clocks.old) clocks.old }
 {
     for c in clocks.iter_mut() {

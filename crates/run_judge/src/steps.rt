@@ -1,7 +1,7 @@
 // One step of a run from a state: a wait, a jump.
 ghost use Rattle.std.specs.Prelude.{◌<◌};
-ghost use Rattle.automata.specs.Automata.{locations};
-ghost use Rattle.run_judge.specs.Clocks.{CanStep};
+ghost use Rattle.automata.specs.Automata.{clocks, locations};
+ghost use Rattle.run_judge.specs.Clocks.{CanStep, LowBehind};
 
 use crate::clocks::{reset, wait};
 use crate::state::State;
@@ -24,7 +24,7 @@ impl<'a> Ready<'a> {
     // The state, if the invariant of its location holds.
     #[tactic(auto, unfolding(crate::specs::Moves::arrived), using(crate::proofs::steps::Moving::constrained, crate::proofs::steps::Readying::ready))]
     fn at(automaton: &'a Automaton<'a>, state: State) -> Option<Ready<'a>>
-        requires { state.location < locations automaton.now.bytes.now }
+        requires { (state.location < locations automaton.now.bytes.now) × LowBehind (clocks automaton.now.bytes.now) state.clocks }
         ensures { Leads automaton.now.bytes.now (arrived automaton.now.bytes.now state) result }
     {
         if state.is_within(&automaton.invariant(state.location)) {

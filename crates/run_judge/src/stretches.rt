@@ -53,7 +53,6 @@ fn jump_step<'a>(left: &mut Left<'a>, further: usize) -> Option<bool>
 }
 
 // Whether the numbers are those of a run that ends at the target.
-#[tactic(auto, unfolding(crate::specs::Judging::begins))]
 pub(crate) fn passes<'a>(automaton: &'a Automaton<'a>, numbers: &'a [i64]) -> bool
     ensures { result ≡ begins automaton.now.bytes.now numbers.now }
 {

@@ -17,7 +17,7 @@ use Rattle.std.proofs.Common.{Fits, w64}
 use Rattle.runs.specs.Limits.{scale}
 use Rattle.runs.proofs.Contradictions.{true_false}
 use Rattle.automata.specs.Automata.{lo_at, hi_at, no_upper}
-use Rattle.run_judge.specs.Clocks.{holds, within_at, waited, reset_by, LowClocks}
+use Rattle.run_judge.specs.Clocks.{holds, within_at, waited, reset_by, LowLent}
 
 -- ---- one limit
 pub record Held (lo hi y : ℕ) : Type 0 where
@@ -140,7 +140,7 @@ module _ (R : ℕ → Bool) (k : ℕ) (c d : List ℕ) (e : d ≡ reset_by R k c
 pub ruleset reset_turns = (reset_put, reset_kept)
 
 -- a clock that the wait has not come to is as low as it was, so its sum fits
-pub waited_fits : (t k : ℕ) (c d : List ℕ) → d ≡ waited t k c → k < length d → LowClocks (length c) c → t ≤ scale → Fits w64 (get_or d k 0 + t)
+pub waited_fits : (t k : ℕ) (c d : List ℕ) → d ≡ waited t k c → k < length d → LowLent c → t ≤ scale → Fits w64 (get_or d k 0 + t)
 waited_fits t k c d e h low small =
     let s = waited_changes t c in
     let same : get_or d k 0 ≡ get_or c k 0 = ap (λ (l : List ℕ). get_or l k 0) e ∙ changed_past s k k (omega arith) in

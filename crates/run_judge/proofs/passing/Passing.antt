@@ -11,7 +11,7 @@ use lib.Dec.{ltb, eqb, eqb-suc-zero}
 use lib.IntN.{ℤ, pos, negsuc}
 use lib.ListN.{length, get_or, take, drop, replicate, length-append, take-append-drop}
 use lib.Seq.{length-take-le, take_at}
-use Rattle.std.specs.Prelude.{Some, None, Result, Ok, Err}
+use Rattle.std.specs.Prelude.{Some, Result, Ok, Err}
 use Rattle.runs.specs.Runs.{Stand, Step, wait, jump, jumps, first, last, Can, Steps, Run}
 use Rattle.runs.specs.Timed.{Valuation, later, zeroed}
 use Rattle.runs.specs.Written.{numbers, ByTurns, alone, then, written}
@@ -27,11 +27,11 @@ use Rattle.automata.proofs.accepting.Numbering.{above, named_number}
 use Rattle.run_judge.specs.declared.state.State.{State}
 use Rattle.run_judge.specs.Clocks.{meets_invariant, waited}
 use Rattle.run_judge.specs.Judging.{waits_from, jumps_from, begins, passes_to, judgement_of}
-use Rattle.run_judge.specs.Moves.{arrived, first_move, wait_move, jump_move}
+use Rattle.run_judge.specs.Moves.{wait_move, jump_move}
 use Rattle.run_judge.specs.Numbers.{capped, count_of, announced, Announced}
 use Rattle.run_judge.specs.Passing.{Passes}
 use Rattle.run_judge.proofs.numbers.Numbers.{capped_fits, count_same}
-use Rattle.run_judge.proofs.stretches.Ending.{begins_none, begins_some}
+use Rattle.run_judge.proofs.stretches.Ending.{passes_none, passes_some, started, begins_none, begins_some}
 use Rattle.run_judge.proofs.stretches.Following.{waits_follow, jumps_follow, step_some, step_made}
 use Rattle.run_judge.proofs.passing.Agreeing.{Agrees, start_agrees}
 use Rattle.run_judge.proofs.passing.Telling.{reset_of, wait_tells, jump_tells, wait_made, jump_made, waits_agree, jumps_agree}
@@ -135,16 +135,12 @@ module _ (b : List ℕ) (free : refusal_of b ≡ 0) where
   abbrev zeros : State
   zeros = record { location = start b; clocks = replicate 8 0 }
 
-  started : {t : Bool} → meets_invariant b (start b) (replicate 8 0) ≡ t → first_move b ≡ cond t (Some zeros) None
-  unfolding first_move arrived
-  started e = rw e refl
-
   begins_yes : (zs : List ℤ) → begins b zs ≡ true → (meets_invariant b (start b) (replicate 8 0) ≡ true) × (waits_from b zs zeros ≡ true)
   begins_yes zs e = go (meets_invariant b (start b) (replicate 8 0)) refl
     where
       go : (t : Bool) → meets_invariant b (start b) (replicate 8 0) ≡ t → (t ≡ true) × (waits_from b zs zeros ≡ true)
-      go true f = (refl, sym (begins_some b zs (started f)) ∙ e)
-      go false f = true_false (sym e ∙ begins_none b zs (started f))
+      go true f = (refl, sym (begins_some b zs (started b f)) ∙ e)
+      go false f = true_false (sym e ∙ begins_none b zs (started b f))
 
   -- a buffer that begins with its count k + 1
   passes_yes : (k : ℕ) (xs : List ℤ) → k ≤ length xs → passes_to b (pos (suc k) ∷ xs) (suc k) ≡ true → Passes b (pos (suc k) ∷ xs)
@@ -191,7 +187,7 @@ module _ (b : List ℕ) (free : refusal_of b ≡ 0) where
       let w = untold b a zeros (replicate (clocks b) 0) t start_same a.start< u.1 e in
       let i = means_invariant b a (replicate 8 0) (replicate (clocks b) 0) start_same (start b) u.0 in
       rw (eqb-suc-zero (length xs)) (rw (take_at (numbers xs) rest (length xs) (numbers-length xs))
-      (begins_some b (numbers xs) (started i) ∙ w))
+      (begins_some b (numbers xs) (started b i) ∙ w))
 
 -- ---- the judgement, by the refusal
 module _ (b : List ℕ) (r : List ℤ) where
@@ -205,12 +201,10 @@ module _ (b : List ℕ) (r : List ℤ) where
   free_says f e g = rw (eq-eqb (refusal_of b) 0 f) (rw g (rw e refl))
 
   pub none_says : refusal_of b ≡ 0 → announced r ≡ 0 → Ok false ≡ judgement_of b r
-  unfolding passes_to
-  none_says f e = free_says f refl (rw (eq-eqb (announced r) 0 e) refl)
+  none_says f e = free_says f refl (passes_none b r (announced r) e)
 
   pub some_says : refusal_of b ≡ 0 → {zs : List ℤ} {t : Bool} → Announced r zs → t ≡ begins b zs → Ok t ≡ judgement_of b r
-  unfolding passes_to
-  some_says f e g = free_says f refl (rw (ne_eqb (announced r) 0 (λ z. absurd (omega (arith, e.some)))) (g ∙ ap (begins b) e.numbers))
+  some_says f e g = free_says f refl (g ∙ ap (begins b) e.numbers ∙ passes_some b r (announced r) (λ z. absurd (omega (arith, e.some))))
 
   judged_passes : judgement_of b r ≡ Ok true → Passes b r
   unfolding judgement_of

@@ -5,6 +5,7 @@ use mathlib.Core.Path.{◌≡◌, refl, sym, ◌∙◌}
 use mathlib.Core.Bool.{Bool, false}
 use mathlib.Core.List.{List, [], ◌∷◌}
 use native.Mathlib.Omega.{arith}
+use denote.Ref.{Bor}
 use lib.Dec.{eqb}
 use lib.IntN.{ℤ}
 use lib.ListN.{length}
@@ -12,9 +13,10 @@ use mir.Syntax.{w64}
 use mir.Val.{SFits, to_z, of_z}
 use mir.Facts.{to_z-of_z}
 use Rattle.std.specs.List.{IsFirstAndRest}
-use Rattle.std.specs.Prelude.{Option, Some, None}
+use Rattle.std.specs.Prelude.{Option, Some, None, MatchOption}
 use Rattle.automata.specs.Automata.{target}
 use Rattle.run_judge.specs.declared.state.State.{State}
+use Rattle.run_judge.specs.declared.steps.Ready.{Ready}
 use Rattle.run_judge.specs.declared.stretches.Left.{Left}
 use Rattle.run_judge.specs.Judging.{waits_from, jumps_from}
 use Rattle.run_judge.specs.Numbers.{capped}
@@ -74,17 +76,24 @@ module _ {move : List ℕ → State → ℕ → Option State} {from next : List 
     step_back e = (record { automaton = k.0; same = e ∙ sym follows }, omega (arith, f.1))
 
 -- ---- of a wait, and of a jump
-module _ (l m : Left) {z : ℤ} (f : IsFirstAndRest l.numbers.now z m.numbers.now) (h : SFits w64 z) where
-  module _ (k : Leads (b waits_follow l h) (moved waits_follow l h) (Some m.ready)) where
-    pub wait_on : (r : Left) (o : Option Bool) → Handed m (jumps m) r o → Handed l (waits l) r o
-    wait_on = step_on waits_follow l h m f k
+module _ (l : Left) {z : ℤ} (h : SFits w64 z) where
+  pub wait_no : {zs : List ℤ} → IsFirstAndRest l.numbers.now z zs → moved waits_follow l h ≡ None → false ≡ waits l
+  wait_no = step_over waits_follow l h
 
-  module _ (k : Leads (b jumps_follow l h) (moved jumps_follow l h) (Some m.ready)) where
-    pub jump_on : (r : Left) (o : Option Bool) → Handed m (waits m) r o → Handed l (jumps l) r o
-    jump_on = step_on jumps_follow l h m f k
+  pub wait_on : (m : Left) → IsFirstAndRest l.numbers.now z m.numbers.now → Leads (b waits_follow l h) (moved waits_follow l h) (Some m.ready) →
+      (r : Left) (o : Option Bool) → Handed m (jumps m) r o → Handed l (waits l) r o
+  wait_on = step_on waits_follow l h
 
-    pub jump_back : Handed l (jumps l) m None
-    jump_back = step_back jumps_follow l h m f k refl
+  pub jump_on : (m : Left) → IsFirstAndRest l.numbers.now z m.numbers.now → Leads (b jumps_follow l h) (moved jumps_follow l h) (Some m.ready) →
+      (r : Left) (o : Option Bool) → Handed m (waits m) r o → Handed l (jumps l) r o
+  jump_on = step_on jumps_follow l h
 
--- ---- the ways out of both
-pub ruleset ways = (waits_follow, jumps_follow, wait_over, jump_over, step_over, step_on, step_back)
+  -- the jump is not made, or the stretch is at its end
+  pub jump_back : (o : Option Ready) (zs : Bor (List ℤ)) → IsFirstAndRest l.numbers.now z zs.now →
+      Leads (b jumps_follow l h) (moved jumps_follow l h) o →
+      MatchOption o (Handed l (jumps l) l (Some false)) (λ r. Handed l (jumps l) (record { ready = r; numbers = zs }) None)
+  jump_back None zs f k = step_over jumps_follow l h f k
+  jump_back (Some r) zs f k = step_back jumps_follow l h (record { ready = r; numbers = zs }) f k refl
+
+-- ---- the ways out of both at the end of the numbers
+pub ruleset ways = (wait_over, jump_over)
