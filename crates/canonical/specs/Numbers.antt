@@ -24,6 +24,10 @@ abbrev pub Found : ℕ → List ℕ → List ℕ → ℕ → Option ℕ → Type
 Found size s ns x (Some r) = Positioned size s ns (length ns) x r true
 Found size s ns x None = (r : ℕ) × Positioned size s ns (length ns) x r false
 
+-- the last that is listed is not less than edge x
+abbrev pub LastNotLess : ℕ → List ℕ → List ℕ → ℕ → Type 0
+LastNotLess size s ns x = bytes_less (nth_edge size s (get_or ns (length ns - 1) 0)) (nth_edge size s x) ≡ false
+
 -- edge x was put in its place, if its bytes were not there
 pub record Inserted (size : ℕ) (s : List ℕ) (old : List ℕ) (x : ℕ) (ns : List ℕ) : Type 0 where
   pub more : length ns ≤ length old + 1

@@ -3,7 +3,7 @@ ghost use Rattle.std.specs.Prelude.{◌≡◌, ◌<◌, Bool, length, All, [], t
 ghost use Rattle.std.proofs.Props.{props};
 ghost use Rattle.order.specs.Edges.{rising};
 ghost use Rattle.order.specs.Laid.{numbered};
-ghost use Rattle.canonical.specs.Numbers.{Found, Inserted, Lists, Takes};
+ghost use Rattle.canonical.specs.Numbers.{Found, Inserted, LastNotLess, Lists, Takes};
 
 use crate::comparing::less;
 use crate::edges::Edges;
@@ -32,23 +32,33 @@ impl<'a> Order<'a> {
         }
     }
 
-    // Where edge x belongs, behind the last that is less; none if its bytes are there. Edges in order are behind all, which is tested first; others
-    // are placed by halving. Inlined into both orders of taking it takes half as long again where edges differ early (measured).
-    #[inline(never)]
+    // Where edge x belongs, behind the last that is less; none if its bytes are there. Edges in order are behind all, which is tested first.
     fn place(&self, x: usize) -> Option<usize>
         requires { x < self.now.edges.count }
         ensures { Found self.now.edges.size self.now.edges.bytes.now self.now.numbers.items x result }
     {
-        let edge = self.edges.nth(x);
         let numbers = self.numbers.as_slice();
         let count = numbers.len();
         if count == 0 {
             return Some(0);
         }
-        let last = count - 1;
-        if less(self.edges.nth(usize::from(numbers[last])), edge) {
+        let last = self.edges.nth(usize::from(numbers[count - 1]));
+        if less(last, self.edges.nth(x)) {
             return Some(count);
         }
+        self.halve(x)
+    }
+
+    // The same by halving, where edge x is not behind the last. Inlined, edges in order would take a sixth more instructions (measured).
+    #[inline(never)]
+    fn halve(&self, x: usize) -> Option<usize>
+        requires inside { (x < self.now.edges.count) × (0 < length self.now.numbers.items) }
+        requires not_behind { LastNotLess self.now.edges.size self.now.edges.bytes.now self.now.numbers.items x }
+        ensures { Found self.now.edges.size self.now.edges.bytes.now self.now.numbers.items x result }
+    {
+        let edge = self.edges.nth(x);
+        let numbers = self.numbers.as_slice();
+        let last = numbers.len() - 1;
         let mut lo = 0;
         let mut hi = last;
         // `partition_point` asks for a test of any byte, where only listed numbers are of edges: it would hold each against their count first.
@@ -66,7 +76,8 @@ impl<'a> Order<'a> {
         Some(lo)
     }
 
-    // Edge x is listed, unless its bytes are there.
+    // Edge x is listed, unless its bytes are there. Inlined into both orders of taking, with the test in `place`: edges in order take a tenth less.
+    #[inline]
     #[tactic(auto, using(crate::proofs::ordering::Inserting::insert_put))]
     fn insert(&mut self, x: usize)
         requires { (x < self.old.edges.count) × (length self.old.numbers.items < 256) }

@@ -1,4 +1,4 @@
--- `place` meets its contract: the place is between lo and hi.
+-- `halve` meets its contract: the place is between lo and hi.
 use Prim.Native.Nat.{ℕ}
 use mathlib.Core.List.{List}
 use mathlib.Core.Path.{◌≡◌, ap, ◌∙◌}
@@ -7,8 +7,8 @@ use native.Mathlib.Omega.{arith}
 use Rattle.encoding.specs.Bytes.{same_bytes}
 use Rattle.order.specs.Laid.{nth_edge}
 use Rattle.canonical.proofs.ordering.Placing.{place_new, place_none}
-use Rattle.canonical.proofs.ordering.Order.place.Goals as goal
-use Rattle.canonical.proofs.ordering.Order.place.Goals.{After-same}
+use Rattle.canonical.proofs.ordering.Order.halve.Goals as goal
+use Rattle.canonical.proofs.ordering.Order.halve.Goals.{After-same}
 
 compared : (c : After-same) → let e = c.args.self.now.edges in
     let listed = get_or c.args.self.now.numbers.items c.loop-lo.lo 0 in

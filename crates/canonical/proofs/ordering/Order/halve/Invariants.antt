@@ -1,8 +1,8 @@
--- The loop of `place`: what it keeps, and what falls.
+-- The loop of `halve`: what it keeps, and what falls.
 use Prim.Native.Nat.{◌-◌}
 use lib.ListN.{length}
 use Rattle.canonical.proofs.ordering.Placing.{Between}
-use Rattle.canonical.proofs.ordering.Order.place.Given as goal
+use Rattle.canonical.proofs.ordering.Order.halve.Given as goal
 
 abbrev pub invariant-loop-lo : goal.invariant-loop-lo
 invariant-loop-lo l = Between l.self.edges.size l.self.edges.bytes.now l.self.numbers.items (length l.self.numbers.items) l.x l.lo l.hi
