@@ -67,8 +67,6 @@ fn same_word(a: &[u8], b: &[u8], at: usize) -> bool
 // Document 02, Change 3: whether two strings of one length are the same, four bytes as one number, then the odd bytes, fewer than four. It goes from
 // both ends, since automata share long beginnings or long ends; the last two words may overlap.
 // That the lengths are equal is asked: a type of two such strings would be made by the one test in `same` for this one call.
-// Out of line, so that what `same` is inlined into stays small: else a look-up in an empty cache takes a tenth more (measured).
-#[inline(never)]
 #[tactic(auto, using(crate::proofs::Words::words_differ))]
 fn same_by_words(a: &[u8], b: &[u8]) -> bool
     requires { length a.now ≡ length b.now }
