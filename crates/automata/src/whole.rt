@@ -40,11 +40,13 @@ impl<'a> Whole<'a> {
         edge_in(self.head.clocks, self.head.locations, i)
     }
 
+    // This test and the next three go from the last edge or location on, as `some` does in the definition.
     pub(crate) fn no_such_location(self) -> bool
         ensures { result ≡ no_such_location self.entry.bytes.now }
     {
         misplaced(self.head.locations, self.head.start, self.head.target)
-            || (0..self.head.edges).any(|i| {
+            || (0..self.head.edges).any(|k| {
+                let i = self.head.edges - 1 - k;
                 let edge = Edge::read(self.bytes, self.edge_at(i));
                 misplaced(self.head.locations, edge.from, edge.to)
             })
@@ -54,7 +56,10 @@ impl<'a> Whole<'a> {
         ensures { result ≡ no_such_clock self.entry.bytes.now }
     {
         let bound = reset_bound(self.head.clocks);
-        (0..self.head.edges).any(|i| bound <= u32::from(self.bytes[self.edge_at(i) + 2]))
+        (0..self.head.edges).any(|k| {
+            let i = self.head.edges - 1 - k;
+            bound <= u32::from(self.bytes[self.edge_at(i) + 2])
+        })
     }
 
     // Whether one clock's limits at `at` are out of range, by a test of an invariant's or a guard's.
@@ -70,7 +75,8 @@ impl<'a> Whole<'a> {
     fn invariant_out_of_range(self) -> bool
         ensures { result ≡ invariant_out_of_range self.entry.bytes.now }
     {
-        (0..self.head.locations).any(|l| {
+        (0..self.head.locations).any(|k| {
+            let l = self.head.locations - 1 - k;
             self.out_of_range_at(self.invariant_at(l), Limits::invariant_out_of_range)
         })
     }
@@ -78,7 +84,8 @@ impl<'a> Whole<'a> {
     fn guard_out_of_range(self) -> bool
         ensures { result ≡ guard_out_of_range self.entry.bytes.now }
     {
-        (0..self.head.edges).any(|i| {
+        (0..self.head.edges).any(|k| {
+            let i = self.head.edges - 1 - k;
             self.out_of_range_at(self.edge_at(i) + 3, Limits::guard_out_of_range)
         })
     }

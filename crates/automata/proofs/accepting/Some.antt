@@ -1,6 +1,6 @@
 -- Whether a number below k passes a test, as std's `any` finds it.
 -- Assumes nothing.
-use Prim.Native.Nat.{ℕ, zero, suc, ◌<◌}
+use Prim.Native.Nat.{ℕ, zero, suc, ◌<◌, ◌-◌}
 use denote.Param.Members.{Mut}
 use lib.ListN.{length}
 use mathlib.Core.Path.{◌≡◌, refl, sym, ap, ◌∙◌}
@@ -43,6 +43,22 @@ none f (suc k) h = rw (h k (omega arith)) (none f k (λ i g. h i (omega arith)))
 pub found : (f : ℕ → Bool) {k : ℕ} (i : ℕ) → i < k → f i ≡ true → some k f ≡ true
 found f {k} i h e = let g = fails f k in search (rules, tests)
 
+-- whichever way they are gone through: i of those below k is the (k − 1 − i)th from the last on
+abbrev turn : (ℕ → Bool) → ℕ → ℕ → Bool
+turn f k i = f (k - 1 - i)
+
+turned : (f : ℕ → Bool) (k : ℕ) → some k (turn f k) ≡ some k f
+turned f k = go (some k f) (some k (turn f k)) refl refl
+  where
+    back : (i : ℕ) → i < k → k - 1 - (k - 1 - i) ≡ i
+    back i l = omega arith
+
+    go : (a b : Bool) → some k f ≡ a → some k (turn f k) ≡ b → some k (turn f k) ≡ some k f
+    go false b e h = none (turn f k) k (λ i l. fails f k e (k - 1 - i) (omega arith)) ∙ sym e
+    go true true e h = h ∙ sym e
+    go true false e h =
+        absurd (true_false (sym e ∙ none f k (λ i l. sym (ap f (back i l)) ∙ fails (turn f k) k h (k - 1 - i) (omega arith))))
+
 -- ---- what std's `any` over the numbers below n answers
 answers : (f : ℕ → Bool) (k : ℕ) {r : Bool}
     → MatchBool r ((i : ℕ) × (i < length (range_with_len 0 k)) × HoldsAt (λ x. true ≡ f x) (range_with_len 0 k) i)
@@ -62,3 +78,11 @@ some_from_any {f} {n = n} ran e calls =
     rw (sym e)
     (answers f n (cases_from_any _ _ _ (λ x. true ≡ f x) (λ x. false ≡ f x) ran (YieldsList-from_range 0 n n refl (omega arith))
     (λ x q c. (calls x true q c).1) (λ x q. calls x false q)))
+
+-- and where it goes from the last on
+pub some_from_last : (f : ℕ → Bool) {F : Type 0} {g : Mut F (ℕ × Unit {0}) Bool} {j : F} {u : Range ℕ} {n k : ℕ} {r : Bool}
+    → (xs : List ℕ) × (o : Option ℕ) × (q : F) × YieldsThen nat_range_steps (record { start = 0; end = n }) xs o u
+    × FoldsTo (λ p x q. Called g p (x, tt) false q) j xs q
+    × MatchOption o (r ≡ false) (λ x. (r ≡ true) × ((h : F) × Called g q (x, tt) true h))
+    → n ≡ k → ((x : ℕ) (b : Bool) (q : F) → Called g j (x, tt) b q → (q ≡ j) × (b ≡ f (k - 1 - x))) → r ≡ some k f
+some_from_last f {k = k} ran e calls = some_from_any ran e calls ∙ turned f k
