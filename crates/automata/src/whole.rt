@@ -40,7 +40,7 @@ impl<'a> Whole<'a> {
         edge_in(self.head.clocks, self.head.locations, i)
     }
 
-    // This test and the next three go from the last edge or location on, as `some` does in the definition.
+    // The tests of edges and of locations go from the last on, as `some` does in the definition; that of clocks goes from the first.
     pub(crate) fn no_such_location(self) -> bool
         ensures { result ≡ no_such_location self.entry.bytes.now }
     {

@@ -19,7 +19,7 @@ use std::io::{Read, Write};
 const FRONT: usize = 21260;
 
 // The bytes of the input that count: the first 21,260, or all where there are fewer. They are read into a place that is lent: given back by value
-// they took 21 KiB of stack and two copies more.
+// they took 20 KiB of stack, a copy and a clearing more.
 fn read_front<R: Read>(input: &mut R, bytes: &mut ArrayVec<u8, FRONT>) -> io::Result<()>
     requires { bytes.old.items ≡ [] }
     ensures { IfSome (R.remaining input.old) (λ all. IfOk result (λ _. bytes.new.items ≡ take 21260 all)) }
