@@ -6,4 +6,4 @@ use Rattle.robustness.specs.Examples.{AllRight, examples}
 
 pub all_right : AllRight examples
 unfolding digits_of decimal holding_text verdict_text findings_text line_of
-all_right = (refl, (refl, (refl, (refl, (refl, tt)))))
+all_right = (refl, (refl, (refl, (refl, (refl, (refl, tt))))))

@@ -1,11 +1,12 @@
--- The documents' lines, and one with longer numbers.
+-- The documents' lines, a refusal by its number and by its name in the table, and a line with longer numbers.
 use Rattle.std.specs.Prelude.{ℕ, List, [], ◌∷◌, ◌≡◌, Result, Ok, Err}
+use Rattle.automata.specs.declared.refusals.Refusal.TheVariants.{StoreFull}
 use Rattle.search.specs.declared.verdict.Findings.{Findings}
 use Rattle.search.specs.declared.verdict.Holding.TheVariants.{AnyError, Below}
 use Rattle.search.specs.declared.verdict.Verdict.{Verdict}
 use Rattle.search.specs.declared.verdict.Verdict.TheVariants.{Reached, Holds}
 use Rattle.zones.specs.Fractions.{no_limit}
-use Rattle.robustness.specs.Lines.{line_of}
+use Rattle.robustness.specs.Lines.{numbered, line_of}
 
 pub record Example : Type 0 where
   pub findings : Result Findings ℕ
@@ -43,6 +44,11 @@ examples =
     -- `refused 10`
     ∷ record {
       findings = Err 10;
+      line = 114 ∷ 101 ∷ 102 ∷ 117 ∷ 115 ∷ 101 ∷ 100 ∷ 32 ∷ 49 ∷ 48 ∷ 10 ∷ [];
+    }
+    -- the same, by its name in the table
+    ∷ record {
+      findings = numbered (Err StoreFull);
       line = 114 ∷ 101 ∷ 102 ∷ 117 ∷ 115 ∷ 101 ∷ 100 ∷ 32 ∷ 49 ∷ 48 ∷ 10 ∷ [];
     }
     -- longer numbers

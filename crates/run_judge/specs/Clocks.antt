@@ -41,9 +41,12 @@ pub record CanStep (b : List ℕ) (l : ℕ) (c : List ℕ) : Type 0 where
   pub location : l < locations b
   pub clocks : LowClocks c
 
--- the same of clocks that are lent for a wait, and of those of a state behind the first n
+-- the same of the first n clocks alone, of clocks that are lent for a wait, and of those of a state behind the first n
+abbrev pub LowFirst : ℕ → List ℕ → Type 0
+LowFirst n c = (x : ℕ) → x < n → get_or c x 0 ≤ scale
+
 abbrev pub LowLent : List ℕ → Type 0
-LowLent c = (x : ℕ) → x < length c → get_or c x 0 ≤ scale
+LowLent c = LowFirst (length c) c
 
 abbrev pub LowBehind : ℕ → List ℕ → Type 0
 LowBehind n c = (x : ℕ) → n ≤ x → x < 8 → get_or c x 0 ≤ scale

@@ -22,7 +22,7 @@ impl<'a> Ready<'a> {
     ghost use Rattle.run_judge.specs.Steps.{Leads};
 
     // The state, if the invariant of its location holds.
-    #[tactic(auto, unfolding(crate::specs::Moves::arrived), using(crate::proofs::steps::Moving::constrained, crate::proofs::steps::Readying::ready))]
+    #[tactic(auto, unfolding(crate::specs::Moves::arrived), using(crate::proofs::steps::Moving::constrained, crate::proofs::steps::Readying::able))]
     fn at(automaton: &'a Automaton<'a>, state: State) -> Option<Ready<'a>>
         requires { (state.location < locations automaton.now.bytes.now) × LowBehind (clocks automaton.now.bytes.now) state.clocks }
         ensures { Leads automaton.now.bytes.now (arrived automaton.now.bytes.now state) result }
